@@ -1,0 +1,4 @@
+pub mod Cover
+pub mod Run
+pub mod Possible
+pub mod Flat

@@ -1,0 +1,12 @@
+//! Covers, gates, latches and flat nets, and what they mean: the bit of a cover, two-valued runs, and the sets of
+//! bits that the nets may have at one time.
+#![tactic(auto)]
+
+pub mod cover;
+pub mod law;
+pub mod net;
+pub mod raw;
+
+pub use cover::{Cover, Lit, Row, eval};
+pub use net::{Net, order};
+pub use raw::{Gate, Init, Latch, RawNet};
