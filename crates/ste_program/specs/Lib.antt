@@ -1,0 +1,4 @@
+pub mod Words
+pub mod Netlist
+pub mod Flat
+pub mod Task

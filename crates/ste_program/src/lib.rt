@@ -1,0 +1,5 @@
+//! All that the program does, over files and sinks that are handed in.
+#![tactic(auto)]
+
+pub mod netlist;
+pub mod task;
