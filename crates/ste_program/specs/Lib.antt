@@ -1,3 +1,5 @@
+pub mod Causes
+pub mod Outside
 pub mod Words
 pub mod Netlist
 pub mod Flat

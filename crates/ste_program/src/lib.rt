@@ -1,5 +1,6 @@
 //! All that the program does, over files and sinks that are handed in.
 #![tactic(auto)]
 
+pub mod io;
 pub mod netlist;
 pub mod task;
