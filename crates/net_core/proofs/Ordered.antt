@@ -1,6 +1,6 @@
 -- Nets whose gates stand in a settled order.
-use Rattle.std.proofs.Common.{◌≡◌, ◌≢◌, ℕ, ◌+◌, ◌<◌, ◌≤◌, zero, suc, Bool, true, List, [], ◌∷◌, map, length, get_or, arith, sym, ap, refl, subst, ◌∙◌, eq-eqb, eqb, inl, inr}
-use Rattle.std.specs.Prelude.{All, AllPairs, ◌==◌, IsTrue, ◌⊎◌}
+use Rattle.std.proofs.Common.{◌≡◌, ◌≢◌, ℕ, ◌<◌, ◌≤◌, zero, suc, true, List, [], map, length, get_or, arith, sym, ap, subst, ◌∙◌, eq-eqb, eqb, inl, inr}
+use Rattle.std.specs.Prelude.{AllPairs, ◌==◌, IsTrue}
 use Rattle.std.specs.List.{list_any}
 use Rattle.std.proofs.lemmas.Bool.{cases_lt, eqb-true}
 use Rattle.std.proofs.lemmas.List.{get_or_default, length-map, get_or-map}
@@ -13,7 +13,7 @@ use Rattle.net_core.specs.declared.raw.RawNet.{RawNet}
 use Rattle.net_core.specs.Run.{IsSettledAt, IsSettled}
 use Rattle.net_core.specs.Flat.{IsInRange, HasOneDriver, IsListedInOrder, IsSettledOrder}
 
-place_of : (order : List ℕ) (gate : ℕ) → IsTrue (list_any (λ other. other == gate) order) → (k : ℕ) × (k < length order) × (get_or order k 0 ≡ gate)
+pub place_of : (order : List ℕ) (gate : ℕ) → IsTrue (list_any (λ other. other == gate) order) → (k : ℕ) × (k < length order) × (get_or order k 0 ≡ gate)
 place_of order gate h =
     let any = Any-from_list_any (λ other. other == gate) order h in
     let here : get_or order any.0 0 ≡ any.1 = get_or_default order any.0 0 any.1 any.2 ∙ any.3 in
@@ -53,17 +53,17 @@ few_gates net range one =
     let outputs = map (λ (gate : Gate). gate.output.0) net.gates in
     let long : length outputs ≡ length net.gates = length-map net.gates (λ (gate : Gate). gate.output.0) in
     let apart : AllPairs (λ (x y : ℕ). x ≢ y) outputs = λ i j d l m.
-        let g : Gate = record { inputs = []; output = record { 0 = d }; cover = 0 } in
-        let one_at = get_or-map (λ (gate : Gate). gate.output.0) net.gates i g d (omega (arith, long)) in
-        let other_at = get_or-map (λ (gate : Gate). gate.output.0) net.gates j g d (omega (arith, long)) in
-        rw (one_at, other_at) (one.gates i j g l (omega (arith, long))) in
+    let g : Gate = record { inputs = []; output = record { 0 = d }; cover = 0 } in
+    let one_at = get_or-map (λ (gate : Gate). gate.output.0) net.gates i g d (omega (arith, long)) in
+    let other_at = get_or-map (λ (gate : Gate). gate.output.0) net.gates j g d (omega (arith, long)) in
+    rw (one_at, other_at) (one.gates i j g l (omega (arith, long))) in
     let below : (q : ℕ) → list_any (eqb q) outputs ≡ true → q < net.nets = λ q h.
-        let any = Any-from_list_any (eqb q) outputs h in
-        let g : Gate = record { inputs = []; output = record { 0 = any.1 }; cover = 0 } in
-        let at = get_or-map (λ (gate : Gate). gate.output.0) net.gates any.0 g any.1 (omega (arith, long, any.2)) in
-        let low = range.gate_outputs any.0 g (omega (arith, long, any.2)) in
-        let here = any.3 in
-        let same = eqb-true q any.1 any.4 in
-        omega (arith, at, low, here, same) in
+    let any = Any-from_list_any (eqb q) outputs h in
+    let g : Gate = record { inputs = []; output = record { 0 = any.1 }; cover = 0 } in
+    let at = get_or-map (λ (gate : Gate). gate.output.0) net.gates any.0 g any.1 (omega (arith, long, any.2)) in
+    let low = range.gate_outputs any.0 g (omega (arith, long, any.2)) in
+    let here = any.3 in
+    let same = eqb-true q any.1 any.4 in
+    omega (arith, at, low, here, same) in
     let few = length-le_from_distinct_below outputs net.nets (IsDistinct-from_AllPairs Decides-eqb outputs apart) below in
     omega (arith, few, long)

@@ -2,11 +2,13 @@
 //! bits that the nets may have at one time.
 #![tactic(auto)]
 
+pub mod bit_set;
 pub mod cover;
 pub mod law;
 pub mod net;
 pub mod raw;
 
+pub use bit_set::BitSet;
 pub use cover::{Cover, Lit, Row, eval};
 pub use net::{Net, order};
 pub use raw::{Gate, Init, Latch, RawNet};

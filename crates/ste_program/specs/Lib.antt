@@ -4,3 +4,5 @@ pub mod Words
 pub mod Netlist
 pub mod Flat
 pub mod Task
+pub mod Choices
+pub mod Sets
