@@ -1,6 +1,6 @@
 -- What is asked of nets leaves them these bits.
-use Rattle.std.proofs.Common.{◌≡◌, ◌≢◌, ℕ, ◌<◌, ◌+◌, Bool, true, false, not, List, [], ◌∷◌, ◌++◌, map, length, get_or, set, take, arith, sym, ap, refl, subst, ◌∙◌, inl, inr}
-use Rattle.std.specs.Prelude.{All, IsTrue, ◌↔◌, ◌⊎◌, replicate}
+use Rattle.std.proofs.Common.{◌≡◌, ℕ, ◌<◌, Bool, true, false, List, [], ◌∷◌, ◌++◌, length, get_or, set, arith, sym, ap, refl, subst, ◌∙◌, inl, inr}
+use Rattle.std.specs.Prelude.{All, IsTrue, ◌↔◌}
 use Rattle.std.proofs.lemmas.List.{get_or_default, get_or-set_same, get_or-set_other, length-set}
 use Rattle.std.proofs.lemmas.List.Elements.{All-push, All-contains, Contains-append_left, Contains-get_or, Contains-push}
 use Rattle.std.proofs.lemmas.Bool.{cases_eq}
@@ -15,7 +15,7 @@ all_init P xs y all = λ k d l. All-contains P (xs ++ y ∷ []) (get_or xs k d) 
 pub all_last : {X : Type 0} (P : X → Type 0) (xs : List X) (y : X) → All P (xs ++ y ∷ []) → P y
 all_last P xs y all = All-contains P (xs ++ y ∷ []) y all (Contains-push xs y)
 
-in_both : (bit : Bool) → IsIn bit both
+pub in_both : (bit : Bool) → IsIn bit both
 in_both false = refl
 in_both true = refl
 

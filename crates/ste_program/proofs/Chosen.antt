@@ -1,7 +1,7 @@
 -- A gate's set, over all lists of as many bits as the gate has inputs.
-use Rattle.std.proofs.Common.{◌≡◌, ℕ, ◌<◌, zero, suc, Bool, true, false, not, List, [], ◌∷◌, ◌++◌, map, length, get_or, arith, sym, ap, refl, subst, ◌∙◌, inl, inr}
-use Rattle.std.specs.Prelude.{All, IsTrue, ◌↔◌, ◌⊎◌, ◌&&◌, ◌||◌}
-use Rattle.std.specs.List.{AllZip, list_all, list_any, zip}
+use Rattle.std.proofs.Common.{◌≡◌, ℕ, zero, suc, Bool, true, false, not, List, [], ◌∷◌, map, length, arith, sym, ap, refl, ◌∙◌, inl, inr}
+use Rattle.std.specs.Prelude.{IsTrue, ◌↔◌, ◌&&◌, ◌||◌}
+use Rattle.std.specs.List.{AllZip, list_any}
 use Rattle.std.proofs.lemmas.Bool.{and_parts, and_from, or_cases, or_left, or_right, not-true, not_from_false}
 use Rattle.std.proofs.lemmas.List.Folds.{list_any-append}
 use Rattle.net_core.specs.declared.bit_set.BitSet.{BitSet}
@@ -63,21 +63,21 @@ same_length (bit ∷ bits) (set ∷ sets) h = ap suc (same_length bits sets h.1)
 pub gate_gives : (cover : Cover) (sets : List BitSet) (bit : Bool) → IsIn bit (record { zero = may_give_zero cover sets (lists_of (length sets)); one = may_give_one cover sets (lists_of (length sets)) }) ↔ MayGive (cover_bit cover) sets bit
 gate_gives cover sets false = (
   λ h.
-    let found = passed_by (length sets) (λ bits. fits bits sets && not (cover_bit cover bits)) h in
-    let parts = and_parts (fits found.0 sets) (not (cover_bit cover found.0)) found.2 in
-    (found.0, (fits_is found.0 sets found.1).0 parts.0, not-true (cover_bit cover found.0) parts.1),
+      let found = passed_by (length sets) (λ bits. fits bits sets && not (cover_bit cover bits)) h in
+      let parts = and_parts (fits found.0 sets) (not (cover_bit cover found.0)) found.2 in
+      (found.0, (fits_is found.0 sets found.1).0 parts.0, not-true (cover_bit cover found.0) parts.1),
   λ given.
-    let long = same_length given.0 sets given.1 in
-    passes (length sets) (λ bits. fits bits sets && not (cover_bit cover bits)) given.0 long
-    (and_from (fits given.0 sets) (not (cover_bit cover given.0)) ((fits_is given.0 sets long).1 given.1) (not_from_false (cover_bit cover given.0) given.2)),
+      let long = same_length given.0 sets given.1 in
+      passes (length sets) (λ bits. fits bits sets && not (cover_bit cover bits)) given.0 long
+      (and_from (fits given.0 sets) (not (cover_bit cover given.0)) ((fits_is given.0 sets long).1 given.1) (not_from_false (cover_bit cover given.0) given.2)),
 )
 gate_gives cover sets true = (
   λ h.
-    let found = passed_by (length sets) (λ bits. fits bits sets && cover_bit cover bits) h in
-    let parts = and_parts (fits found.0 sets) (cover_bit cover found.0) found.2 in
-    (found.0, (fits_is found.0 sets found.1).0 parts.0, parts.1),
+      let found = passed_by (length sets) (λ bits. fits bits sets && cover_bit cover bits) h in
+      let parts = and_parts (fits found.0 sets) (cover_bit cover found.0) found.2 in
+      (found.0, (fits_is found.0 sets found.1).0 parts.0, parts.1),
   λ given.
-    let long = same_length given.0 sets given.1 in
-    passes (length sets) (λ bits. fits bits sets && cover_bit cover bits) given.0 long
-    (and_from (fits given.0 sets) (cover_bit cover given.0) ((fits_is given.0 sets long).1 given.1) given.2),
+      let long = same_length given.0 sets given.1 in
+      passes (length sets) (λ bits. fits bits sets && cover_bit cover bits) given.0 long
+      (and_from (fits given.0 sets) (cover_bit cover given.0) ((fits_is given.0 sets long).1 given.1) given.2),
 )

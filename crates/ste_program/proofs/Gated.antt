@@ -1,7 +1,7 @@
 -- Gate outputs have their sets, one after another.
-use Rattle.std.proofs.Common.{◌≡◌, ◌≢◌, ℕ, ◌<◌, ◌≤◌, ◌+◌, zero, suc, Bool, List, [], ◌∷◌, map, length, get_or, set, arith, sym, ap, refl, subst, ◌∙◌, inl, inr}
-use Rattle.std.specs.Prelude.{All, AllPairs, ◌↔◌, ◌⊎◌, slice_get, Option, Some}
-use Rattle.std.proofs.lemmas.List.{get_or-set_same, get_or-set_other, get_or_default, length-set}
+use Rattle.std.proofs.Common.{◌≡◌, ◌≢◌, ℕ, ◌<◌, ◌+◌, suc, Bool, List, [], ◌∷◌, map, length, get_or, set, arith, sym, ap, refl, subst, ◌∙◌, inl, inr}
+use Rattle.std.specs.Prelude.{All, AllPairs, ◌↔◌, slice_get, Option, Some}
+use Rattle.std.proofs.lemmas.List.{get_or-set_same, get_or-set_other, get_or_default}
 use Rattle.std.proofs.lemmas.Bool.{cases_eq, cases_lt}
 use Rattle.ste_base.specs.declared.id.NodeId.{NodeId}
 use Rattle.net_core.specs.declared.bit_set.BitSet.{BitSet}
@@ -11,7 +11,7 @@ use Rattle.net_core.specs.declared.raw.RawNet.{RawNet}
 use Rattle.net_core.specs.Cover.{cover_bit}
 use Rattle.net_core.specs.Run.{gate_bit, bit_of}
 use Rattle.net_core.specs.Flat.{IsInRange, HasOneDriver, IsSettledOrder}
-use Rattle.net_core.specs.Possible.{Cut, IsIn, MayGive, MayHave, ArePossible, both}
+use Rattle.net_core.specs.Possible.{Cut, IsIn, MayGive, ArePossible, both}
 use Rattle.net_core.proofs.Possible.{same_set}
 use Rattle.net_core.proofs.Ordered.{place_of}
 use Rattle.ste_program.specs.Sets.{set_at, Allows, AreLatched, AreSets}
@@ -60,15 +60,15 @@ module _ (net : RawNet) (order : List ℕ) (held : List BitSet) (cuts : List Cut
       let known : number < length net.gates = rw at (is_order.gates n 0 l) in
       let inside : gate.output.0 < net.nets = subst (λ (x : Gate). x.output.0 < net.nets) (sym is) (range.gate_outputs number gate known) in
       let ready : All (λ input. set_at sets input.0 ≡ family input.0) gate.inputs = λ i d li.
-          before (get_or gate.inputs i d).0 (subst (λ (x : Gate). All (λ input. input.0 < net.nets) x.inputs) (sym is) (range.gate_inputs number gate known) i d li)
-          (λ k e le lt same.
-            let same_gate : get_or net.gates (get_or order n 0) e ≡ gate = ap (λ (j : ℕ). get_or net.gates j e) (sym at) ∙ get_or_default net.gates number e gate known ∙ sym is in
-            subst (λ (x : Gate). All (λ input. input.0 ≢ (get_or net.gates (get_or order k 0) e).output.0) x.inputs) same_gate (is_order.behind n k e le lt) i d li (sym same)) in
+      before (get_or gate.inputs i d).0 (subst (λ (x : Gate). All (λ input. input.0 < net.nets) x.inputs) (sym is) (range.gate_inputs number gate known) i d li)
+      (λ k e le lt same.
+      let same_gate : get_or net.gates (get_or order n 0) e ≡ gate = ap (λ (j : ℕ). get_or net.gates j e) (sym at) ∙ get_or_default net.gates number e gate known ∙ sym is in
+      subst (λ (x : Gate). All (λ input. input.0 ≢ (get_or net.gates (get_or order k 0) e).output.0) x.inputs) same_gate (is_order.behind n k e le lt) i d li (sym same)) in
       let gathered : inputs ≡ map (λ input. family input.0) gate.inputs = are ∙ inputs_known sets family gate.inputs ready in
       let gives_bits : (bit : Bool) → IsIn bit found ↔ MayGive (gate_bit net gate) (map (λ input. family input.0) gate.inputs) bit = λ bit.
-          subst (λ (o : Option Cover). IsIn bit found ↔ MayGive (bit_of o) (map (λ input. family input.0) gate.inputs) bit) (sym covers) (subst (λ (xs : List BitSet). IsIn bit found ↔ MayGive (cover_bit cover) xs bit) gathered (gives bit)) in
+      subst (λ (o : Option Cover). IsIn bit found ↔ MayGive (bit_of o) (map (λ input. family input.0) gate.inputs) bit) (sym covers) (subst (λ (xs : List BitSet). IsIn bit found ↔ MayGive (cover_bit cover) xs bit) gathered (gives bit)) in
       let meets_at : (bit : Bool) → IsIn bit left ↔ (IsIn bit found × IsIn bit (set_at allowed gate.output.0)) = λ bit.
-          subst (λ (s : BitSet). IsIn bit left ↔ (IsIn bit found × IsIn bit s)) (get_or_default allowed gate.output.0 b both (omega arith)) (meets bit) in
+      subst (λ (s : BitSet). IsIn bit left ↔ (IsIn bit found × IsIn bit s)) (get_or_default allowed gate.output.0 b both (omega arith)) (meets bit) in
       elim (cases_eq id gate.output.0) [
         | inl here ↦
             ap (λ (k : ℕ). get_or (set sets gate.output.0 left) k both) here ∙ get_or-set_same sets gate.output.0 left both (omega arith)

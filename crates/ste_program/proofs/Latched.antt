@@ -1,15 +1,14 @@
 -- Latch outputs have their sets, one after another.
-use Rattle.std.proofs.Common.{◌≡◌, ◌≢◌, ℕ, ◌<◌, ◌≤◌, ◌+◌, zero, suc, Bool, List, [], ◌∷◌, length, get_or, set, arith, sym, ap, refl, subst, ◌∙◌, inl, inr}
-use Rattle.std.specs.Prelude.{All, IsTrue, ◌↔◌, ◌⊎◌}
+use Rattle.std.proofs.Common.{◌≡◌, ◌≢◌, ℕ, ◌<◌, ◌+◌, zero, suc, Bool, List, [], ◌∷◌, length, get_or, set, arith, sym, ap, subst, ◌∙◌, inl, inr}
+use Rattle.std.specs.Prelude.{◌↔◌}
 use Rattle.std.specs.List.{AllZip}
-use Rattle.std.proofs.lemmas.List.{get_or-set_same, get_or-set_other, get_or_default, length-set}
+use Rattle.std.proofs.lemmas.List.{get_or-set_same, get_or-set_other, get_or_default}
 use Rattle.std.proofs.lemmas.Bool.{cases_eq, cases_lt}
 use Rattle.net_core.specs.declared.bit_set.BitSet.{BitSet}
 use Rattle.net_core.specs.declared.raw.Latch.{Latch}
-use Rattle.net_core.specs.declared.raw.Gate.{Gate}
 use Rattle.net_core.specs.declared.raw.RawNet.{RawNet}
-use Rattle.net_core.specs.Flat.{IsInRange, HasOneDriver}
-use Rattle.net_core.specs.Possible.{Cut, IsIn, MayHave, ArePossible, both}
+use Rattle.net_core.specs.Flat.{HasOneDriver}
+use Rattle.net_core.specs.Possible.{Cut, IsIn, ArePossible, both}
 use Rattle.net_core.proofs.Possible.{same_set}
 use Rattle.ste_program.specs.Sets.{set_at, Allows, NoGate, AreLatched}
 

@@ -1,5 +1,5 @@
 -- The flat net of a netlist of one model. Signals are numbered by first mention.
-use Rattle.std.specs.Prelude.{ℕ, ◌+◌, ◌++◌, ◌∷◌, [], Bool, true, List, length, map, fold, if◌then◌else◌}
+use Rattle.std.specs.Prelude.{ℕ, ◌+◌, ◌++◌, ◌∷◌, [], true, List, length, map, fold, if◌then◌else◌}
 use Rattle.std.specs.List.{flat_map, position_or_len}
 use Rattle.std.specs.Str.{bytes_eq}
 use Rattle.ste_base.specs.declared.id.NodeId.{NodeId}

@@ -6,3 +6,4 @@ pub mod Flat
 pub mod Task
 pub mod Choices
 pub mod Sets
+pub mod Outcome

@@ -4,7 +4,6 @@ use Rattle.std.specs.Prelude.{◌≡◌, ℕ, ◌==◌, ◌&&◌, ◌||◌, ◌+
 use Rattle.std.specs.List.{list_all, position_or_len, AllZip}
 use Rattle.std.specs.Str.{bytes_eq}
 use Rattle.ste_base.specs.Number.{number_of}
-use Rattle.bool_expr.specs.declared.expr.Expr.{Expr}
 use Rattle.bool_expr.specs.Value.{value_of}
 use Rattle.ste_model.specs.declared.task.Quint.{Quint}
 use Rattle.ste_model.specs.declared.task.Assertion.{Assertion}

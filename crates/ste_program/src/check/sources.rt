@@ -11,7 +11,7 @@ use ste_base::Time;
 use ste_model::Quint;
 
 /// Whether the quintuple applies at a time.
-fn applies(quint: &Quint, bits: &[bool], t: Time) -> bool
+pub fn applies(quint: &Quint, bits: &[bool], t: Time) -> bool
     ensures { result ≡ (quint_at bits.now t quint.now).on }
 {
     value(&quint.guard, bits) && quint.from <= t && t < quint.to

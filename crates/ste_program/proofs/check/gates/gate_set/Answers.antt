@@ -1,4 +1,3 @@
-use Rattle.std.proofs.Common.{◌≡◌}
 use Rattle.ste_program.proofs.Chosen.{gate_gives}
 use Rattle.ste_program.proofs.check.gates.gate_set.Goals as goal
 

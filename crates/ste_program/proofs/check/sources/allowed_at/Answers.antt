@@ -1,4 +1,4 @@
-use Rattle.std.proofs.Common.{◌≡◌, ◌+◌, ◌++◌, ◌∷◌, [], ◌∙◌, List, map, arith, ap, subst, sym, take}
+use Rattle.std.proofs.Common.{◌≡◌, ◌+◌, ◌++◌, ◌∷◌, [], ◌∙◌, List, arith, ap, subst, sym, take}
 use Rattle.std.proofs.lemmas.List.{map_more, take_all}
 use Rattle.net_core.specs.Possible.{Cut}
 use Rattle.ste_model.specs.declared.task.Quint.{Quint}

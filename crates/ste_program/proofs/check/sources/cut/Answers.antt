@@ -1,4 +1,4 @@
-use Rattle.std.proofs.Common.{◌≡◌, ◌∙◌, ap, sym}
+use Rattle.std.proofs.Common.{◌∙◌, ap, sym}
 use Rattle.net_core.specs.Possible.{only}
 use Rattle.ste_model.specs.Asked.{quint_at}
 use Rattle.ste_program.proofs.Allowed.{allows_cut, allows_skipped}

@@ -1,9 +1,8 @@
-use Rattle.std.proofs.Common.{◌≡◌, ◌∙◌, get_or, length, arith, sym, ap, ◌<◌, ℕ, false}
+use Rattle.std.proofs.Common.{◌∙◌, get_or, length, arith, ap, ◌<◌, false}
 use Rattle.std.proofs.lemmas.List.{get_or_default, length-set}
 use Rattle.net_core.specs.declared.bit_set.BitSet.{BitSet}
 use Rattle.net_core.specs.declared.raw.Latch.{Latch}
 use Rattle.net_core.specs.declared.raw.Init.TheVariants.{Zero}
-use Rattle.ste_program.specs.Sets.{AreLatched}
 use Rattle.ste_program.proofs.Latched.{latch_done}
 use Rattle.ste_program.proofs.check.sources.place_latches.Goals as goal
 
