@@ -3,3 +3,4 @@
 
 pub mod netlist;
 pub mod task;
+mod words;
