@@ -5,3 +5,4 @@ mod check;
 pub mod io;
 pub mod netlist;
 pub mod task;
+mod words;
