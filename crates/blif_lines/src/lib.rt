@@ -6,3 +6,6 @@ pub mod lines;
 mod scan;
 
 pub use lines::{Line, logical_lines};
+
+#[cfg(test)]
+mod tests;
