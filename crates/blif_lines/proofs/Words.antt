@@ -1,6 +1,7 @@
 -- How a logical line grows.
-use Rattle.std.proofs.Common.{ℕ, zero, suc, ◌+◌, ◌<◌, ◌≤◌, ◌≡◌, refl, ap, sym, ◌∙◌, List, [], ◌∷◌, ◌++◌, length, filter, map, take, drop, arith, Bool, true, false, if◌then◌else◌, append_assoc, append-nil, ◌⊎◌, inl, inr, Option, unwrap_or}
+use Rattle.std.proofs.Common.{ℕ, suc, ◌+◌, ◌<◌, ◌≤◌, ◌≡◌, refl, ap, sym, ◌∙◌, List, [], ◌∷◌, ◌++◌, length, filter, map, take, drop, arith, Bool, true, false, if◌then◌else◌, append_assoc, append-nil, length-drop, ◌⊎◌, inl, inr, Option, unwrap_or}
 use Rattle.std.specs.List.{position}
+use Rattle.std.proofs.lemmas.List.Elements.{filter-append}
 use Rattle.blif_lines.specs.declared.lines.Line.{Line}
 use Rattle.blif_lines.specs.Lines.{pieces, before, onto_first, is_blank, is_filled, words_of, Numbered, onto_next, joined, is_continued, without_last, is_line_feed, treated, line_of, word_lines}
 use Rattle.blif_lines.proofs.Scanning.{first_piece, place, front}
@@ -9,14 +10,6 @@ use Rattle.blif_lines.proofs.Scanning.{first_piece, place, front}
 abbrev pub with_front : ℕ → List (List ℕ) → List Line → List Line
 with_front n words [] = record { number = n; words = words } ∷ []
 with_front n words (line ∷ lines) = record { number = n; words = words ++ line.words } ∷ lines
-
-filter_one : (c : Bool) (x : List ℕ) (xs ys all : List (List ℕ)) → all ≡ xs ++ ys → (if c then x ∷ all else all) ≡ (if c then x ∷ xs else xs) ++ ys
-filter_one true x xs ys all e = ap (λ l. x ∷ l) e
-filter_one false x xs ys all e = e
-
-filter_both : (keeps : List ℕ → Bool) (xs ys : List (List ℕ)) → filter keeps (xs ++ ys) ≡ filter keeps xs ++ filter keeps ys
-filter_both keeps [] ys = refl
-filter_both keeps (x ∷ xs) ys = filter_one (keeps x) x (filter keeps xs) (filter keeps ys) (filter keeps (xs ++ ys)) (filter_both keeps xs ys)
 
 -- one more byte in front
 goes_more : (c : Bool) (x : ℕ) (whole part back more : List (List ℕ)) (front : List ℕ) → part ≡ front ∷ more → whole ≡ part ++ back → (if c then [] ∷ whole else onto_first x whole) ≡ (if c then [] ∷ part else onto_first x part) ++ back
@@ -41,8 +34,8 @@ goes (x ∷ []) b = goes_one (is_blank x) x (pieces is_blank b)
 goes (x ∷ y ∷ a) b = goes_either x y a b (goes (y ∷ a) b)
 
 words_either : (a b : List ℕ) → Goes a b → words_of (a ++ 32 ∷ b) ≡ words_of a ++ words_of b
-words_either a b (inl e) = ap (filter is_filled) e ∙ filter_both is_filled (pieces is_blank a) (pieces is_blank b)
-words_either a b (inr e) = ap (filter is_filled) e ∙ filter_both is_filled (pieces is_blank a) ([] ∷ pieces is_blank b)
+words_either a b (inl e) = ap (filter is_filled) e ∙ filter-append is_filled (pieces is_blank a) (pieces is_blank b)
+words_either a b (inr e) = ap (filter is_filled) e ∙ filter-append is_filled (pieces is_blank a) ([] ∷ pieces is_blank b)
 
 -- the words of two texts with a blank between them
 pub words_both : (a b : List ℕ) → words_of (a ++ 32 ∷ b) ≡ words_of a ++ words_of b
@@ -50,7 +43,7 @@ words_both a b = words_either a b (goes a b)
 
 -- the words up to the end of the first piece, and those after it
 pub next_word : (done : List (List ℕ)) (text word : List ℕ) → 0 < length text → word ≡ before is_blank text → (done ++ filter is_filled (word ∷ [])) ++ words_of (drop (suc (length (before is_blank text))) text) ≡ done ++ words_of text
-next_word done text word h w = rw w (append_assoc done (filter is_filled (before is_blank text ∷ [])) (words_of (drop (suc (length (before is_blank text))) text)) ∙ ap (λ l. done ++ l) (sym (filter_both is_filled (before is_blank text ∷ []) (pieces is_blank (drop (suc (length (before is_blank text))) text))) ∙ sym (ap (filter is_filled) (first_piece is_blank text h))))
+next_word done text word h w = rw w (append_assoc done (filter is_filled (before is_blank text ∷ [])) (words_of (drop (suc (length (before is_blank text))) text)) ∙ ap (λ l. done ++ l) (sym (filter-append is_filled (before is_blank text ∷ []) (pieces is_blank (drop (suc (length (before is_blank text))) text))) ∙ sym (ap (filter is_filled) (first_piece is_blank text h))))
 
 -- a line that is being read: open, or at its end
 abbrev pub so_far : Bool → ℕ → List (List ℕ) → List Line → List Line
@@ -103,14 +96,7 @@ line_turn joins turns first n next words new all text line back bare body at j s
     let f : bare ≡ treated (before is_line_feed text) = t ∙ ap treated (l ∙ ap (λ k. take (unwrap_or k (length text)) text) p ∙ front is_line_feed text) in
     rw o (rw w (rw b (rw d (rw p (rw (place is_line_feed text) (rw s (step first n words text bare some f ∙ so_far_open joins first words (word_lines n (pieces is_line_feed text)) all j inv)))))))
 
-pub drop_shorter : (n : ℕ) (text : List ℕ) → 0 < length text → length (drop (suc n) text) < length text
-drop_shorter n [] h = absurd (omega (arith, h))
-drop_shorter zero (b ∷ []) h = omega arith
-drop_shorter (suc n) (b ∷ []) h = omega arith
-drop_shorter zero (b ∷ c ∷ text) h = omega arith
-drop_shorter (suc n) (b ∷ c ∷ text) h = omega (arith, drop_shorter n (c ∷ text) (omega arith))
-
 pub shorter_turn : (n len number : ℕ) (turns : Bool) (back rest text : List ℕ) → 0 < length rest → back ≡ drop (suc len) rest → n + length rest ≤ number + length text → length rest ≤ length text → (n + 1 + length back ≤ number + length text) × (length back ≤ length text) × (turns ≡ false → length back < length text)
 shorter_turn n len number turns back rest text some d p q =
-    let s : length back < length rest = rw d (drop_shorter len rest some) in
+    let s : length back < length rest = rw d (rw (length-drop (suc len) rest) (omega (arith, some))) in
     (omega (arith, s, p), omega (arith, s, q), λ e. omega (arith, s, q))

@@ -2,6 +2,7 @@
 //! split at blanks into words. Netlists, task files and input files are read by them.
 #![tactic(auto)]
 
+pub mod laws;
 pub mod lines;
 mod scan;
 

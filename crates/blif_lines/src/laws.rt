@@ -1,0 +1,11 @@
+ghost use Rattle.blif_lines.specs.Laws.{LinesFitTheText, PhysicalLinesAreTheText};
+
+/// Law: the physical lines have no line feed, and put together again, with a line feed behind each, they are the text.
+pub fn physical_lines_are_the_text()
+    ensures { PhysicalLinesAreTheText }
+{}
+
+/// Law: each logical line has a word, and has no more words than the text has bytes.
+pub fn lines_fit_the_text()
+    ensures { LinesFitTheText }
+{}
