@@ -1,4 +1,4 @@
-ghost use Rattle.blif_lines.specs.Laws.{LinesFitTheText, PhysicalLinesAreTheText};
+ghost use Rattle.blif_lines.specs.Laws.{LinesFitTheText, PhysicalLinesAreTheText, PlainLinesAreReadBack};
 
 /// Law: the physical lines have no line feed, and put together again, with a line feed behind each, they are the text.
 pub fn physical_lines_are_the_text()
@@ -8,4 +8,9 @@ pub fn physical_lines_are_the_text()
 /// Law: each logical line has a word, and has no more words than the text has bytes.
 pub fn lines_fit_the_text()
     ensures { LinesFitTheText }
+{}
+
+/// Law: lines of plain words, written one a physical line with a space between words, are read back, numbered from 1.
+pub fn plain_lines_are_read_back()
+    ensures { PlainLinesAreReadBack }
 {}
