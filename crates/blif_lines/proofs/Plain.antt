@@ -1,5 +1,5 @@
 -- How lines of plain words are read back.
-use Rattle.std.proofs.Common.{ℕ, zero, suc, ◌-◌, ◌<◌, ◌≡◌, refl, ap, ◌∙◌, List, [], ◌∷◌, ◌++◌, length, filter, map, get_or, arith, Bool, true, false, if◌then◌else◌, nat_eq, All}
+use Rattle.std.proofs.Common.{ℕ, zero, suc, ◌-◌, ◌<◌, ◌≡◌, refl, ap, ◌∙◌, List, [], ◌∷◌, ◌++◌, length, filter, map, get_or, arith, Bool, true, false, if◌then◌else◌, nat_eq, not, All}
 use Rattle.std.proofs.lemmas.List.Elements.{All-cons, All-nil, All-head, All-tail, All-append, All-weaker}
 use Rattle.blif_lines.specs.declared.lines.Line.{Line}
 use Rattle.blif_lines.specs.Lines.{pieces, before, is_blank, is_line_feed, is_hash, trimmed, unless_last, treated, words_of, is_filled, is_continued, has_words, word_lines}
@@ -88,7 +88,7 @@ treated_spaced words h = rw (before_all is_hash (spaced words) (free_spaced is_h
 line_alone : (n : ℕ) (text : List ℕ) (lines : List (List ℕ)) → treated text ≡ text → is_continued text ≡ false → word_lines n (text ∷ lines) ≡ record { number = n; words = words_of text } ∷ word_lines (suc n) lines
 line_alone n text lines t e = rw t (rw e refl)
 
-keeps : (n : ℕ) (words : List (List ℕ)) (lines : List Line) → 0 < length words → (if (if nat_eq (length words) 0 then false else true) then record { number = n; words = words } ∷ lines else lines) ≡ record { number = n; words = words } ∷ lines
+keeps : (n : ℕ) (words : List (List ℕ)) (lines : List Line) → 0 < length words → (if not (nat_eq (length words) 0) then record { number = n; words = words } ∷ lines else lines) ≡ record { number = n; words = words } ∷ lines
 keeps n [] lines h = absurd (omega (arith, h))
 keeps n (word ∷ words) lines h =
     let e : nat_eq (suc (length words)) 0 ≡ false = grind arith in

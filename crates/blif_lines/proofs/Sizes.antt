@@ -1,7 +1,7 @@
 -- How long the parts of a text are.
-use Rattle.std.proofs.Common.{ℕ, suc, ◌+◌, ◌-◌, ◌<◌, ◌≤◌, ◌≡◌, refl, List, [], ◌∷◌, ◌++◌, length, filter, map, arith, Bool, true, false, if◌then◌else◌, length-append, length-take, All, nat_eq}
+use Rattle.std.proofs.Common.{ℕ, sum_by, suc, ◌+◌, ◌-◌, ◌<◌, ◌≤◌, ◌≡◌, refl, List, [], ◌∷◌, ◌++◌, length, filter, map, arith, Bool, true, false, if◌then◌else◌, length-append, length-take, All, nat_eq, not}
 use Rattle.std.proofs.lemmas.List.Elements.{All-cons, All-nil}
-use Rattle.std.proofs.lemmas.List.Sums.{length-filter, count_by-le-length}
+use Rattle.std.proofs.lemmas.List.Sums.{sum_by-cons, length-filter, count_by-le-length}
 use Rattle.blif_lines.specs.declared.lines.Line.{Line}
 use Rattle.blif_lines.specs.Lines.{before, pieces, onto_first, is_blank, is_hash, is_line_feed, trimmed, unless_last, treated, words_of, is_filled, Numbered, onto_next, joined, is_continued, without_last, line_of, has_words}
 use Rattle.blif_lines.specs.Laws.{LinesFitTheText}
@@ -80,7 +80,7 @@ joined_total n ((b ∷ line) ∷ lines) = join_total (is_continued (b ∷ line))
 abbrev IsWithin : ℕ → Line → Type 0
 IsWithin m line = (0 < length line.words) × (length line.words ≤ m)
 
-keep_one : (m : ℕ) (n : ℕ) (words : List (List ℕ)) (lines : List Line) → length words ≤ m → All (IsWithin m) lines → All (IsWithin m) (if (if nat_eq (length words) 0 then false else true) then record { number = n; words = words } ∷ lines else lines)
+keep_one : (m : ℕ) (n : ℕ) (words : List (List ℕ)) (lines : List Line) → length words ≤ m → All (IsWithin m) lines → All (IsWithin m) (if not (nat_eq (length words) 0) then record { number = n; words = words } ∷ lines else lines)
 keep_one m n [] lines h rest = rest
 keep_one m n (word ∷ words) lines h rest =
     let e : nat_eq (suc (length words)) 0 ≡ false = grind arith in
@@ -90,5 +90,21 @@ kept : (m : ℕ) (lines : List Numbered) → total lines ≤ m → All (IsWithin
 kept m [] h = All-nil (IsWithin m)
 kept m (line ∷ lines) h = keep_one m line.number (words_of line.text) (filter has_words (map line_of lines)) (omega (arith, h, words_count line.text)) (kept m lines (omega (arith, h)))
 
+keep_sum : (n a b : ℕ) (words : List (List ℕ)) (lines : List Line) → length words ≤ a → sum_by (λ line. length line.words) lines ≤ b → sum_by (λ line. length line.words) (if not (nat_eq (length words) 0) then record { number = n; words = words } ∷ lines else lines) ≤ a + b
+keep_sum n a b [] lines h s = omega (arith, s)
+keep_sum n a b (word ∷ words) lines h s =
+    let e : nat_eq (suc (length words)) 0 ≡ false = grind arith in
+    rw e (rw (sum_by-cons (λ line. length line.words) (record { number = n; words = word ∷ words }) lines) (omega (arith, h, s)))
+
+kept_sum : (lines : List Numbered) → sum_by (λ line. length line.words) (filter has_words (map line_of lines)) ≤ total lines
+kept_sum [] = omega arith
+kept_sum (line ∷ lines) = keep_sum line.number (length line.text) (total lines) (words_of line.text) (filter has_words (map line_of lines)) (words_count line.text) (kept_sum lines)
+
+-- the joined lines of a text have no more bytes than the text
+joined_fit : (text : List ℕ) → total (joined 1 (map treated (pieces is_line_feed text))) ≤ length text
+joined_fit text = omega (arith, joined_total 1 (map treated (pieces is_line_feed text)), treated_size (pieces is_line_feed text), pieces_size is_line_feed text)
+
 pub lines_fit : LinesFitTheText
-lines_fit text = kept (length text) (joined 1 (map treated (pieces is_line_feed text))) (omega (arith, joined_total 1 (map treated (pieces is_line_feed text)), treated_size (pieces is_line_feed text), pieces_size is_line_feed text))
+lines_fit text =
+    let lines = joined 1 (map treated (pieces is_line_feed text)) in
+    (kept (length text) lines (joined_fit text), omega (arith, kept_sum lines, joined_fit text))

@@ -1,5 +1,5 @@
 -- What holds of the lines of any text.
-use Rattle.std.specs.Prelude.{ℕ, suc, map, nat_eq, ◌<◌, ◌≤◌, ◌≡◌, List, [], ◌∷◌, ◌++◌, length, All, Bool, false, if◌then◌else◌, not}
+use Rattle.std.specs.Prelude.{ℕ, sum_by, suc, map, nat_eq, ◌<◌, ◌≤◌, ◌≡◌, List, [], ◌∷◌, ◌++◌, length, All, Bool, false, if◌then◌else◌, not}
 use Rattle.blif_lines.specs.declared.lines.Line.{Line}
 use Rattle.blif_lines.specs.Lines.{pieces, is_blank, is_line_feed, is_hash, lines_of}
 
@@ -18,9 +18,9 @@ lacks_end (byte ∷ next ∷ text) = lacks_end (next ∷ text)
 abbrev pub PhysicalLinesAreTheText : Type 0
 PhysicalLinesAreTheText = (text : List ℕ) → All (λ line. All (λ byte. is_line_feed byte ≡ false) line) (pieces is_line_feed text) × (ended (pieces is_line_feed text) ≡ (if lacks_end text then text ++ 10 ∷ [] else text))
 
--- each logical line has a word, and has no more words than the text has bytes
+-- each logical line has a word, and all lines together have no more words than the text has bytes
 abbrev pub LinesFitTheText : Type 0
-LinesFitTheText = (text : List ℕ) → All (λ line. (0 < length line.words) × (length line.words ≤ length text)) (lines_of text)
+LinesFitTheText = (text : List ℕ) → All (λ line. (0 < length line.words) × (length line.words ≤ length text)) (lines_of text) × (sum_by (λ line. length line.words) (lines_of text) ≤ length text)
 
 -- a byte that is no blank, line feed, `#` or backslash
 abbrev pub IsPlain : ℕ → Type 0

@@ -1,11 +1,11 @@
 -- The logical lines of a text, as netlists, task files and input files are read by. The rules are this project's own
 -- choice, after the Berkeley description of BLIF.
-use Rattle.std.specs.Prelude.{ℕ, suc, ◌-◌, List, [], ◌∷◌, ◌++◌, length, map, filter, take, get_or, Bool, true, false, if◌then◌else◌, nat_eq}
+use Rattle.std.specs.Prelude.{ℕ, suc, ◌-◌, List, [], ◌∷◌, ◌++◌, length, map, filter, take, get_or, Bool, true, false, if◌then◌else◌, nat_eq, ◌||◌, not}
 use Rattle.blif_lines.specs.declared.lines.Line.{Line}
 
 -- a byte that parts words: a space, a tab or a carriage return
 abbrev pub is_blank : ℕ → Bool
-is_blank byte = if nat_eq byte 32 then true else if nat_eq byte 9 then true else nat_eq byte 13
+is_blank byte = nat_eq byte 32 || nat_eq byte 9 || nat_eq byte 13
 
 -- the byte that ends a physical line
 abbrev pub is_line_feed : ℕ → Bool
@@ -84,7 +84,7 @@ line_of line = record { number = line.number; words = words_of line.text }
 
 -- there is a word in the line
 abbrev pub has_words : Line → Bool
-has_words line = if nat_eq (length line.words) 0 then false else true
+has_words line = not (nat_eq (length line.words) 0)
 
 -- the logical lines of these physical lines, which are numbered from n on, those without words too
 abbrev pub word_lines : ℕ → List (List ℕ) → List Line

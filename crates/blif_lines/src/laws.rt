@@ -5,7 +5,7 @@ pub fn physical_lines_are_the_text()
     ensures { PhysicalLinesAreTheText }
 {}
 
-/// Law: each logical line has a word, and has no more words than the text has bytes.
+/// Law: each logical line has a word, and all lines together have no more words than the text has bytes.
 pub fn lines_fit_the_text()
     ensures { LinesFitTheText }
 {}
