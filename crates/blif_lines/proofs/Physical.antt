@@ -5,21 +5,21 @@ use Rattle.blif_lines.specs.Lines.{pieces, onto_first, is_line_feed}
 use Rattle.blif_lines.specs.Laws.{ended, lacks_end, PhysicalLinesAreTheText}
 use Rattle.blif_lines.proofs.Scanning.{first_piece}
 
--- no byte at which the text is cut
-abbrev IsWhole : (ℕ → Bool) → List ℕ → Type 0
-IsWhole cuts piece = All (λ b. cuts b ≡ false) piece
+-- no byte of the text passes
+abbrev pub IsFree : (ℕ → Bool) → List ℕ → Type 0
+IsFree cuts text = All (λ b. cuts b ≡ false) text
 
-onto_whole : (cuts : ℕ → Bool) (b : ℕ) (lines : List (List ℕ)) → cuts b ≡ false → All (IsWhole cuts) lines → All (IsWhole cuts) (onto_first b lines)
-onto_whole cuts b [] e h = All-cons (IsWhole cuts) (b ∷ []) [] (All-cons (λ x. cuts x ≡ false) b [] e (All-nil (λ x. cuts x ≡ false))) (All-nil (IsWhole cuts))
-onto_whole cuts b (line ∷ lines) e h = All-cons (IsWhole cuts) (b ∷ line) lines (All-cons (λ x. cuts x ≡ false) b line e (All-head (IsWhole cuts) line lines h)) (All-tail (IsWhole cuts) line lines h)
+onto_free : (cuts : ℕ → Bool) (b : ℕ) (lines : List (List ℕ)) → cuts b ≡ false → All (IsFree cuts) lines → All (IsFree cuts) (onto_first b lines)
+onto_free cuts b [] e h = All-cons (IsFree cuts) (b ∷ []) [] (All-cons (λ x. cuts x ≡ false) b [] e (All-nil (λ x. cuts x ≡ false))) (All-nil (IsFree cuts))
+onto_free cuts b (line ∷ lines) e h = All-cons (IsFree cuts) (b ∷ line) lines (All-cons (λ x. cuts x ≡ false) b line e (All-head (IsFree cuts) line lines h)) (All-tail (IsFree cuts) line lines h)
 
-whole_more : (cuts : ℕ → Bool) (c : Bool) (b : ℕ) (lines : List (List ℕ)) → cuts b ≡ c → All (IsWhole cuts) lines → All (IsWhole cuts) (if c then [] ∷ lines else onto_first b lines)
-whole_more cuts true b lines e h = All-cons (IsWhole cuts) [] lines (All-nil (λ x. cuts x ≡ false)) h
-whole_more cuts false b lines e h = onto_whole cuts b lines e h
+free_more : (cuts : ℕ → Bool) (c : Bool) (b : ℕ) (lines : List (List ℕ)) → cuts b ≡ c → All (IsFree cuts) lines → All (IsFree cuts) (if c then [] ∷ lines else onto_first b lines)
+free_more cuts true b lines e h = All-cons (IsFree cuts) [] lines (All-nil (λ x. cuts x ≡ false)) h
+free_more cuts false b lines e h = onto_free cuts b lines e h
 
-whole : (cuts : ℕ → Bool) (text : List ℕ) → All (IsWhole cuts) (pieces cuts text)
-whole cuts [] = All-nil (IsWhole cuts)
-whole cuts (b ∷ text) = whole_more cuts (cuts b) b (pieces cuts text) refl (whole cuts text)
+free_of : (cuts : ℕ → Bool) (text : List ℕ) → All (IsFree cuts) (pieces cuts text)
+free_of cuts [] = All-nil (IsFree cuts)
+free_of cuts (b ∷ text) = free_more cuts (cuts b) b (pieces cuts text) refl (free_of cuts text)
 
 is_ten : (b : ℕ) → is_line_feed b ≡ true → b ≡ 10
 is_ten b e = grind (arith, e)
@@ -43,4 +43,4 @@ put (b ∷ []) = put_last (is_line_feed b) b (is_ten b)
 put (b ∷ x ∷ text) = put_more (is_line_feed b) b (pieces is_line_feed (x ∷ text)) _ _ _ (is_ten b) (first_piece is_line_feed (x ∷ text) (omega arith)) (put (x ∷ text)) ∙ end_after (lacks_end (x ∷ text)) b (x ∷ text)
 
 pub physical_lines : PhysicalLinesAreTheText
-physical_lines text = (whole is_line_feed text, put text)
+physical_lines text = (free_of is_line_feed text, put text)

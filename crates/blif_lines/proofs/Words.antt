@@ -50,7 +50,7 @@ abbrev pub so_far : Bool → ℕ → List (List ℕ) → List Line → List Line
 so_far true n words lines = with_front n words lines
 so_far false n words lines = record { number = n; words = words } ∷ lines
 
-front_words : (n : ℕ) (text : List ℕ) (lines : List Numbered) → map line_of (onto_next n (text ++ 32 ∷ []) lines) ≡ with_front n (words_of text) (map line_of lines)
+pub front_words : (n : ℕ) (text : List ℕ) (lines : List Numbered) → map line_of (onto_next n (text ++ 32 ∷ []) lines) ≡ with_front n (words_of text) (map line_of lines)
 front_words n text [] = ap (λ w. record { number = n; words = w } ∷ []) (words_both text [] ∙ append-nil (words_of text))
 front_words n text (line ∷ lines) = ap (λ w. record { number = n; words = w } ∷ map line_of lines) (ap words_of (append_assoc text (32 ∷ []) line.text) ∙ words_both text line.text)
 

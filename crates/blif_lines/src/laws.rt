@@ -1,4 +1,4 @@
-ghost use Rattle.blif_lines.specs.Laws.{LinesFitTheText, PhysicalLinesAreTheText, PlainLinesAreReadBack};
+ghost use Rattle.blif_lines.specs.Laws.{LinesFitTheText, PhysicalLinesAreTheText, WrittenLinesAreReadBack};
 
 /// Law: the physical lines have no line feed, and put together again, with a line feed behind each, they are the text.
 pub fn physical_lines_are_the_text()
@@ -10,7 +10,8 @@ pub fn lines_fit_the_text()
     ensures { LinesFitTheText }
 {}
 
-/// Law: lines of plain words, written one a physical line with a space between words, are read back, numbered from 1.
-pub fn plain_lines_are_read_back()
-    ensures { PlainLinesAreReadBack }
+/// Law: logical lines of plain words, each written on one or more physical lines with blanks and comments behind the
+/// words, are read back, with the numbers of their first physical lines.
+pub fn written_lines_are_read_back()
+    ensures { WrittenLinesAreReadBack }
 {}
