@@ -1,8 +1,8 @@
--- How a scan of a text goes on.
-use Rattle.std.proofs.Common.{ℕ, zero, suc, ◌+◌, ◌-◌, ◌<◌, ◌≤◌, ◌≡◌, refl, ap, sym, ◌∙◌, List, [], ◌∷◌, length, get_or, filter, take, drop, arith, Bool, true, false, if◌then◌else◌, cond, Some, None, unwrap_or, nat_lt}
+-- How far a scan of a text goes.
+use Rattle.std.proofs.Common.{ℕ, zero, suc, ◌+◌, ◌-◌, ◌<◌, ◌≤◌, ◌≡◌, refl, ap, sym, ◌∙◌, List, [], ◌∷◌, length, get_or, take, drop, arith, Bool, true, false, if◌then◌else◌, cond, Some, None, unwrap_or, nat_lt}
 use Rattle.std.specs.List.{position, position_or_len}
 use Rattle.std.proofs.lemmas.List.Recursion.{is_position_or_len}
-use Rattle.blif_lines.specs.Lines.{before, pieces, onto_first, is_blank, trimmed, unless_last, words_of, is_filled}
+use Rattle.blif_lines.specs.Lines.{before, pieces, onto_first, is_blank, trimmed, unless_last}
 
 before_step : (c : Bool) (b : ℕ) (front : List ℕ) → length (if c then [] else b ∷ front) ≡ cond c 0 (1 + length front)
 before_step true b front = refl
@@ -37,33 +37,13 @@ ends_one : (c : Bool) (b : ℕ) (text front : List ℕ) → take (length front) 
 ends_one true b text front e = refl
 ends_one false b text front e = ap (λ x. b ∷ x) e
 
-pub ends : (cuts : ℕ → Bool) (text : List ℕ) → take (length (before cuts text)) text ≡ before cuts text
+ends : (cuts : ℕ → Bool) (text : List ℕ) → take (length (before cuts text)) text ≡ before cuts text
 ends cuts [] = refl
 ends cuts (b ∷ text) = ends_one (cuts b) b text (before cuts text) (ends cuts text)
 
 -- what stands before that place
 pub front : (cuts : ℕ → Bool) (text : List ℕ) → take (unwrap_or (position cuts text) (length text)) text ≡ before cuts text
 front cuts text = rw (place cuts text) (ends cuts text)
-
--- a blank at the end is of no account
-pub trim_step : (text : List ℕ) (n : ℕ) → n < length text → is_blank (get_or text n 0) ≡ true → trimmed (take (suc n) text) ≡ trimmed (take n text)
-trim_step [] n h e = absurd (omega (arith, h))
-trim_step (b ∷ text) zero h e = rw e refl
-trim_step (b ∷ text) (suc n) h e = ap (unless_last b) (trim_step text n (omega (arith, h)) e)
-
-trim_at : (text : List ℕ) (n m : ℕ) → n ≡ suc m → n ≤ length text → is_blank (get_or text m 0) ≡ true → trimmed (take m text) ≡ trimmed (take n text)
-trim_at text n m s h e = rw s (sym (trim_step text m (omega (arith, h, s)) e))
-
--- the same, as the loop counts
-pub trim_back : (text : List ℕ) (n : ℕ) → 0 < n → n ≤ length text → is_blank (get_or text (n - 1) 0) ≡ true → trimmed (take (n - 1) text) ≡ trimmed (take n text)
-trim_back text n p h e = trim_at text n (n - 1) (omega (arith, p)) h e
-
--- a text whose last byte is no blank stays
-pub trim_done : (text : List ℕ) (n : ℕ) → n < length text → is_blank (get_or text n 0) ≡ false → trimmed (take (suc n) text) ≡ take (suc n) text
-trim_done [] n h e = absurd (omega (arith, h))
-trim_done (b ∷ text) zero h e = rw e refl
-trim_done (b ∷ []) (suc n) h e = absurd (omega (arith, h))
-trim_done (b ∷ c ∷ text) (suc n) h e = ap (unless_last b) (trim_done (c ∷ text) n (omega (arith, h)) e)
 
 first_last : (c : Bool) (b : ℕ) (cuts : ℕ → Bool) → (if c then [] ∷ [] else (b ∷ []) ∷ []) ≡ (if c then [] else b ∷ []) ∷ pieces cuts (drop (length (if c then [] else b ∷ [])) [])
 first_last true b cuts = refl
@@ -79,12 +59,29 @@ first_piece cuts [] h = absurd (omega (arith, h))
 first_piece cuts (b ∷ []) h = first_last (cuts b) b cuts
 first_piece cuts (b ∷ x ∷ text) h = first_more (cuts b) b cuts (x ∷ text) (before cuts (x ∷ text)) (first_piece cuts (x ∷ text) (omega arith))
 
--- the words after the first piece, which is one of them where it is not empty
-pub first_word : (text : List ℕ) → 0 < length text → words_of text ≡ filter is_filled (before is_blank text ∷ pieces is_blank (drop (suc (length (before is_blank text))) text))
-first_word text h = ap (filter is_filled) (first_piece is_blank text h)
+-- a blank at the end is of no account
+trim_step : (text : List ℕ) (n : ℕ) → n < length text → is_blank (get_or text n 0) ≡ true → trimmed (take (suc n) text) ≡ trimmed (take n text)
+trim_step [] n h e = absurd (omega (arith, h))
+trim_step (b ∷ text) zero h e = rw e refl
+trim_step (b ∷ text) (suc n) h e = ap (unless_last b) (trim_step text n (omega (arith, h)) e)
+
+trim_at : (text : List ℕ) (n m : ℕ) → n ≡ suc m → n ≤ length text → is_blank (get_or text m 0) ≡ true → trimmed (take m text) ≡ trimmed (take n text)
+trim_at text n m s h e = rw s (sym (trim_step text m (omega (arith, h, s)) e))
+
+-- the same, as the loop counts
+pub trim_back : (text : List ℕ) (n : ℕ) → 0 < n → n ≤ length text → is_blank (get_or text (n - 1) 0) ≡ true → trimmed (take (n - 1) text) ≡ trimmed (take n text)
+trim_back text n p h e = trim_at text n (n - 1) (omega (arith, p)) h e
+
+-- a text whose last byte is no blank stays
+trim_done : (text : List ℕ) (n : ℕ) → n < length text → is_blank (get_or text n 0) ≡ false → trimmed (take (suc n) text) ≡ take (suc n) text
+trim_done [] n h e = absurd (omega (arith, h))
+trim_done (b ∷ text) zero h e = rw e refl
+trim_done (b ∷ []) (suc n) h e = absurd (omega (arith, h))
+trim_done (b ∷ c ∷ text) (suc n) h e = ap (unless_last b) (trim_done (c ∷ text) n (omega (arith, h)) e)
 
 done_at : (text : List ℕ) (n m : ℕ) → n ≡ suc m → n ≤ length text → is_blank (get_or text m 0) ≡ false → take n text ≡ trimmed (take n text)
 done_at text n m s h e = rw s (sym (trim_done text m (omega (arith, h, s)) e))
 
+-- the same, as the loop stops
 pub trim_stop : (text : List ℕ) (n : ℕ) → 0 < n → n ≤ length text → is_blank (get_or text (n - 1) 0) ≡ false → take n text ≡ trimmed (take n text)
 trim_stop text n p h e = done_at text n (n - 1) (omega (arith, p)) h e

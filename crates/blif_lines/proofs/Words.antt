@@ -42,7 +42,7 @@ pub words_both : (a b : List ℕ) → words_of (a ++ 32 ∷ b) ≡ words_of a ++
 words_both a b = words_either a b (goes a b)
 
 -- the words up to the end of the first piece, and those after it
-pub next_word : (done : List (List ℕ)) (text word : List ℕ) → 0 < length text → word ≡ before is_blank text → (done ++ filter is_filled (word ∷ [])) ++ words_of (drop (suc (length (before is_blank text))) text) ≡ done ++ words_of text
+next_word : (done : List (List ℕ)) (text word : List ℕ) → 0 < length text → word ≡ before is_blank text → (done ++ filter is_filled (word ∷ [])) ++ words_of (drop (suc (length (before is_blank text))) text) ≡ done ++ words_of text
 next_word done text word h w = rw w (append_assoc done (filter is_filled (before is_blank text ∷ [])) (words_of (drop (suc (length (before is_blank text))) text)) ∙ ap (λ l. done ++ l) (sym (filter-append is_filled (before is_blank text ∷ []) (pieces is_blank (drop (suc (length (before is_blank text))) text))) ∙ sym (ap (filter is_filled) (first_piece is_blank text h))))
 
 -- a line that is being read: open, or at its end
@@ -72,7 +72,7 @@ pub begin : (n : ℕ) (text : List ℕ) → 0 < length text → with_front n [] 
 begin n text h = rw (first_piece is_line_feed text h) (begin_one (is_continued (treated (before is_line_feed text))) n (treated (before is_line_feed text)) (joined (suc n) (map treated (pieces is_line_feed (drop (suc (length (before is_line_feed text))) text)))))
 
 -- a line after one more physical line
-pub step : (first n : ℕ) (words : List (List ℕ)) (text line : List ℕ) → 0 < length text → line ≡ treated (before is_line_feed text) → so_far (is_continued line) first (words ++ words_of (if is_continued line then without_last line else line)) (word_lines (suc n) (pieces is_line_feed (drop (suc (length (before is_line_feed text))) text))) ≡ with_front first words (word_lines n (pieces is_line_feed text))
+step : (first n : ℕ) (words : List (List ℕ)) (text line : List ℕ) → 0 < length text → line ≡ treated (before is_line_feed text) → so_far (is_continued line) first (words ++ words_of (if is_continued line then without_last line else line)) (word_lines (suc n) (pieces is_line_feed (drop (suc (length (before is_line_feed text))) text))) ≡ with_front first words (word_lines n (pieces is_line_feed text))
 step first n words text line h e = rw e (rw (first_piece is_line_feed text h) (sym (step_one (is_continued (treated (before is_line_feed text))) first n words (treated (before is_line_feed text)) (joined (suc n) (map treated (pieces is_line_feed (drop (suc (length (before is_line_feed text))) text)))))))
 
 -- at the end of the text nothing is joined
