@@ -1,0 +1,12 @@
+//! The logical lines of a text: physical lines without their comments, joined where one ends with a backslash, and
+//! split at blanks into words. Netlists, task files and input files are read by them.
+#![tactic(auto)]
+
+pub mod laws;
+pub mod lines;
+mod scan;
+
+pub use lines::{Line, logical_lines};
+
+#[cfg(test)]
+mod tests;
