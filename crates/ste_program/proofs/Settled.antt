@@ -14,7 +14,7 @@ all_same : (one other : List (List ℕ)) → ((word : List ℕ) → is_among one
 all_same one other same [] = refl
 all_same one other same (word ∷ words) = let here = same word in let more = all_same one other same words in cc
 
-settled_same : (one other : List (List ℕ)) → ((word : List ℕ) → is_among one word ≡ is_among other word) → (parts : List Part) → are_settled one parts ≡ are_settled other parts
+pub settled_same : (one other : List (List ℕ)) → ((word : List ℕ) → is_among one word ≡ is_among other word) → (parts : List Part) → are_settled one parts ≡ are_settled other parts
 settled_same one other same [] = refl
 settled_same one other same (Names inputs output rows ∷ parts) =
     let here = all_same one other same inputs in

@@ -1,7 +1,8 @@
 -- Texts of plain words are cut at each line feed and at each space, and each has one spelling.
-use Rattle.std.proofs.Common.{◌≡◌, ℕ, Bool, true, false, List, [], ◌∷◌, ◌++◌, map, length, get_or, nat_lt, refl, sym, ap, ◌∙◌, append_assoc, arith}
+use Rattle.std.proofs.Common.{◌≡◌, ℕ, true, false, List, [], ◌∷◌, ◌++◌, map, length, get_or, nat_lt, refl, sym, ap, ◌∙◌, append_assoc, arith}
 use Rattle.std.specs.Prelude.{◌≢◌, ◌==◌, ◌&&◌, All, IsTrue}
 use Rattle.std.specs.List.{list_all, slice_split, join_with_byte}
+use Rattle.std.proofs.lemmas.Bool.{and_parts}
 use Rattle.std.proofs.lemmas.Bool.Decides.{nat_tests}
 use Rattle.std.proofs.lemmas.List.{same_from_push}
 use Rattle.std.proofs.lemmas.List.Elements.{All-append, All-cons, All-nil}
@@ -23,27 +24,22 @@ no_space byte h = grind (arith, nat_tests)
 no_feed : (byte : ℕ) → may_stand byte ≡ true → (byte == 10) ≡ false
 no_feed byte h = grind (arith, nat_tests)
 
--- both halves of a test
-pub both_hold : (a b : Bool) → (a && b) ≡ true → (a ≡ true) × (b ≡ true)
-both_hold true b h = (refl, h)
-both_hold false b h = absurd (cc)
-
 word_without : (mark : ℕ) → ((byte : ℕ) → may_stand byte ≡ true → (byte == mark) ≡ false) → (word : List ℕ) → is_word word ≡ true → All (λ b. (b == mark) ≡ false) word
-word_without mark none word h k d l = none (get_or word k d) (and_at (list_all may_stand) may_stand refl (λ _ _. refl) word k d l (both_hold (nat_lt 0 (length word)) (list_all may_stand word) h).1)
+word_without mark none word h k d l = none (get_or word k d) (and_at (list_all may_stand) may_stand refl (λ _ _. refl) word k d l (and_parts (nat_lt 0 (length word)) (list_all may_stand word) h).1)
 
 line_without : (words : List (List ℕ)) → list_all is_word words ≡ true → All (λ b. (b == 10) ≡ false) (join_with_byte 32 words)
 line_without [] h = All-nil (λ b. (b == 10) ≡ false)
-line_without (word ∷ []) h = word_without 10 no_feed word (both_hold (is_word word) true h).0
+line_without (word ∷ []) h = word_without 10 no_feed word (and_parts (is_word word) true h).0
 line_without (word ∷ next ∷ words) h =
-    let is = both_hold (is_word word) (list_all is_word (next ∷ words)) h in
+    let is = and_parts (is_word word) (list_all is_word (next ∷ words)) h in
     All-append (λ b. (b == 10) ≡ false) word (32 ∷ join_with_byte 32 (next ∷ words)) (word_without 10 no_feed word is.0)
     (All-cons (λ b. (b == 10) ≡ false) 32 (join_with_byte 32 (next ∷ words)) refl (line_without (next ∷ words) is.1))
 
 -- the words of a line
 line_again : (word : List ℕ) (words : List (List ℕ)) → list_all is_word (word ∷ words) ≡ true → slice_split (λ b. b == 32) (join_with_byte 32 (word ∷ words)) ≡ word ∷ words
-line_again word [] h = slice_split_none _ word (word_without 32 no_space word (both_hold (is_word word) true h).0)
+line_again word [] h = slice_split_none _ word (word_without 32 no_space word (and_parts (is_word word) true h).0)
 line_again word (next ∷ words) h =
-    let is = both_hold (is_word word) (list_all is_word (next ∷ words)) h in
+    let is = and_parts (is_word word) (list_all is_word (next ∷ words)) h in
     slice_split_at _ word 32 (join_with_byte 32 (next ∷ words)) (word_without 32 no_space word is.0) refl
     ∙ ap (λ (rest : List (List ℕ)). word ∷ rest) (line_again next words is.1)
 
@@ -52,8 +48,8 @@ pub spelled_is_read : (lines : List (List (List ℕ))) → are_plain lines ≡ t
 spelled_is_read [] h = refl
 spelled_is_read ([] ∷ lines) h = absurd (cc)
 spelled_is_read ((word ∷ words) ∷ lines) h =
-    let is = both_hold (nat_lt 0 (length (word ∷ words)) && list_all is_word (word ∷ words)) (are_plain lines) h in
-    let plain = (both_hold (nat_lt 0 (length (word ∷ words))) (list_all is_word (word ∷ words)) is.0).1 in
+    let is = and_parts (nat_lt 0 (length (word ∷ words)) && list_all is_word (word ∷ words)) (are_plain lines) h in
+    let plain = (and_parts (nat_lt 0 (length (word ∷ words))) (list_all is_word (word ∷ words)) is.0).1 in
     let line = join_with_byte 32 (word ∷ words) in
     ap words_in (append_assoc line (10 ∷ []) (text_of lines))
     ∙ ap (map (slice_split (λ b. b == 32))) (slice_split_at _ line 10 (text_of lines) (line_without (word ∷ words) plain) refl)

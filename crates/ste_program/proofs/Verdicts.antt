@@ -142,10 +142,13 @@ module _ (net : RawNet) (task : Assertion) (settled : IsSettled net) where
   each_from p (bits ∷ lists) (o ∷ outcomes) means all = and_from (p o) (list_all p outcomes) (means bits o (inl refl) all.0) (each_from p lists outcomes (λ b r there. means b r (inr there)) all.1)
 
   pub verdict_is : (vars : ℕ) (outcomes : List Outcome) → AllZip (IsOutcome net task) (lists_of vars) outcomes → IsVerdictOf net vars task (verdict_of outcomes)
-  verdict_is vars outcomes all = verdict_from vars (IsStrong net task) (IsWeak net task) (IsContradictory net task) (list_any is_strong outcomes) (list_any is_weak outcomes) (list_all is_contradictory outcomes)
-      (λ h. let found = some_found is_strong (lists_of vars) outcomes all h in (found.0, of_length vars found.0 found.1, strong_from found.0 found.2.0 found.2.2 found.2.1),
-       λ some. some_from is_strong some.0 (λ o is. from_strong some.0 o some.2 is) (lists_of vars) outcomes all (all_in vars some.0 some.1))
-      (λ h. let found = some_found is_weak (lists_of vars) outcomes all h in (found.0, of_length vars found.0 found.1, weak_from found.0 found.2.0 found.2.2 found.2.1),
-       λ some. some_from is_weak some.0 (λ o is. from_weak some.0 o some.2 is) (lists_of vars) outcomes all (all_in vars some.0 some.1))
-      (λ h bits long. let found = each_found is_contradictory bits (lists_of vars) outcomes all h (all_in vars bits long) in contradictory_from bits found.0 found.2 found.1,
-       λ each. each_from is_contradictory (lists_of vars) outcomes (λ bits o there is. from_contradictory bits o (each bits (of_length vars bits there)) is) all)
+  verdict_is vars outcomes all = verdict_from vars (IsStrong net task) (IsWeak net task) (IsContradictory net task) (list_any is_strong outcomes) (list_any is_weak outcomes) (list_all is_contradictory outcomes) (
+    λ h. let found = some_found is_strong (lists_of vars) outcomes all h in (found.0, of_length vars found.0 found.1, strong_from found.0 found.2.0 found.2.2 found.2.1),
+    λ some. some_from is_strong some.0 (λ o is. from_strong some.0 o some.2 is) (lists_of vars) outcomes all (all_in vars some.0 some.1),
+  ) (
+    λ h. let found = some_found is_weak (lists_of vars) outcomes all h in (found.0, of_length vars found.0 found.1, weak_from found.0 found.2.0 found.2.2 found.2.1),
+    λ some. some_from is_weak some.0 (λ o is. from_weak some.0 o some.2 is) (lists_of vars) outcomes all (all_in vars some.0 some.1),
+  ) (
+    λ h bits long. let found = each_found is_contradictory bits (lists_of vars) outcomes all h (all_in vars bits long) in contradictory_from bits found.0 found.2 found.1,
+    λ each. each_from is_contradictory (lists_of vars) outcomes (λ bits o there is. from_contradictory bits o (each bits (of_length vars bits there)) is) all,
+  )

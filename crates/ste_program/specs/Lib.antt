@@ -7,3 +7,4 @@ pub mod Task
 pub mod Choices
 pub mod Sets
 pub mod Outcome
+pub mod Answer

@@ -51,7 +51,13 @@ fn all_choices(alloc: Global) -> Result<Vec<Items<Items<bool>>>, AllocError>
 }
 
 /// What is found of an assertion under one assignment, from the rows of its possible table.
-fn outcome_of(net: &Net, task: &Assertion, bits: &[bool], rows: &[Items<BitSet>], depth: Time) -> Outcome
+fn outcome_of(
+    net: &Net,
+    task: &Assertion,
+    bits: &[bool],
+    rows: &[Items<BitSet>],
+    depth: Time,
+) -> Outcome
     requires depth { depth ≡ depth_of task.now }
     requires long { length rows.now ≡ depth }
     requires wide { All (λ row. length row ≡ net.now.raw.nets) rows.now }

@@ -2,7 +2,9 @@
 #![tactic(auto)]
 
 mod check;
+mod flat;
 pub mod io;
+mod judge;
 pub mod netlist;
 pub mod task;
 mod words;
