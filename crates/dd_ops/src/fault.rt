@@ -1,0 +1,24 @@
+use dd_nodes::MkFault;
+
+/// Why an operation has no result.
+#[derive(Clone, Copy, Debug, PartialEq, Eq, Drop)]
+pub enum OpFault {
+    /// A node of the result is new, and the store may make no more.
+    StepsOut,
+    /// There is no memory for a node, or for what the call remembers.
+    OutOfMemory,
+}
+
+impl From<MkFault> for OpFault {
+    ghost use Rattle.std.specs.Prelude.{◌≡◌};
+    ghost use Rattle.dd_ops.specs.Answer.{op_fault};
+
+    ghost from_gives = { λ fault result. result ≡ op_fault fault };
+
+    fn from(fault: MkFault) -> OpFault {
+        match fault {
+            MkFault::StepsOut => OpFault::StepsOut,
+            MkFault::OutOfMemory => OpFault::OutOfMemory,
+        }
+    }
+}
