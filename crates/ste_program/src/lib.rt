@@ -3,6 +3,7 @@
 
 mod check;
 pub mod io;
+mod lines;
 pub mod netlist;
 pub mod task;
 mod words;
