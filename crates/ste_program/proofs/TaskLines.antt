@@ -1,4 +1,4 @@
--- The lines of a task: each clause has one line, and no two tasks have the same lines.
+-- The lines of clauses: what the words of a line say, and which lines are no clauses.
 use Rattle.std.proofs.Common.{◌≡◌, ℕ, true, false, ◌<◌, ◌≤◌, List, [], ◌∷◌, map, length, get_or, drop, refl, sym, ap, ◌∙◌, arith}
 use Rattle.std.specs.Prelude.{◌≢◌, ◌&&◌, codes, if◌then◌else◌, IsTrue, nat_le}
 use Rattle.std.specs.List.{list_all}

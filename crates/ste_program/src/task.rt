@@ -1,16 +1,19 @@
-ghost use Rattle.std.specs.Prelude.{◌≡◌, ◌≢◌, ◌≤◌, ◌<◌, ◌&&◌, ◌||◌, ℕ, Bool, List, map, codes, IfOk, IfSome, IfNone, IsTrue, [], ◌∷◌, ◌++◌, length, nat_le, if◌then◌else◌};
-ghost use Rattle.std.specs.List.{list_all};
+ghost use Rattle.std.specs.Prelude.{◌≡◌, ◌≢◌, ◌≤◌, ◌<◌, ◌&&◌, ◌||◌, ℕ, Bool, List, map, codes, IfOk, IfSome, IfNone, IsTrue, OnErr, All, [], ◌∷◌, ◌++◌, length, false, nat_le, slice_index_or, if◌then◌else◌};
+ghost use Rattle.std.specs.List.{list_all, position, position_or_len};
 ghost use Rattle.std.specs.Str.{bytes_eq};
 ghost use Rattle.ste_base.specs.Number.{number_of};
+ghost use Rattle.bool_expr.specs.Value.{value_of};
 ghost use Rattle.ste_program.specs.declared.task.Value.{Value};
 ghost use Rattle.ste_program.specs.declared.task.Clause.{Clause};
 ghost use Rattle.ste_program.specs.declared.task.TaskText.{TaskText};
 ghost use Rattle.ste_program.specs.Words.{are_distinct, are_plain, is_among};
-ghost use Rattle.ste_program.specs.Task.{value_word, clause_line, vars_lines, task_lines, is_letter, is_digit, is_variable, is_value, is_number, is_clause, is_task};
+ghost use Rattle.ste_program.specs.Task.{value_word, clause_line, vars_lines, task_lines, is_letter, is_digit, is_variable, is_value, is_number, is_clause, is_task, bit_of, IsQuintOf, IsAssertionOf};
 
 use crate::lines::{are_distinct, before_end, copies, is_among, line_behind};
+use bool_expr::Expr;
 use std::alloc::{AllocError, Global};
-use ste_base::{Items, Name, Time, read_number};
+use ste_base::{Items, Name, NodeId, Time, VarId, read_number};
+use ste_model::{Assertion, Quint};
 
 /// The value of a clause: a bit, a variable, or a variable with its sign turned.
 #[derive(Debug, Drop)]
@@ -262,4 +265,95 @@ pub fn task_of(
         name: name.clone()?,
         clauses,
     }))
+}
+
+/// The first place of the word among these.
+fn position_of(words: &[Name], word: &Name) -> Option<usize>
+    ensures { result ≡ position (bytes_eq word.now) words.now }
+{
+    words.iter().position(|other| word == other)
+}
+
+/// The first place of the word among these; an error where there are more of them than a number tells apart.
+#[tactic(auto, using(crate::proofs::Quints::found_within))]
+fn place_of(words: &[Name], word: &Name) -> Result<u32, AllocError>
+    requires { IsTrue (is_among words.now word.now) }
+    ensures ok { IfOk result (λ place. (place ≡ position_or_len (bytes_eq word.now) words.now) × (place < length words.now)) }
+    ensures err { OnErr result (4294967295 < length words.now) }
+{
+    let place = position_of(words, word).unwrap();
+    u32::try_from(place).map_err(|_| AllocError)
+}
+
+/// The variable of this name.
+fn variable(vars: &[Name], name: &Name) -> Result<Expr, AllocError>
+    requires { IsTrue (is_among vars.now name.now) }
+    ensures { IfOk result (λ expr. (bits : List Bool) → value_of expr bits ≡ slice_index_or bits (position_or_len (bytes_eq name.now) vars.now) false) }
+{
+    Ok(Expr::Var(VarId(place_of(vars, name)?)))
+}
+
+/// The expression that is worth what the value is.
+fn expr_of(alloc: Global, value: &Value, vars: &[Name]) -> Result<Expr, AllocError>
+    requires { IsTrue (is_value vars.now value.now) }
+    ensures { IfOk result (λ expr. (bits : List Bool) → value_of expr bits ≡ bit_of vars.now bits value.now) }
+{
+    match value {
+        Value::Const(bit) => Ok(Expr::Const(*bit)),
+        Value::Variable(name) => variable(vars, name),
+        Value::Negated(name) => Ok(Expr::Not(Box::new(alloc, variable(vars, name)?)?)),
+    }
+}
+
+/// The time that a word is.
+fn time(word: &Name) -> Time
+    requires { IsTrue (is_number word.now) × (number_of word.now ≤ 20) }
+    ensures { result ≡ number_of word.now }
+{
+    time_of(word).unwrap()
+}
+
+/// The quintuple of a clause.
+fn quint_of(
+    alloc: Global,
+    clause: &Clause,
+    names: &[Name],
+    vars: &[Name],
+) -> Result<Quint, AllocError>
+    requires { IsTrue (is_clause names.now vars.now clause.now) }
+    ensures quint { IfOk result (λ quint. IsQuintOf names.now vars.now clause.now quint) }
+    ensures net { IfOk result (λ quint. quint.node.0 < length names.now) }
+{
+    Ok(Quint {
+        guard: Expr::Const(true),
+        node: NodeId(place_of(names, &clause.node)?),
+        value: expr_of(alloc, &clause.value, vars)?,
+        from: time(&clause.from),
+        to: time(&clause.to),
+    })
+}
+
+/// The assertion of a task over a net with these signals.
+pub fn assertion_of(alloc: Global, names: &[Name], task: &TaskText) -> Result<Assertion, AllocError>
+    requires { IsTrue (is_task names.now task.now) }
+    ensures assertion { IfOk result (λ assertion. IsAssertionOf names.now task.now assertion) }
+    ensures nets { IfOk result (λ assertion. All (λ quint. quint.node.0 < length names.now) assertion.ant) }
+    ensures con_nets { IfOk result (λ assertion. All (λ quint. quint.node.0 < length names.now) assertion.con) }
+{
+    let mut ant = Items::new(alloc);
+    let mut con = Items::new(alloc);
+    for clause in task.clauses.as_slice() {
+        let quint = quint_of(alloc, clause, names, task.vars.as_slice())?;
+        if clause.given {
+            ant.push(quint)?;
+        } else {
+            con.push(quint)?;
+        }
+    }
+    Ok(Assertion {
+        name: task.name.clone()?,
+        reset: false,
+        ant,
+        con,
+    })
 }
