@@ -5,6 +5,7 @@ mod check;
 mod flat;
 pub mod io;
 mod judge;
+mod lines;
 pub mod netlist;
 pub mod task;
 mod words;

@@ -6,6 +6,7 @@ ghost use Rattle.ste_program.specs.declared.netlist.Netlist.{Netlist};
 ghost use Rattle.ste_program.specs.Words.{are_distinct, are_plain, is_among};
 ghost use Rattle.ste_program.specs.Netlist.{code_of, row_line, part_lines, netlist_lines, is_part, output_of, driven, latch_inputs, latch_outputs, are_settled, is_netlist};
 
+use crate::lines::{are_distinct, before_end, behind, copies, is_among, line_behind};
 use net_core::{Lit, Row};
 use std::alloc::{AllocError, Global};
 use ste_base::{Items, Name};
@@ -31,26 +32,6 @@ pub struct Netlist {
     pub inputs: Items<Name>,
     pub outputs: Items<Name>,
     pub parts: Items<Part>,
-}
-
-/// What stands behind the first word of a line, where that is the key.
-fn behind<'a>(words: &'a [Name], key: &[u8]) -> Option<&'a [Name]>
-    ensures some { IfSome result (λ rest. words.now ≡ key.now ∷ rest.now) }
-    ensures none { IfNone result ((rest : List (List ℕ)) → words.now ≢ key.now ∷ rest) }
-{
-    let (first, rest) = words.split_first()?;
-    if first.bytes() == key {
-        Some(rest)
-    } else {
-        None
-    }
-}
-
-/// A copy of these words.
-fn copies(alloc: Global, words: &[Name]) -> Result<Items<Name>, AllocError>
-    ensures { IfOk result (λ copy. copy ≡ words.now) }
-{
-    Ok(words.to_vec(alloc)?.into())
 }
 
 /// The literal that a byte is.
@@ -183,27 +164,6 @@ fn parts_of(alloc: Global, lines: &[Items<Name>]) -> Result<Option<Items<Part>>,
     Ok(Some(parts))
 }
 
-/// What stands behind the key on the first line, and the lines behind that one.
-fn line_behind<'a>(lines: &'a [Items<Name>], key: &[u8]) -> Option<(&'a [Name], &'a [Items<Name>])>
-    ensures some { IfSome result (λ found. lines.now ≡ (key.now ∷ found.0.now) ∷ found.1.now) }
-    ensures none { IfNone result ((words : List (List ℕ)) (rest : List (List (List ℕ))) → lines.now ≢ (key.now ∷ words) ∷ rest) }
-{
-    let (line, rest) = lines.split_first()?;
-    Some((behind(line.as_slice(), key)?, rest))
-}
-
-/// The lines before the last, where that is the end.
-fn before_end(lines: &[Items<Name>]) -> Option<&[Items<Name>]>
-    ensures some { IfSome result (λ body. lines.now ≡ body.now ++ (codes ".end" ∷ []) ∷ []) }
-    ensures none { IfNone result ((body : List (List (List ℕ))) → lines.now ≢ body ++ (codes ".end" ∷ []) ∷ []) }
-{
-    let (end, body) = lines.split_last()?;
-    match behind(end.as_slice(), b".end") {
-        Some([]) => Some(body),
-        _ => None,
-    }
-}
-
 /// The netlist that these lines spell, be it sound or not.
 fn spelled(alloc: Global, lines: &[Items<Name>]) -> Result<Option<Netlist>, AllocError>
     ensures some { IfOk result (λ found. IfSome found (λ netlist. lines.now ≡ netlist_lines netlist)) }
@@ -232,32 +192,11 @@ fn spelled(alloc: Global, lines: &[Items<Name>]) -> Result<Option<Netlist>, Allo
     }))
 }
 
-/// Whether the word is one of these.
-pub fn is_among(words: &[Name], word: &Name) -> bool
-    ensures { result ≡ is_among words.now word.now }
-{
-    words.iter().any(|other| word == other)
-}
-
 /// Whether each of the words is one of those that are known.
 fn all_among(known: &[Name], words: &[Name]) -> bool
     ensures { result ≡ list_all (is_among known.now) words.now }
 {
     words.iter().all(|word| is_among(known, word))
-}
-
-/// Whether no word stands twice.
-fn are_distinct(words: &[Name]) -> bool
-    ensures { result ≡ are_distinct words.now }
-{
-    let mut rest = words;
-    while let Some((word, more)) = rest.split_first() {
-        if is_among(more, word) {
-            return false;
-        }
-        rest = more;
-    }
-    true
 }
 
 /// Whether each row has this many literals.

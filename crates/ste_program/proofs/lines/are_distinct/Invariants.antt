@@ -1,6 +1,6 @@
 use Rattle.std.proofs.Common.{◌≡◌, length}
 use Rattle.ste_program.specs.Words.{are_distinct}
-use Rattle.ste_program.proofs.netlist.are_distinct.Given as goal
+use Rattle.ste_program.proofs.lines.are_distinct.Given as goal
 
 -- the words that are left decide
 abbrev pub invariant-loop-word : goal.invariant-loop-word
