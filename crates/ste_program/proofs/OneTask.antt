@@ -11,7 +11,7 @@ use Rattle.ste_program.specs.declared.task.Clause.{Clause}
 use Rattle.ste_program.specs.declared.task.TaskText.{TaskText}
 use Rattle.ste_program.specs.Words.{is_among}
 use Rattle.ste_program.specs.Task.{value_word, clause_line, vars_lines, task_lines, is_letter, is_variable, is_value, is_clause, is_task}
-use Rattle.ste_program.proofs.Splits.{both_hold}
+use Rattle.std.proofs.lemmas.Bool.{and_parts}
 use Rattle.ste_program.proofs.Quints.{task_parts}
 
 among_step : (test : List ℕ → Bool) (next word : List ℕ) (here rest : Bool) → test next ≡ true → (here ≡ true → word ≡ next) → (here || rest) ≡ true → (rest ≡ true → test word ≡ true) → test word ≡ true
@@ -22,7 +22,7 @@ among_step test next word false rest f same h more = more h
 among_passes : (test : List ℕ → Bool) (words : List (List ℕ)) (word : List ℕ) → list_all test words ≡ true → is_among words word ≡ true → test word ≡ true
 among_passes test [] word f g = absurd (cc)
 among_passes test (next ∷ words) word f g =
-    let both = both_hold (test next) (list_all test words) f in
+    let both = and_parts (test next) (list_all test words) f in
     among_step test next word (bytes_eq word next) (is_among words word) both.0 (bytes_eq-Decides word next).0 g (among_passes test words word both.1)
 
 -- a variable begins with no digit, and with no sign
@@ -91,8 +91,8 @@ clauses_same names vars [] [] h f g e = refl
 clauses_same names vars [] (y ∷ b) h f g e = absurd (cc)
 clauses_same names vars (x ∷ a) [] h f g e = absurd (cc)
 clauses_same names vars (x ∷ a) (y ∷ b) h f g e =
-    let first = both_hold (is_clause names vars x) (list_all (is_clause names vars) a) f in
-    let second = both_hold (is_clause names vars y) (list_all (is_clause names vars) b) g in
+    let first = and_parts (is_clause names vars x) (list_all (is_clause names vars) a) f in
+    let second = and_parts (is_clause names vars y) (list_all (is_clause names vars) b) g in
     let line : clause_line x ≡ clause_line y = cc in
     let lines : map clause_line a ≡ map clause_line b = cc in
     let here = clause_same names vars x y h first.0 second.0 line in

@@ -8,11 +8,13 @@ use Rattle.ste_model.specs.declared.verdict.Verdict.TheVariants.{Pass, Weak, Str
 use Rattle.ste_model.specs.Found.{IsVerdictOf}
 use Rattle.ste_model.specs.Holds.{Holds}
 use Rattle.ste_program.specs.declared.netlist.Netlist.{Netlist}
+use Rattle.ste_program.specs.declared.run.Status.{Status}
+use Rattle.ste_program.specs.declared.run.Status.TheVariants.{Passed, NotPassed, NoMemory}
 use Rattle.ste_program.specs.declared.task.TaskText.{TaskText}
 use Rattle.ste_program.specs.Causes.{Rose}
 use Rattle.ste_program.specs.Flat.{flat_of, signals}
 use Rattle.ste_program.specs.Netlist.{is_netlist, netlist_lines}
-use Rattle.ste_program.specs.Outside.{Store, with_more}
+use Rattle.ste_program.specs.Outside.{Store, with_more, with_names}
 use Rattle.ste_program.specs.Task.{is_task, task_lines, IsAssertionOf}
 use Rattle.ste_program.specs.Words.{text_of}
 
@@ -61,18 +63,28 @@ pub record IsReading (net_text task_text : List ℕ) (netlist : Netlist) (task :
   pub task_sound : IsTrue (is_task (signals netlist) task)
   pub task_spelled : task_text ≡ text_of (task_lines task)
 
--- The report on two texts: the netlist and the task that they spell have this verdict, and the line says so. Where the
--- verdict is pass, or contradictory antecedent, the assertion holds: for every assignment, each two-valued run of its
--- depth that meets the antecedent meets the consequent.
-pub record IsReport (net_text task_text : List ℕ) (verdict : Verdict) (line : List ℕ) : Type 0 where
-  pub netlist : Netlist
-  pub task : TaskText
-  pub reading : IsReading net_text task_text netlist task
+-- Law: two texts have one reading at most.
+abbrev pub OneReading : Type 0
+OneReading =
+    (net_text task_text : List ℕ) (netlist other : Netlist) (task another : TaskText) →
+    IsReading net_text task_text netlist task → IsReading net_text task_text other another → (netlist ≡ other) × (task ≡ another)
+
+-- The report on a netlist and a task over its signals: the task's assertion has this verdict on the flat net, and the
+-- line says so. Where the verdict is pass, or contradictory antecedent, the assertion holds: for every assignment, each
+-- two-valued run of its depth that meets the antecedent meets the consequent.
+pub record IsJudged (netlist : Netlist) (task : TaskText) (verdict : Verdict) (line : List ℕ) : Type 0 where
   pub assertion : Assertion
   pub meaning : IsAssertionOf (signals netlist) task assertion
   pub judged : IsVerdictOf (flat_of netlist) (length task.vars) assertion verdict
   pub written : line ≡ report_line task.name verdict
   pub holds : (verdict ≡ Pass) ⊎ (verdict ≡ Vacuous) → Holds (flat_of netlist) (length task.vars) assertion
+
+-- the report on the netlist and the task that two texts spell
+pub record IsReport (net_text task_text : List ℕ) (verdict : Verdict) (line : List ℕ) : Type 0 where
+  pub netlist : Netlist
+  pub task : TaskText
+  pub reading : IsReading net_text task_text netlist task
+  pub judged : IsJudged netlist task verdict line
 
 -- the two texts are not of the forms that are read
 abbrev pub IsUnread : List ℕ → List ℕ → Type 0
@@ -106,6 +118,60 @@ IsNotYet store words =
     ⊎ (((net : List ℕ) × (task : List ℕ) × IsCheck words net task × (IsOversized store net ⊎ IsOversized store task))
     ⊎ ((net_text : List ℕ) × (task_text : List ℕ) × AreTexts store words net_text task_text × IsUnread net_text task_text))
 
--- the message went to the sink whole, or the sink failed on the way
-abbrev pub IsTold : List ℕ → Option (List ℕ) → Option (List ℕ) → Type 0 → Type 0
-IsTold message err err' failed = (err' ≡ with_more err message) ⊎ (failed × ((n : ℕ) × (err' ≡ with_more err (take n message))))
+-- The files were asked for the two names that the words name, in order, or for the first of them alone, or for none;
+-- other words ask for nothing.
+pub record IsAsked (words : List (String Global)) (asked asked' : Option (List (List ℕ))) : Type 0 where
+  pub nothing : ((net task : List ℕ) → ¬ IsCheck words net task) → asked' ≡ asked
+  pub names : (net task : List ℕ) → IsCheck words net task → (n : ℕ) × (asked' ≡ with_names asked (take n (net ∷ task ∷ [])))
+
+-- the name of the netlist's file or of the task's
+abbrev pub IsNamed : List (String Global) → List ℕ → Type 0
+IsNamed words name = (other : List ℕ) × (IsCheck words name other ⊎ IsCheck words other name)
+
+-- The report was written whole, and no message.
+pub record Reported (store : Store) (words : List (String Global)) (verdict : Verdict) (out out' err err' : Option (List ℕ)) : Type 0 where
+  pub line : List ℕ
+  pub checked : IsChecked store words verdict line
+  pub written : out' ≡ with_more out line
+  pub silent : err' ≡ err
+
+-- the message went to the sink whole, or the sink failed on the way, which its count of faults tells
+abbrev pub IsTold : List ℕ → Option (List ℕ) → Option (List ℕ) → ℕ → ℕ → Type 0
+IsTold message err err' before now = (err' ≡ with_more err message) ⊎ (Rose before now × ((n : ℕ) × (err' ≡ with_more err (take n message))))
+
+-- A file could not be read: nothing is on the output.
+pub record CannotRead (words : List (String Global)) (files_before files_now : ℕ) (out out' err err' : Option (List ℕ)) (err_before err_now : ℕ) : Type 0 where
+  pub name : List ℕ
+  pub named : IsNamed words name
+  pub failed : Rose files_before files_now
+  pub untouched : out' ≡ out
+  pub told : IsTold (cannot_read name) err err' err_before err_now
+
+-- The output failed: it has taken the first bytes of the report.
+pub record CannotWrite (holds : Option Store) (words : List (String Global)) (out out' : Option (List ℕ)) (out_before out_now : ℕ) (err err' : Option (List ℕ)) (err_before err_now : ℕ) : Type 0 where
+  pub failed : Rose out_before out_now
+  pub partly : (store : Store) → holds ≡ Some store → (verdict : Verdict) × (line : List ℕ) × (n : ℕ) × IsChecked store words verdict line × (out' ≡ with_more out (take n line))
+  pub told : IsTold cannot_write err err' err_before err_now
+
+-- The message of a refusal could not be written: the error sink has taken its first bytes, and nothing is on the output.
+pub record CannotTell (holds : Option Store) (words : List (String Global)) (out out' err err' : Option (List ℕ)) (err_before err_now : ℕ) : Type 0 where
+  pub failed : Rose err_before err_now
+  pub untouched : out' ≡ out
+  pub message : List ℕ
+  pub cause : ((message ≡ not_yet) × ((store : Store) → holds ≡ Some store → IsNotYet store words)) ⊎ (message ≡ out_of_memory)
+  pub partly : (n : ℕ) × (err' ≡ with_more err (take n message))
+
+-- the words name two files that are not too large, and whose texts are of the forms that are read
+pub record IsReadable (store : Store) (words : List (String Global)) : Type 0 where
+  pub net_text : List ℕ
+  pub task_text : List ℕ
+  pub texts : AreTexts store words net_text task_text
+  pub net_small : length net_text ≤ greatest
+  pub task_small : length task_text ≤ greatest
+  pub netlist : Netlist
+  pub task : TaskText
+  pub reading : IsReading net_text task_text netlist task
+
+-- the answer of a run that nothing failed: a report, or want of memory
+abbrev pub IsAnswer : Status → Type 0
+IsAnswer status = (status ≡ Passed) ⊎ ((status ≡ NotPassed) ⊎ (status ≡ NoMemory))

@@ -3,7 +3,8 @@ ghost use Rattle.std.specs.List.{list_all, position};
 ghost use Rattle.ste_program.specs.Netlist.{is_netlist, is_part};
 ghost use Rattle.ste_program.specs.Flat.{with_mention, signals_of, signals, net_of, gates_from, covers_of, latches_of, flat_of};
 
-use crate::netlist::{Netlist, Part, is_among};
+use crate::lines::is_among;
+use crate::netlist::{Netlist, Part};
 use net_core::{Cover, Gate, Init, Latch, Net, RawNet, Row, order};
 use std::alloc::{AllocError, Global};
 use ste_base::{Items, Name, NodeId};

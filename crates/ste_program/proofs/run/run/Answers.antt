@@ -1,0 +1,16 @@
+use Rattle.std.proofs.Common.{◌≡◌, inl, inr, refl, sym}
+use Rattle.ste_program.specs.Answer.{not_yet}
+use Rattle.ste_program.proofs.Commands.{memory_told, not_told}
+use Rattle.ste_program.proofs.Complete.{never_refused}
+use Rattle.ste_program.proofs.run.run.Goals as goal
+
+pub returns-in-Err-NotYet-clause-faulted : goal.returns-in-Err-NotYet-clause-faulted
+returns-in-Err-NotYet-clause-faulted g c = λ e. inr (inr (not_told _ _ _ _ _ _ _ not_yet c.tell.result (inl (refl, rw c.in-Err-NotYet.field-0-is at c.in-Err-NotYet.ensures.not_yet refl)) c.tell.ensures.told e))
+
+pub returns-in-Err-NotYet-clause-complete : goal.returns-in-Err-NotYet-clause-complete
+returns-in-Err-NotYet-clause-complete g c = λ store told readable files out err.
+    let refused = rw c.in-Err-NotYet.field-0-is at c.in-Err-NotYet.ensures.not_yet in
+    never_refused store c.args.words.now c.tell.result readable (refused refl store told)
+
+pub returns-in-Err-OutOfMemory-clause-no_memory : goal.returns-in-Err-OutOfMemory-clause-no_memory
+returns-in-Err-OutOfMemory-clause-no_memory g c = λ e. memory_told _ _ _ _ _ _ c.tell-in-Err-OutOfMemory.ensures.told e
