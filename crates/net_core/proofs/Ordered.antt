@@ -1,6 +1,6 @@
 -- Nets whose gates stand in a settled order.
-use Rattle.std.proofs.Common.{◌≡◌, ◌≢◌, ℕ, ◌<◌, ◌≤◌, zero, suc, true, List, [], map, length, get_or, arith, sym, ap, subst, ◌∙◌, eq-eqb, eqb, inl, inr}
-use Rattle.std.specs.Prelude.{AllPairs, ◌==◌, IsTrue}
+use Rattle.std.proofs.Common.{◌≡◌, ◌∷◌, ◌≢◌, ℕ, ◌<◌, ◌≤◌, zero, suc, true, List, [], map, length, get_or, arith, sym, ap, subst, ◌∙◌, eq-eqb, eqb, inl, inr}
+use Rattle.std.specs.Prelude.{All, AllPairs, ◌==◌, IsTrue}
 use Rattle.std.specs.List.{list_any}
 use Rattle.std.proofs.lemmas.Bool.{cases_lt, eqb-true}
 use Rattle.std.proofs.lemmas.List.{get_or_default, length-map, get_or-map}
@@ -9,6 +9,7 @@ use Rattle.std.proofs.lemmas.List.Folds.{Any-from_list_any, list_any_at}
 use Rattle.std.proofs.lemmas.Map.Steps.{length-le_from_distinct_below}
 use Rattle.std.proofs.lemmas.Map.Made.{IsDistinct-from_AllPairs}
 use Rattle.net_core.specs.declared.raw.Gate.{Gate}
+use Rattle.net_core.specs.declared.raw.Latch.{Latch}
 use Rattle.net_core.specs.declared.raw.RawNet.{RawNet}
 use Rattle.net_core.specs.Run.{IsSettledAt, IsSettled}
 use Rattle.net_core.specs.Flat.{IsInRange, HasOneDriver, IsListedInOrder, IsSettledOrder}
@@ -47,23 +48,27 @@ settles net order is (suc n) id none = λ g d l e.
 pub settled_by_order : (net : RawNet) (order : List ℕ) → IsSettledOrder net order → IsSettled net
 settled_by_order net order is id = (suc (length order), settles net order is (length order) id (λ k d le lt. absurd (omega arith)))
 
+-- drivers of different nets are at most as many as the nets
+few_drivers : {D : Type 0} (net_of : D → ℕ) (drivers : List D) (n : ℕ) → All (λ d. net_of d < n) drivers → AllPairs (λ one other. net_of one ≢ net_of other) drivers → length drivers ≤ n
+few_drivers net_of [] n below apart = omega arith
+few_drivers net_of (first ∷ rest) n below apart =
+    let drivers = first ∷ rest in
+    let outputs = map net_of drivers in
+    let long : length outputs ≡ length drivers = length-map drivers net_of in
+    let at = λ (i e : ℕ) (l : i < length outputs). get_or-map net_of drivers i first e (omega (arith, long, l)) in
+    let different : AllPairs (λ (x y : ℕ). x ≢ y) outputs = λ i j e l m same.
+    apart i j first l (omega (arith, long, m)) (sym (at i e (omega (arith, l, m))) ∙ same ∙ at j e m) in
+    let small : (q : ℕ) → list_any (eqb q) outputs ≡ true → q < n = λ q h.
+    let any = Any-from_list_any (eqb q) outputs h in
+    let low = below any.0 first (omega (arith, long, any.2)) in
+    omega (arith, low, at any.0 any.1 any.2, any.3, eqb-true q any.1 any.4) in
+    let few = length-le_from_distinct_below outputs n (IsDistinct-from_AllPairs Decides-eqb outputs different) small in
+    omega (arith, few, long)
+
 -- as many gates as nets at most
 pub few_gates : (net : RawNet) → IsInRange net → HasOneDriver net → length net.gates ≤ net.nets
-few_gates net range one =
-    let outputs = map (λ (gate : Gate). gate.output.0) net.gates in
-    let long : length outputs ≡ length net.gates = length-map net.gates (λ (gate : Gate). gate.output.0) in
-    let apart : AllPairs (λ (x y : ℕ). x ≢ y) outputs = λ i j d l m.
-    let g : Gate = record { inputs = []; output = record { 0 = d }; cover = 0 } in
-    let one_at = get_or-map (λ (gate : Gate). gate.output.0) net.gates i g d (omega (arith, long)) in
-    let other_at = get_or-map (λ (gate : Gate). gate.output.0) net.gates j g d (omega (arith, long)) in
-    rw (one_at, other_at) (one.gates i j g l (omega (arith, long))) in
-    let below : (q : ℕ) → list_any (eqb q) outputs ≡ true → q < net.nets = λ q h.
-    let any = Any-from_list_any (eqb q) outputs h in
-    let g : Gate = record { inputs = []; output = record { 0 = any.1 }; cover = 0 } in
-    let at = get_or-map (λ (gate : Gate). gate.output.0) net.gates any.0 g any.1 (omega (arith, long, any.2)) in
-    let low = range.gate_outputs any.0 g (omega (arith, long, any.2)) in
-    let here = any.3 in
-    let same = eqb-true q any.1 any.4 in
-    omega (arith, at, low, here, same) in
-    let few = length-le_from_distinct_below outputs net.nets (IsDistinct-from_AllPairs Decides-eqb outputs apart) below in
-    omega (arith, few, long)
+few_gates net range one = few_drivers (λ (gate : Gate). gate.output.0) net.gates net.nets range.gate_outputs one.gates
+
+-- as many latches as nets at most
+pub few_latches : (net : RawNet) → IsInRange net → HasOneDriver net → length net.latches ≤ net.nets
+few_latches net range one = few_drivers (λ (latch : Latch). latch.output.0) net.latches net.nets range.latch_outputs one.latches

@@ -2,3 +2,4 @@ pub mod Cover
 pub mod Run
 pub mod Possible
 pub mod Flat
+pub mod Source

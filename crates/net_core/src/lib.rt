@@ -7,8 +7,10 @@ pub mod cover;
 pub mod law;
 pub mod net;
 pub mod raw;
+pub mod source;
 
 pub use bit_set::BitSet;
 pub use cover::{Cover, Lit, Row, eval};
-pub use net::{Net, order};
+pub use net::{Net, order, settles};
 pub use raw::{Gate, Init, Latch, RawNet};
+pub use source::Source;

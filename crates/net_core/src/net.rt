@@ -1,8 +1,12 @@
-ghost use Rattle.std.specs.Prelude.{◌≡◌, ◌<◌, ℕ, Some, length, IfOk, slice_get, slice_index};
+ghost use Rattle.std.specs.Prelude.{◌≡◌, ◌<◌, ◌==◌, ℕ, Some, length, position, IfOk, slice_get, slice_index};
+ghost use Rattle.std.specs.List.{list_any};
+ghost use Rattle.net_core.specs.Run.{IsSettled};
+ghost use Rattle.net_core.specs.Source.{source_of};
 ghost use Rattle.net_core.specs.Flat.{IsInRange, HasOneDriver, IsListedInOrder, IsSettledOrder};
 
 use crate::cover::Cover;
 use crate::raw::{Gate, Latch, RawNet};
+use crate::source::Source;
 use std::alloc::{AllocError, Global};
 use ste_base::{Items, NodeId};
 
@@ -60,12 +64,58 @@ impl Net {
         &self.raw.covers.as_slice()[number as usize]
     }
 
+    /// What drives a net. The call goes through the inputs, the gates and the latches.
+    pub fn source(&self, id: NodeId) -> Source
+        requires { id.0 < self.now.raw.nets }
+        ensures { result ≡ source_of self.now.raw id.0 }
+    {
+        let _nets = self.raw.nets;
+        if is_input(self.inputs(), id) {
+            return Source::Input;
+        }
+        match driving_gate(self.gates(), id) {
+            Some(gate) => Source::Gate(gate as u32),
+            None => match driving_latch(self.latches(), id) {
+                Some(latch) => Source::Latch(latch as u32),
+                None => Source::Free,
+            },
+        }
+    }
+
     /// The gates' numbers in an order in which each gate follows those that drive its inputs.
     pub fn settled(&self) -> &[u32]
         ensures { result.now ≡ self.now.settled }
     {
         self.settled.as_slice()
     }
+}
+
+/// Whether a net is one of the inputs.
+fn is_input(inputs: &[NodeId], id: NodeId) -> bool
+    ensures { result ≡ list_any (λ input. input.0 == id.0) inputs.now }
+{
+    inputs.iter().any(|input| input.0 == id.0)
+}
+
+/// The number of the gate that drives a net.
+fn driving_gate(gates: &[Gate], id: NodeId) -> Option<usize>
+    ensures { result ≡ position (λ gate. gate.output.0 == id.0) gates.now }
+{
+    gates.iter().position(|gate| gate.output.0 == id.0)
+}
+
+/// The number of the latch that drives a net.
+fn driving_latch(latches: &[Latch], id: NodeId) -> Option<usize>
+    ensures { result ≡ position (λ latch. latch.output.0 == id.0) latches.now }
+{
+    latches.iter().position(|latch| latch.output.0 == id.0)
+}
+
+/// Law: in a `Net` there is no loop of gates.
+pub fn settles(net: &Net)
+    ensures { IsSettled net.now.raw }
+{
+    let _ = net;
 }
 
 /// The numbers from 0 to below `count`, in order.
