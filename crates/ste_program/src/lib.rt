@@ -10,4 +10,6 @@ mod lines;
 pub mod netlist;
 pub mod run;
 pub mod task;
+#[cfg(test)]
+mod tests;
 mod words;
