@@ -1,4 +1,4 @@
-ghost use Rattle.std.specs.Prelude.{◌≡◌, ◌≢◌, ◌+◌, ◌<◌, ◌≤◌, length, All, IfOk, IsSome, OnErr};
+ghost use Rattle.std.specs.Prelude.{◌≡◌, ◌≢◌, ◌+◌, ◌<◌, ◌≤◌, length, All, IfOk, IsOk, IsSome, OnErr};
 ghost use Rattle.std.specs.List.{AllPairs};
 ghost use Rattle.dd_nodes.specs.Diagram.{IsFrom, IsDiagram};
 ghost use Rattle.dd_nodes.specs.Stores.{Store, Keeps, StandsFor, AddsOnly, IsThere, IsRefused};
@@ -11,7 +11,8 @@ pub trait Nodes {
     ghost store: { Self → Store };
 
     /// The reference of the node with these children: `lo` where they are one, and else the one reference that holds
-    /// the node. A node that is not held yet is made, which takes one step. After an error nothing is made.
+    /// the node. A node that is not held yet is made, which takes one step; for any other the call has no error. After
+    /// an error nothing is made.
     ///
     /// `StepsOut` comes only where the node would have to be made and `limit` nodes are made; all is unchanged then.
     fn mk(&mut self, var: u32, lo: Ref, hi: Ref) -> Result<Ref, MkFault>
@@ -21,7 +22,7 @@ pub trait Nodes {
         ensures keeps { Keeps (store self.old) (store self.new) }
         ensures ok { IfOk result (λ r. StandsFor (store self.new) var lo hi r) }
         ensures adds { IfOk result (λ r. AddsOnly (store self.old) (store self.new) r) }
-        ensures there { IsThere (store self.old) var lo hi → (store self.new).made ≡ (store self.old).made }
+        ensures there { IsThere (store self.old) var lo hi → IsOk result × ((store self.new).made ≡ (store self.old).made) }
         ensures err { OnErr result ((store self.new).made ≡ (store self.old).made) }
         ensures out { result ≡ Err MkFault.StepsOut → IsRefused (store self.old) var lo hi }
         ensures unchanged { result ≡ Err MkFault.StepsOut → store self.new ≡ store self.old };
