@@ -49,7 +49,7 @@ impl Ops {
         self.ite(nodes, a, b, Ref::FALSE)
     }
 
-    /// 1 where one of both is 1.
+    /// 1 where at least one of them is 1.
     pub fn or<N: Nodes>(&self, nodes: &mut N, a: Ref, b: Ref) -> Result<Ref, OpFault>
         requires left { IsRef (N.store nodes.old) a }
         requires right { IsRef (N.store nodes.old) b }
