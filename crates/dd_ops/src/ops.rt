@@ -9,7 +9,10 @@ use dd_nodes::{Nodes, Ref};
 use std::alloc::Global;
 use std::collections::HashMap;
 
-/// The operations. A call remembers results in memory of this allocator, and forgets them at its end.
+/// The operations. They take references that are constant or held. Each node that a call makes has a cofactor of the
+/// call's result as its function, and what was held stays held with the same node, after an error too. `StepsOut` comes
+/// only where the store may make no more nodes and the result wants one that is not held. A call remembers results in
+/// memory of this allocator, and forgets them at its end.
 #[derive(Drop)]
 pub struct Ops {
     alloc: Global,
@@ -46,7 +49,7 @@ impl Ops {
         self.ite(nodes, a, b, Ref::FALSE)
     }
 
-    /// 1 where one of both is 1.
+    /// 1 where at least one of them is 1.
     pub fn or<N: Nodes>(&self, nodes: &mut N, a: Ref, b: Ref) -> Result<Ref, OpFault>
         requires left { IsRef (N.store nodes.old) a }
         requires right { IsRef (N.store nodes.old) b }
