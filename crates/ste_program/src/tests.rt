@@ -339,10 +339,21 @@ fn what_fails(rt: HostRuntime) -> Result<(), Fail> {
     Ok(())
 }
 
+/// A text of 131,072 bytes.
+fn large_text(alloc: Global) -> Result<Vec<u8>, AllocError> {
+    let mut text = Vec::new(alloc);
+    text.push(b'.')?;
+    for _ in 0..17 {
+        let half = text.as_slice().to_vec(alloc)?;
+        text.extend_from_slice(&half)?;
+    }
+    Ok(text)
+}
+
 #[test]
 fn words_and_sizes(rt: HostRuntime) -> Result<(), Fail> {
     let alloc = rt.alloc();
-    let large = vec![in alloc; b'\n'; 65537]?;
+    let large = large_text(alloc)?;
     for (texts, large_file) in [
         (&["stework", "check", "n"] as &[&str], false),
         (&["stework", "check", "n", "t", "t"], false),

@@ -34,7 +34,8 @@ impl<'a, R: std::rt::Files> Files for HostFiles<'a, R> {
         let mut bytes = Vec::new(alloc);
         let mut buf = [0u8; 4096];
         for _ in 0..u64::MAX {
-            match file.read(&mut buf) {
+            let wanted = (max + 1 - bytes.len() as u64).min(4096) as usize;
+            match file.read(&mut buf[..wanted]) {
                 Ok(0) => return Ok(bytes),
                 Ok(count) => {
                     if bytes.extend_from_slice(&buf[..count]).is_err() {
