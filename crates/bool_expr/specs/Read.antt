@@ -1,14 +1,16 @@
 -- What the text of an expression is read as: the tokens as the code holds them, the numbers of the variables, and the
 -- faults.
-use Rattle.std.specs.Prelude.{ℕ, ◌≡◌, List, [], ◌∷◌, Option, None, Some, unwrap_or, is_some, if◌then◌else◌, bytes_eq}
-use Rattle.std.specs.List.{position}
-use Rattle.std.specs.HashMap.{get}
-use Rattle.std.specs.declared.collections.HashMap.{HashMap}
+use Rattle.std.specs.Prelude.{ℕ, suc, ◌<◌, ◌≤◌, ◌≡◌, List, [], ◌∷◌, Option, None, Some, unwrap_or, is_some, if◌then◌else◌, bytes_eq, Bool, Result, Ok, Err}
+use Rattle.std.specs.HashMap.{HashMap, get}
+
 use Rattle.bool_expr.specs.declared.token.Token as held
 use Rattle.bool_expr.specs.declared.token.Token.TheVariants as held_as
+use Rattle.bool_expr.specs.declared.expr.Expr.{Expr}
 use Rattle.bool_expr.specs.declared.fault.ExprFault.{ExprFault}
 use Rattle.bool_expr.specs.declared.fault.ExprFault.TheVariants.{BadExpr, TooDeep, UnknownVar, OutOfMemory}
-use Rattle.bool_expr.specs.Tokens.{Token, sign, negation, opening, closing, constant, variable, wrong}
+use Rattle.bool_expr.specs.Tokens.{Token, sign, negation, opening, closing, constant, variable, wrong, tokens_of}
+use Rattle.bool_expr.specs.Grammar.{Expression, spelling, nesting, tree}
+use Rattle.bool_expr.specs.Tree.{tree_of}
 
 -- the same token without where its name lies in memory
 abbrev pub token_of : held.Token → Token
@@ -20,11 +22,25 @@ token_of (held_as.Const b) = constant b
 token_of (held_as.Name word) = variable word.now
 token_of held_as.Wrong = wrong
 
--- the number of a declared variable: its first place
-abbrev pub number_in : List (List ℕ) → List ℕ → Option ℕ
-number_in vars word = position (λ name. bytes_eq name word) vars
+-- the place of a word among these names, the first of which has number n
+abbrev pub number_from : ℕ → List (List ℕ) → List ℕ → Option ℕ
+number_from n [] word = None
+number_from n (name ∷ names) word = if bytes_eq name word then Some n else number_from (suc n) names word
 
--- the same, with 0 for a variable that is not declared
+-- the number of a declared variable: its first place from 0
+abbrev pub number_in : List (List ℕ) → List ℕ → Option ℕ
+number_in vars word = number_from 0 vars word
+
+-- the number that a table has for a variable
+abbrev pub numbers : {S : Type 0} → HashMap (List ℕ) ℕ S → List ℕ → Option ℕ
+numbers places word = get bytes_eq places word
+
+-- what a table has for a word, once the variable n is added, where the word is its name or not
+abbrev pub with_place : Option ℕ → Bool → ℕ → Option ℕ
+with_place (Some place) same n = Some place
+with_place None same n = if same then Some n else None
+
+-- the number, with 0 for a variable that is not declared
 abbrev pub place_by : (List ℕ → Option ℕ) → List ℕ → ℕ
 place_by number word = unwrap_or (number word) 0
 
@@ -39,3 +55,23 @@ abbrev pub IsCause : (List ℕ → Option ℕ) → List Token → ExprFault → 
 IsCause number tokens (UnknownVar name) = first_unknown number tokens ≡ Some name
 IsCause number tokens OutOfMemory = Unit {0}
 IsCause number tokens _ = ⊥
+
+-- the text spells the expression
+abbrev pub Spells : Expression → List ℕ → Type 0
+Spells d text = spelling d ≡ tokens_of text
+
+-- what an expression is answered with over these variables, unless memory is wanting
+abbrev pub IsAnswer : List (List ℕ) → Expression → Result Expr ExprFault → Type 0
+IsAnswer vars d (Ok expr) =
+    (nesting d ≤ 100) × (first_unknown (number_in vars) (spelling d) ≡ None)
+    × (tree_of expr ≡ tree (place_by (number_in vars)) d)
+IsAnswer vars d (Err BadExpr) = ⊥
+IsAnswer vars d (Err TooDeep) = 100 < nesting d
+IsAnswer vars d (Err (UnknownVar name)) = (nesting d ≤ 100) × (first_unknown (number_in vars) (spelling d) ≡ Some name)
+IsAnswer vars d (Err OutOfMemory) = Unit {0}
+
+-- an answer has its cause: a text that is no expression, or the expression that the text spells
+abbrev pub HasCause : List (List ℕ) → List ℕ → Result Expr ExprFault → Type 0
+HasCause vars text (Err BadExpr) = (d : Expression) → ¬ Spells d text
+HasCause vars text (Err OutOfMemory) = Unit {0}
+HasCause vars text answer = (d : Expression) × Spells d text × IsAnswer vars d answer

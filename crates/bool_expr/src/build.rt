@@ -1,7 +1,7 @@
-ghost use Rattle.std.specs.Prelude.{◌≡◌, ◌<◌, ◌≤◌, ◌+◌, ◌^◌, ◌∷◌, [], IfOk, IfErr, None, map, length, ◌++◌};
-ghost use Rattle.bool_expr.specs.Tokens.{tokens_of};
-ghost use Rattle.bool_expr.specs.Tree.{tree_of, chain};
-ghost use Rattle.bool_expr.specs.Read.{token_of, place_by, first_unknown, IsCause};
+ghost use Rattle.std.specs.Prelude.{◌≡◌, ◌<◌, ◌≤◌, ◌+◌, ◌^◌, ◌∷◌, [], IfOk, IfErr, OnOk, List, ℕ, bytes_eq, IsTrue, is_some, None, map, length, ◌++◌};
+ghost use Rattle.bool_expr.specs.Tokens.{tokens_of, negation, variable};
+ghost use Rattle.bool_expr.specs.Tree.{tree_of, place, chain};
+ghost use Rattle.bool_expr.specs.Read.{token_of, place_by, first_unknown, IsCause, numbers, number_in, with_place};
 ghost use Rattle.bool_expr.specs.Build.{opened, built, nothing, behind_signs, with_factor, shut, with_sign, closed, turn, build_from, build_start};
 
 use crate::expr::Expr;
@@ -155,6 +155,23 @@ impl Inner {
     }
 }
 
+/// The variable that a word is.
+fn named(
+    alloc: Global,
+    places: &HashMap<Name, u32>,
+    word: &[u8],
+) -> Result<Expr, ExprFault>
+    ensures ok { IfOk result (λ expr. tree_of expr ≡ place (place_by (numbers places.now) word.now)) }
+    ensures known { IfOk result (λ _. IsTrue (is_some (numbers places.now word.now))) }
+    ensures err { IfErr result (λ fault. IsCause (numbers places.now) (variable word.now ∷ []) fault) }
+{
+    let name = Name::from_bytes(alloc, word)?;
+    match places.get(&name) {
+        Some(place) => Ok(Expr::Var(VarId(*place))),
+        None => Err(ExprFault::UnknownVar { name }),
+    }
+}
+
 impl Build {
     /// Before the first token.
     fn new(alloc: Global) -> Build
@@ -202,4 +219,90 @@ impl Build {
             outer,
         })
     }
+
+    /// Behind one more `!`.
+    fn negate(self) -> Build
+        requires { self.inner.signs < 2 ^ 63 }
+        ensures { built result ≡ turn (λ _. 0) (built self) negation }
+    {
+        let Build { mut inner, outer } = self;
+        inner.signs += 1;
+        Build { inner, outer }
+    }
+
+    /// Behind one more token.
+    fn turn(
+        self,
+        alloc: Global,
+        places: &HashMap<Name, u32>,
+        token: Token<'_>,
+    ) -> Result<Build, ExprFault>
+        requires { self.inner.signs < 2 ^ 63 }
+        ensures ok { IfOk result (λ build. built build ≡ turn (place_by (numbers places.now)) (built self) (token_of token.entry)) }
+        ensures known { IfOk result (λ _. first_unknown (numbers places.now) (token_of token.entry ∷ []) ≡ None) }
+        ensures err { IfErr result (λ fault. IsCause (numbers places.now) (token_of token.entry ∷ []) fault) }
+    {
+        match token {
+            Token::Sign(sign) => {
+                let Build { inner, outer } = self;
+                Ok(Build {
+                    inner: inner.with_sign(alloc, sign)?,
+                    outer,
+                })
+            }
+            Token::Not => Ok(self.negate()),
+            Token::Open => Ok(self.open(alloc)?),
+            Token::Close => Ok(self.close(alloc)?),
+            Token::Const(bit) => Ok(self.with_factor(alloc, Expr::Const(bit))?),
+            Token::Name(word) => Ok(self.with_factor(alloc, named(alloc, places, word)?)?),
+            Token::Wrong => Ok(self),
+        }
+    }
+}
+
+/// Adds the number of a variable, where its name has none.
+#[tactic(auto, using(crate::proofs::Places::put, crate::proofs::Places::kept))]
+fn add_place(
+    places: &mut HashMap<Name, u32>,
+    name: &Name,
+    place: u32,
+) -> Result<(), AllocError>
+    ensures { OnOk result ((word : List ℕ) → numbers places.new word ≡ with_place (numbers places.old word) (bytes_eq name.now word) place) }
+{
+    if places.get(name).is_none() {
+        places.insert(name.clone()?, place)?;
+    }
+    Ok(())
+}
+
+/// The number of each declared variable: its first place.
+pub fn places(alloc: Global, vars: &[Name]) -> Result<HashMap<Name, u32>, AllocError>
+    requires { length vars.now < 2 ^ 32 }
+    ensures { IfOk result (λ places. numbers places ≡ number_in vars.now) }
+{
+    let mut places = HashMap::new(alloc);
+    for (place, name) in vars.iter().enumerate() {
+        add_place(&mut places, name, place as u32)?;
+    }
+    Ok(places)
+}
+
+/// The expression that a text spells, where it spells one, and its variables are declared.
+#[tactic(auto, using(crate::proofs::Turns::turn_signs, crate::proofs::Turns::first_known))]
+pub fn expr_of(
+    alloc: Global,
+    text: &[u8],
+    places: &HashMap<Name, u32>,
+) -> Result<Expr, ExprFault>
+    ensures ok { IfOk result (λ expr. tree_of expr ≡ build_from (place_by (numbers places.now)) build_start (tokens_of text.now)) }
+    ensures known { IfOk result (λ _. first_unknown (numbers places.now) (tokens_of text.now) ≡ None) }
+    ensures err { IfErr result (λ fault. IsCause (numbers places.now) (tokens_of text.now) fault) }
+{
+    let mut build = Build::new(alloc);
+    let mut rest = text;
+    while let Some((token, more)) = next_token(rest) {
+        build = build.turn(alloc, places, token)?;
+        rest = more;
+    }
+    Ok(build.inner.closed()?)
 }
