@@ -1,14 +1,15 @@
 -- The two passes over a text answer as the expression that it spells.
-use Rattle.std.proofs.Common.{ℕ, ◌≡◌, ◌<◌, ◌≤◌, refl, sym, ap, ◌∙◌, List, Option, None, Some, min, arith, Result, Ok, Err, IfOk, IfErr}
+use Rattle.std.proofs.Common.{ℕ, ◌≡◌, ◌≤◌, sym, ap, ◌∙◌, List, Option, None, Some, min, arith, Result, Ok, Err, IfOk, IfErr}
 use Rattle.bool_expr.specs.declared.expr.Expr.{Expr}
 use Rattle.bool_expr.specs.declared.fault.ExprFault.{ExprFault}
 use Rattle.bool_expr.specs.declared.fault.ExprFault.TheVariants.{BadExpr, TooDeep, UnknownVar, OutOfMemory}
 use Rattle.bool_expr.specs.Tokens.{tokens_of}
 use Rattle.bool_expr.specs.Tree.{tree_of}
-use Rattle.bool_expr.specs.Grammar.{Expression, spelling, nesting, tree}
+use Rattle.bool_expr.specs.Grammar.{Expression, spelling, nesting}
 use Rattle.bool_expr.specs.Scan.{scan_from, scan_start}
 use Rattle.bool_expr.specs.Build.{build_from, build_start}
-use Rattle.bool_expr.specs.Read.{Spells, IsAnswer, HasCause, IsCause, first_unknown, place_by, number_in}
+use Rattle.bool_expr.specs.Read.{Spells, IsAnswer, HasCause, first_unknown, place_by, number_in}
+use Rattle.bool_expr.specs.Held.{IsCause}
 use Rattle.bool_expr.specs.Laws.{OneTextSpellsOneTree}
 use Rattle.bool_expr.proofs.Deep.{expression_depth}
 use Rattle.bool_expr.proofs.Found.{expression_found}

@@ -1,5 +1,5 @@
 -- The pass over the tokens of a phrase leads behind it, with the phrase's nesting.
-use Rattle.std.proofs.Common.{ℕ, suc, ◌+◌, ◌≤◌, ◌≡◌, refl, sym, ap, ◌∙◌, min, max, List, [], ◌∷◌, ◌++◌, arith, Bool, true, false, Option, Some, append_assoc, append-nil}
+use Rattle.std.proofs.Common.{ℕ, ◌+◌, ◌≤◌, ◌≡◌, refl, sym, ap, ◌∙◌, min, max, List, [], ◌∷◌, ◌++◌, arith, true, false, Some, append_assoc, append-nil}
 use Rattle.bool_expr.specs.Tokens.{Token, sign, closing}
 use Rattle.bool_expr.specs.Grammar.{Level, factor, chained, Phrase, Expression, literal, named, negated, bracketed, single, joined, spelling, nesting}
 use Rattle.bool_expr.specs.Scan.{Scanned, scan_from, scan_start, deeper}

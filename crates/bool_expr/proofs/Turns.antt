@@ -1,12 +1,13 @@
 -- One more token of an expression that is put together.
-use Rattle.std.proofs.Common.{ℕ, suc, ◌+◌, ◌<◌, ◌≤◌, ◌≡◌, refl, sym, ap, ◌∙◌, List, [], ◌∷◌, length, arith, Bool, true, false, Option, None, Some}
+use Rattle.std.proofs.Common.{ℕ, suc, ◌≤◌, ◌≡◌, refl, sym, ap, ◌∙◌, List, [], ◌∷◌, arith, Bool, true, false, Option, None, Some}
 use Rattle.bool_expr.specs.declared.token.Sign.TheVariants.{Or, Xor, And}
 use Rattle.bool_expr.specs.declared.fault.ExprFault.{ExprFault}
 use Rattle.bool_expr.specs.declared.fault.ExprFault.TheVariants.{BadExpr, TooDeep, UnknownVar, OutOfMemory}
 use Rattle.std.specs.Prelude.{is_some, if◌then◌else◌}
 use Rattle.bool_expr.specs.Tokens.{Token, sign, negation, opening, closing, constant, variable, wrong}
-use Rattle.bool_expr.specs.Read.{first_unknown, IsCause}
-use Rattle.bool_expr.specs.Build.{Built, Opened, turn, shut, closed}
+use Rattle.bool_expr.specs.Read.{first_unknown}
+use Rattle.bool_expr.specs.Held.{IsCause}
+use Rattle.bool_expr.specs.Build.{Built, Opened, turn, shut}
 
 shut_signs : (b : Built) (outer : List Opened) → (shut b outer).inner.signs ≤ suc b.inner.signs
 shut_signs b [] = omega arith

@@ -1,26 +1,11 @@
--- What the text of an expression is read as: the tokens as the code holds them, the numbers of the variables, and the
--- faults.
-use Rattle.std.specs.Prelude.{ℕ, suc, ◌<◌, ◌≤◌, ◌≡◌, List, [], ◌∷◌, Option, None, Some, unwrap_or, is_some, if◌then◌else◌, bytes_eq, Bool, Result, Ok, Err}
-use Rattle.std.specs.HashMap.{HashMap, get}
-
-use Rattle.bool_expr.specs.declared.token.Token as held
-use Rattle.bool_expr.specs.declared.token.Token.TheVariants as held_as
+-- What the text of an expression is read as over the declared variables.
+use Rattle.std.specs.Prelude.{ℕ, suc, ◌<◌, ◌≤◌, ◌≡◌, List, [], ◌∷◌, Option, None, Some, unwrap_or, is_some, if◌then◌else◌, bytes_eq, Result, Ok, Err}
 use Rattle.bool_expr.specs.declared.expr.Expr.{Expr}
 use Rattle.bool_expr.specs.declared.fault.ExprFault.{ExprFault}
 use Rattle.bool_expr.specs.declared.fault.ExprFault.TheVariants.{BadExpr, TooDeep, UnknownVar, OutOfMemory}
-use Rattle.bool_expr.specs.Tokens.{Token, sign, negation, opening, closing, constant, variable, wrong, tokens_of}
+use Rattle.bool_expr.specs.Tokens.{Token, variable, tokens_of}
 use Rattle.bool_expr.specs.Grammar.{Expression, spelling, nesting, tree}
 use Rattle.bool_expr.specs.Tree.{tree_of}
-
--- the same token without where its name lies in memory
-abbrev pub token_of : held.Token → Token
-token_of (held_as.Sign s) = sign s
-token_of held_as.Not = negation
-token_of held_as.Open = opening
-token_of held_as.Close = closing
-token_of (held_as.Const b) = constant b
-token_of (held_as.Name word) = variable word.now
-token_of held_as.Wrong = wrong
 
 -- the place of a word among these names, the first of which has number n
 abbrev pub number_from : ℕ → List (List ℕ) → List ℕ → Option ℕ
@@ -31,15 +16,6 @@ number_from n (name ∷ names) word = if bytes_eq name word then Some n else num
 abbrev pub number_in : List (List ℕ) → List ℕ → Option ℕ
 number_in vars word = number_from 0 vars word
 
--- the number that a table has for a variable
-abbrev pub numbers : {S : Type 0} → HashMap (List ℕ) ℕ S → List ℕ → Option ℕ
-numbers places word = get bytes_eq places word
-
--- what a table has for a word, once the variable n is added, where the word is its name or not
-abbrev pub with_place : Option ℕ → Bool → ℕ → Option ℕ
-with_place (Some place) same n = Some place
-with_place None same n = if same then Some n else None
-
 -- the number, with 0 for a variable that is not declared
 abbrev pub place_by : (List ℕ → Option ℕ) → List ℕ → ℕ
 place_by number word = unwrap_or (number word) 0
@@ -49,12 +25,6 @@ abbrev pub first_unknown : (List ℕ → Option ℕ) → List Token → Option (
 first_unknown number [] = None
 first_unknown number (variable word ∷ tokens) = if is_some (number word) then first_unknown number tokens else Some word
 first_unknown number (_ ∷ tokens) = first_unknown number tokens
-
--- a fault in putting an expression together has its cause
-abbrev pub IsCause : (List ℕ → Option ℕ) → List Token → ExprFault → Type 0
-IsCause number tokens (UnknownVar name) = first_unknown number tokens ≡ Some name
-IsCause number tokens OutOfMemory = Unit {0}
-IsCause number tokens _ = ⊥
 
 -- the text spells the expression
 abbrev pub Spells : Expression → List ℕ → Type 0

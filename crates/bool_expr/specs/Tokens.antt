@@ -26,7 +26,7 @@ is_letter byte = (nat_le 97 byte && nat_le byte 122) || (nat_le 65 byte && nat_l
 abbrev pub is_name_byte : ℕ → Bool
 is_name_byte byte = is_letter byte || (nat_le 48 byte && nat_le byte 57)
 
--- the word is none of `when`, `from` and `to`
+-- the word is one that task files keep for themselves
 abbrev pub is_kept : List ℕ → Bool
 is_kept word = bytes_eq word (codes "when") || bytes_eq word (codes "from") || bytes_eq word (codes "to")
 

@@ -1,15 +1,17 @@
-ghost use Rattle.std.specs.Prelude.{◌≡◌, ◌<◌, ◌≤◌, ◌+◌, ◌^◌, ◌∷◌, [], IfOk, IfErr, OnOk, List, ℕ, bytes_eq, IsTrue, is_some, None, map, length, ◌++◌};
-ghost use Rattle.bool_expr.specs.Tokens.{tokens_of, negation, variable};
-ghost use Rattle.bool_expr.specs.Tree.{tree_of, place, chain};
-ghost use Rattle.bool_expr.specs.Read.{token_of, place_by, first_unknown, IsCause, numbers, number_in, with_place};
+ghost use Rattle.std.specs.Prelude.{◌≡◌, ◌<◌, ◌^◌, ◌∷◌, [], IfOk, IfErr, None, map, ◌++◌};
+ghost use Rattle.bool_expr.specs.Tokens.{tokens_of, negation};
+ghost use Rattle.bool_expr.specs.Tree.{tree_of, chain};
+ghost use Rattle.bool_expr.specs.Read.{place_by, first_unknown};
+ghost use Rattle.bool_expr.specs.Held.{token_of, numbers, IsCause};
 ghost use Rattle.bool_expr.specs.Build.{opened, built, nothing, behind_signs, with_factor, shut, with_sign, closed, turn, build_from, build_start};
 
 use crate::expr::Expr;
 use crate::fault::ExprFault;
 use crate::token::{Sign, Token, next_token};
+use crate::vars::named;
 use std::alloc::{AllocError, Global};
 use std::collections::{HashMap, VecDeque};
-use ste_base::{Name, VarId};
+use ste_base::Name;
 
 /// What stands in a bracket so far: the number of `!` before the next factor, and the parts of the chains that are open.
 #[derive(Drop)]
@@ -155,23 +157,6 @@ impl Inner {
     }
 }
 
-/// The variable that a word is.
-fn named(
-    alloc: Global,
-    places: &HashMap<Name, u32>,
-    word: &[u8],
-) -> Result<Expr, ExprFault>
-    ensures ok { IfOk result (λ expr. tree_of expr ≡ place (place_by (numbers places.now) word.now)) }
-    ensures known { IfOk result (λ _. IsTrue (is_some (numbers places.now word.now))) }
-    ensures err { IfErr result (λ fault. IsCause (numbers places.now) (variable word.now ∷ []) fault) }
-{
-    let name = Name::from_bytes(alloc, word)?;
-    match places.get(&name) {
-        Some(place) => Ok(Expr::Var(VarId(*place))),
-        None => Err(ExprFault::UnknownVar { name }),
-    }
-}
-
 impl Build {
     /// Before the first token.
     fn new(alloc: Global) -> Build
@@ -258,33 +243,6 @@ impl Build {
             Token::Wrong => Ok(self),
         }
     }
-}
-
-/// Adds the number of a variable, where its name has none.
-#[tactic(auto, using(crate::proofs::Places::put, crate::proofs::Places::kept))]
-fn add_place(
-    places: &mut HashMap<Name, u32>,
-    name: &Name,
-    place: u32,
-) -> Result<(), AllocError>
-    ensures { OnOk result ((word : List ℕ) → numbers places.new word ≡ with_place (numbers places.old word) (bytes_eq name.now word) place) }
-{
-    if places.get(name).is_none() {
-        places.insert(name.clone()?, place)?;
-    }
-    Ok(())
-}
-
-/// The number of each declared variable: its first place.
-pub fn places(alloc: Global, vars: &[Name]) -> Result<HashMap<Name, u32>, AllocError>
-    requires { length vars.now < 2 ^ 32 }
-    ensures { IfOk result (λ places. numbers places ≡ number_in vars.now) }
-{
-    let mut places = HashMap::new(alloc);
-    for (place, name) in vars.iter().enumerate() {
-        add_place(&mut places, name, place as u32)?;
-    }
-    Ok(places)
 }
 
 /// The expression that a text spells, where it spells one, and its variables are declared.

@@ -2,10 +2,11 @@ ghost use Rattle.std.specs.Prelude.{◌<◌, ◌^◌, length};
 ghost use Rattle.bool_expr.specs.Grammar.{Expression};
 ghost use Rattle.bool_expr.specs.Read.{Spells, IsAnswer, HasCause};
 
-use crate::build::{expr_of, places};
+use crate::build::expr_of;
 use crate::expr::Expr;
 use crate::fault::ExprFault;
 use crate::scan::nesting;
+use crate::vars::places;
 use std::alloc::Global;
 use ste_base::Name;
 

@@ -1,7 +1,7 @@
 ghost use Rattle.std.specs.Prelude.{◌≡◌, ◌<◌, ◌≤◌, ◌∷◌, [], ℕ, List, length, IfSome, IfNone, false};
 ghost use Rattle.std.specs.List.{prefix_len};
 ghost use Rattle.bool_expr.specs.Tokens.{is_blank, is_letter, is_name_byte, is_kept, byte_token, word_token, tokens_of};
-ghost use Rattle.bool_expr.specs.Read.{token_of};
+ghost use Rattle.bool_expr.specs.Held.{token_of};
 
 /// A sign between the parts of a chain.
 #[derive(Clone, Copy, Debug, PartialEq, Eq)]

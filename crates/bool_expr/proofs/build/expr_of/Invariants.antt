@@ -1,6 +1,7 @@
 use Rattle.std.proofs.Common.{◌≡◌, ◌≤◌, ◌+◌, length}
 use Rattle.bool_expr.specs.Tokens.{tokens_of}
-use Rattle.bool_expr.specs.Read.{place_by, first_unknown, numbers}
+use Rattle.bool_expr.specs.Read.{place_by, first_unknown}
+use Rattle.bool_expr.specs.Held.{numbers}
 use Rattle.bool_expr.specs.Build.{built, build_from, build_start}
 use Rattle.bool_expr.proofs.build.expr_of.Given as goal
 

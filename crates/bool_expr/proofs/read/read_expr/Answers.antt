@@ -1,6 +1,4 @@
-use Rattle.std.proofs.Common.{rules, arith, ◌≡◌, Option, None, Some, min}
-use Rattle.bool_expr.specs.Grammar.{Expression, nesting}
-use Rattle.bool_expr.specs.Read.{Spells}
+use Rattle.std.proofs.Common.{arith}
 use Rattle.bool_expr.proofs.Answered.{none_spelled, some_spelled, depth_of, answered, caused}
 use Rattle.bool_expr.proofs.read.read_expr.Goals as goal
 

@@ -1,6 +1,7 @@
 use Rattle.std.proofs.Common.{◌≡◌, ℕ, List, take}
-use Rattle.bool_expr.specs.Read.{numbers, number_in}
-use Rattle.bool_expr.proofs.build.places.Given as goal
+use Rattle.bool_expr.specs.Read.{number_in}
+use Rattle.bool_expr.specs.Held.{numbers}
+use Rattle.bool_expr.proofs.vars.places.Given as goal
 
 -- the numbers are those in the variables so far
 abbrev pub invariant-loop-place : goal.invariant-loop-place

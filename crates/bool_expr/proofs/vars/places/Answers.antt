@@ -1,5 +1,5 @@
 use Rattle.bool_expr.proofs.Places.{number_more, number_all}
-use Rattle.bool_expr.proofs.build.places.Goals as goal
+use Rattle.bool_expr.proofs.vars.places.Goals as goal
 
 pub loop-place-preserved : goal.loop-place-preserved
 loop-place-preserved c = λ word.
