@@ -68,11 +68,7 @@ fn odd_parts(mut odd: Vec<Expr>, all: Vec<Expr>) -> Result<Vec<Expr>, AllocError
 }
 
 /// The parts of a chain of `|`, with the chains of `^` and `&` that are open.
-fn any_parts(
-    mut any: Vec<Expr>,
-    odd: Vec<Expr>,
-    all: Vec<Expr>,
-) -> Result<Vec<Expr>, AllocError>
+fn any_parts(mut any: Vec<Expr>, odd: Vec<Expr>, all: Vec<Expr>) -> Result<Vec<Expr>, AllocError>
     ensures { IfOk result (λ parts. map tree_of parts.items ≡ map tree_of any.items ++ chain Sign.Xor (map tree_of odd.items ++ chain Sign.And (map tree_of all.items) ∷ []) ∷ []) }
 {
     any.push(chain(Sign::Xor, odd_parts(odd, all)?))?;
@@ -247,11 +243,7 @@ impl Build {
 
 /// The expression that a text spells, where it spells one, and its variables are declared.
 #[tactic(auto, using(crate::proofs::Turns::turn_signs, crate::proofs::Turns::first_known))]
-pub fn expr_of(
-    alloc: Global,
-    text: &[u8],
-    places: &HashMap<Name, u32>,
-) -> Result<Expr, ExprFault>
+pub fn expr_of(alloc: Global, text: &[u8], places: &HashMap<Name, u32>) -> Result<Expr, ExprFault>
     ensures ok { IfOk result (λ expr. tree_of expr ≡ build_from (place_by (numbers places.now)) build_start (tokens_of text.now)) }
     ensures known { IfOk result (λ _. first_unknown (numbers places.now) (tokens_of text.now) ≡ None) }
     ensures err { IfErr result (λ fault. IsCause (numbers places.now) (tokens_of text.now) fault) }

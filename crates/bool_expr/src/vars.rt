@@ -12,11 +12,7 @@ use ste_base::{Name, VarId};
 
 /// Adds the number of a variable, where its name has none.
 #[tactic(auto, using(crate::proofs::Places::put, crate::proofs::Places::kept))]
-fn add_place(
-    places: &mut HashMap<Name, u32>,
-    name: &Name,
-    place: u32,
-) -> Result<(), AllocError>
+fn add_place(places: &mut HashMap<Name, u32>, name: &Name, place: u32) -> Result<(), AllocError>
     ensures { OnOk result ((word : List ℕ) → numbers places.new word ≡ with_place (numbers places.old word) (bytes_eq name.now word) place) }
 {
     if places.get(name).is_none() {
@@ -38,11 +34,7 @@ pub fn places(alloc: Global, vars: &[Name]) -> Result<HashMap<Name, u32>, AllocE
 }
 
 /// The variable that a word is.
-pub fn named(
-    alloc: Global,
-    places: &HashMap<Name, u32>,
-    word: &[u8],
-) -> Result<Expr, ExprFault>
+pub fn named(alloc: Global, places: &HashMap<Name, u32>, word: &[u8]) -> Result<Expr, ExprFault>
     ensures ok { IfOk result (λ expr. tree_of expr ≡ place (place_by (numbers places.now) word.now)) }
     ensures known { IfOk result (λ _. IsTrue (is_some (numbers places.now word.now))) }
     ensures err { IfErr result (λ fault. IsCause (numbers places.now) (variable word.now ∷ []) fault) }

@@ -10,7 +10,7 @@ abbrev pub invariant-loop-token : goal.invariant-loop-token
 invariant-loop-token l = record {
   known : first_unknown (numbers l.places) (tokens_of l.rest) ≡ first_unknown (numbers l.places) (tokens_of l.text);
   same : build_from (place_by (numbers l.places)) (built l.build) (tokens_of l.rest) ≡ build_from (place_by (numbers l.places)) build_start (tokens_of l.text);
-  within : l.build.inner.signs + length l.rest ≤ length l.text
+  within : l.build.inner.signs + length l.rest ≤ length l.text;
 }
 
 abbrev pub decreases-loop-token : goal.decreases-loop-token
