@@ -10,6 +10,9 @@ use crate::vars::places;
 use std::alloc::Global;
 use ste_base::Name;
 
+/// The greatest nesting of an expression that is read.
+pub const MAX_NESTING: u8 = 100;
+
 /// Reads an expression over the declared variables.
 ///
 /// `BadExpr` comes exactly where the text is no expression, at any nesting. Otherwise `TooDeep` comes exactly where it is
@@ -23,7 +26,7 @@ pub fn read_expr(alloc: Global, text: &[u8], vars: &[Name]) -> Result<Expr, Expr
     let Some(depth) = nesting(alloc, text)? else {
         return Err(ExprFault::BadExpr);
     };
-    if depth > 100 {
+    if depth > MAX_NESTING {
         return Err(ExprFault::TooDeep);
     }
     expr_of(alloc, text, &places(alloc, vars)?)
