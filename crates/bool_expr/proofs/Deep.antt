@@ -19,28 +19,28 @@ part_fits : (level : Level) (depth base : ℕ) → depth ≡ base → Fits level
 part_fits factor depth base e = tt
 part_fits (chained s) depth base e = e
 
-same_end : (base m n : ℕ) (outer : List ℕ) (rest : List Token) → m ≡ n → scan_from (at_end base m outer) rest ≡ scan_from (at_end base n outer) rest
-same_end base m n outer rest e = ap (λ k. scan_from (at_end base k outer) rest) e
+same_end : (limit base m n : ℕ) (outer : List ℕ) (rest : List Token) → m ≡ n → scan_from limit (at_end base m outer) rest ≡ scan_from limit (at_end base n outer) rest
+same_end limit base m n outer rest e = ap (λ k. scan_from limit (at_end base k outer) rest) e
 
-pub leads : {level : Level} (d : Phrase level) (depth base deepest : ℕ) (outer : List ℕ) (rest : List Token) → depth ≤ 101 → base ≤ 101 → Fits level depth base → scan_from (at_start depth base deepest outer) (spelling d ++ rest) ≡ scan_from (at_end base (max deepest (min (depth + nesting d) 101)) outer) rest
-leads (literal b) depth base deepest outer rest h k f = same_end base _ _ outer rest (omega (arith, h))
-leads (named word) depth base deepest outer rest h k f = same_end base _ _ outer rest (omega (arith, h))
-leads (negated d) depth base deepest outer rest h k f =
-    leads d (deeper depth) base deepest outer rest (omega arith) k tt ∙ same_end base _ _ outer rest (omega arith)
-leads (bracketed d) depth base deepest outer rest h k f =
-    let inner = deeper depth in
-    ap (scan_from (at_start inner inner deepest (base ∷ outer))) (append_assoc (spelling d) (closing ∷ []) rest)
-    ∙ leads d inner inner deepest (base ∷ outer) (closing ∷ rest) (omega arith) (omega arith) refl
-    ∙ same_end base _ _ outer rest (omega arith)
-leads (single s d) depth base deepest outer rest h k f = leads d depth base deepest outer rest h k (part_fits _ depth base f)
-leads (joined s d more) depth base deepest outer rest h k f =
-    let reached = max deepest (min (depth + nesting d) 101) in
-    ap (scan_from (at_start depth base deepest outer)) (append_assoc (spelling d) (sign s ∷ spelling more) rest)
-    ∙ leads d depth base deepest outer (sign s ∷ spelling more ++ rest) h k (part_fits _ depth base f)
-    ∙ leads more base base reached outer rest k k refl
-    ∙ same_end base _ _ outer rest (omega (arith, f))
+pub leads : {level : Level} (limit : ℕ) (d : Phrase level) (depth base deepest : ℕ) (outer : List ℕ) (rest : List Token) → depth ≤ limit → base ≤ limit → Fits level depth base → scan_from limit (at_start depth base deepest outer) (spelling d ++ rest) ≡ scan_from limit (at_end base (max deepest (min (depth + nesting d) limit)) outer) rest
+leads limit (literal b) depth base deepest outer rest h k f = same_end limit base _ _ outer rest (omega (arith, h))
+leads limit (named word) depth base deepest outer rest h k f = same_end limit base _ _ outer rest (omega (arith, h))
+leads limit (negated d) depth base deepest outer rest h k f =
+    leads limit d (deeper limit depth) base deepest outer rest (omega arith) k tt ∙ same_end limit base _ _ outer rest (omega arith)
+leads limit (bracketed d) depth base deepest outer rest h k f =
+    let inner = deeper limit depth in
+    ap (scan_from limit (at_start inner inner deepest (base ∷ outer))) (append_assoc (spelling d) (closing ∷ []) rest)
+    ∙ leads limit d inner inner deepest (base ∷ outer) (closing ∷ rest) (omega arith) (omega arith) refl
+    ∙ same_end limit base _ _ outer rest (omega arith)
+leads limit (single s d) depth base deepest outer rest h k f = leads limit d depth base deepest outer rest h k (part_fits _ depth base f)
+leads limit (joined s d more) depth base deepest outer rest h k f =
+    let reached = max deepest (min (depth + nesting d) limit) in
+    ap (scan_from limit (at_start depth base deepest outer)) (append_assoc (spelling d) (sign s ∷ spelling more) rest)
+    ∙ leads limit d depth base deepest outer (sign s ∷ spelling more ++ rest) h k (part_fits _ depth base f)
+    ∙ leads limit more base base reached outer rest k k refl
+    ∙ same_end limit base _ _ outer rest (omega (arith, f))
 
--- the nesting of an expression is found, counted up to 101
-pub expression_depth : (d : Expression) → scan_from scan_start (spelling d) ≡ Some (min (nesting d) 101)
-expression_depth d =
-    ap (scan_from scan_start) (sym (append-nil (spelling d))) ∙ leads d 0 0 0 [] [] (omega arith) (omega arith) refl ∙ ap (λ n. Some n) (omega arith)
+-- the nesting of an expression is found, counted up to any limit
+pub expression_depth : (limit : ℕ) (d : Expression) → scan_from limit scan_start (spelling d) ≡ Some (min (nesting d) limit)
+expression_depth limit d =
+    ap (scan_from limit scan_start) (sym (append-nil (spelling d))) ∙ leads limit d 0 0 0 [] [] (omega arith) (omega arith) refl ∙ ap (λ n. Some n) (omega arith)

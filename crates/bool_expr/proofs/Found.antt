@@ -79,25 +79,25 @@ sign_goes : (s : Sign) (outer : List ℕ) (tokens : List Token) → Begins outer
 sign_goes s [] tokens d = inr (s, d.0, ap (λ l. sign s ∷ l) d.1)
 sign_goes s (base ∷ outer) tokens d = (sign s ∷ spelling d.0, d.1, inr (s, d.0, refl), ap (λ l. sign s ∷ l) d.2, d.3)
 
-pub found : (tokens : List Token) (wants : Bool) (depth base deepest : ℕ) (outer : List ℕ) (n : ℕ) → scan_from (record { wants = wants; depth = depth; base = base; deepest = deepest; outer = outer }) tokens ≡ Some n → Rests wants outer tokens
-found [] true depth base deepest outer n e = absurd (cc)
-found [] false depth base deepest [] n e = inl refl
-found [] false depth base deepest (b ∷ outer) n e = absurd (cc)
-found (sign s ∷ tokens) true depth base deepest outer n e = absurd (cc)
-found (sign s ∷ tokens) false depth base deepest outer n e = sign_goes s outer tokens (found tokens true _ _ _ outer n e)
-found (negation ∷ tokens) true depth base deepest outer n e = opposed_begins outer tokens (found tokens true _ _ _ outer n e)
-found (negation ∷ tokens) false depth base deepest outer n e = absurd (cc)
-found (opening ∷ tokens) true depth base deepest outer n e = bracket_begins base outer tokens (found tokens true _ _ _ (base ∷ outer) n e)
-found (opening ∷ tokens) false depth base deepest outer n e = absurd (cc)
-found (closing ∷ tokens) true depth base deepest outer n e = absurd (cc)
-found (closing ∷ tokens) false depth base deepest [] n e = absurd (cc)
-found (closing ∷ tokens) false depth base deepest (b ∷ outer) n e = ([], tokens, inl refl, refl, found tokens false _ _ _ outer n e)
-found (constant v ∷ tokens) true depth base deepest outer n e = begun (literal v) outer tokens (found tokens false _ _ _ outer n e)
-found (constant v ∷ tokens) false depth base deepest outer n e = absurd (cc)
-found (variable word ∷ tokens) true depth base deepest outer n e = begun (named word) outer tokens (found tokens false _ _ _ outer n e)
-found (variable word ∷ tokens) false depth base deepest outer n e = absurd (cc)
-found (wrong ∷ tokens) wants depth base deepest outer n e = absurd (cc)
+pub found : (limit : ℕ) (tokens : List Token) (wants : Bool) (depth base deepest : ℕ) (outer : List ℕ) (n : ℕ) → scan_from limit (record { wants = wants; depth = depth; base = base; deepest = deepest; outer = outer }) tokens ≡ Some n → Rests wants outer tokens
+found limit [] true depth base deepest outer n e = absurd (cc)
+found limit [] false depth base deepest [] n e = inl refl
+found limit [] false depth base deepest (b ∷ outer) n e = absurd (cc)
+found limit (sign s ∷ tokens) true depth base deepest outer n e = absurd (cc)
+found limit (sign s ∷ tokens) false depth base deepest outer n e = sign_goes s outer tokens (found limit tokens true _ _ _ outer n e)
+found limit (negation ∷ tokens) true depth base deepest outer n e = opposed_begins outer tokens (found limit tokens true _ _ _ outer n e)
+found limit (negation ∷ tokens) false depth base deepest outer n e = absurd (cc)
+found limit (opening ∷ tokens) true depth base deepest outer n e = bracket_begins base outer tokens (found limit tokens true _ _ _ (base ∷ outer) n e)
+found limit (opening ∷ tokens) false depth base deepest outer n e = absurd (cc)
+found limit (closing ∷ tokens) true depth base deepest outer n e = absurd (cc)
+found limit (closing ∷ tokens) false depth base deepest [] n e = absurd (cc)
+found limit (closing ∷ tokens) false depth base deepest (b ∷ outer) n e = ([], tokens, inl refl, refl, found limit tokens false _ _ _ outer n e)
+found limit (constant v ∷ tokens) true depth base deepest outer n e = begun (literal v) outer tokens (found limit tokens false _ _ _ outer n e)
+found limit (constant v ∷ tokens) false depth base deepest outer n e = absurd (cc)
+found limit (variable word ∷ tokens) true depth base deepest outer n e = begun (named word) outer tokens (found limit tokens false _ _ _ outer n e)
+found limit (variable word ∷ tokens) false depth base deepest outer n e = absurd (cc)
+found limit (wrong ∷ tokens) wants depth base deepest outer n e = absurd (cc)
 
 -- tokens that are gone through are those of an expression
-pub expression_found : (tokens : List Token) (n : ℕ) → scan_from scan_start tokens ≡ Some n → (d : Expression) × (spelling d ≡ tokens)
-expression_found tokens n e = found tokens true 0 0 0 [] n e
+pub expression_found : (limit : ℕ) (tokens : List Token) (n : ℕ) → scan_from limit scan_start tokens ≡ Some n → (d : Expression) × (spelling d ≡ tokens)
+expression_found limit tokens n e = found limit tokens true 0 0 0 [] n e

@@ -4,7 +4,7 @@ use Rattle.std.specs.Prelude.{ℕ, ◌+◌, min, max, List, [], ◌∷◌, Bool,
 use Rattle.bool_expr.specs.declared.scan.Scan.{Scan}
 use Rattle.bool_expr.specs.Tokens.{Token, sign, negation, opening, closing, constant, variable, wrong}
 
--- how far the tokens are read; depths are counted up to 101
+-- how far the tokens are read; depths are counted up to a limit
 pub record Scanned : Type 0 where
   -- a factor has to come next
   pub wants : Bool
@@ -21,8 +21,9 @@ pub record Scanned : Type 0 where
 abbrev pub scanned : Scan → Scanned
 scanned scan = record { wants = scan.wants_factor; depth = scan.depth; base = scan.base; deepest = scan.deepest; outer = scan.outer.items }
 
-abbrev pub deeper : ℕ → ℕ
-deeper depth = min (depth + 1) 101
+-- one more than a depth, counted up to the limit
+abbrev pub deeper : ℕ → ℕ → ℕ
+deeper limit depth = min (depth + 1) limit
 
 -- behind a constant or a variable
 abbrev pub behind_factor : Scanned → Option Scanned
@@ -34,14 +35,14 @@ behind_bracket s [] = None
 behind_bracket s (base ∷ outer) = Some (record { wants = false; depth = base; base = base; deepest = s.deepest; outer = outer })
 
 -- one more token; None where it may not stand here
-abbrev pub step : Scanned → Token → Option Scanned
-step s (sign _) = if s.wants then None else Some (record { wants = true; depth = s.depth; base = s.base; deepest = s.deepest; outer = s.outer })
-step s negation = if s.wants then Some (record { wants = true; depth = deeper s.depth; base = s.base; deepest = s.deepest; outer = s.outer }) else None
-step s opening = if s.wants then Some (record { wants = true; depth = deeper s.depth; base = deeper s.depth; deepest = s.deepest; outer = s.base ∷ s.outer }) else None
-step s closing = if s.wants then None else behind_bracket s s.outer
-step s (constant _) = behind_factor s
-step s (variable _) = behind_factor s
-step s wrong = None
+abbrev pub step : ℕ → Scanned → Token → Option Scanned
+step limit s (sign _) = if s.wants then None else Some (record { wants = true; depth = s.depth; base = s.base; deepest = s.deepest; outer = s.outer })
+step limit s negation = if s.wants then Some (record { wants = true; depth = deeper limit s.depth; base = s.base; deepest = s.deepest; outer = s.outer }) else None
+step limit s opening = if s.wants then Some (record { wants = true; depth = deeper limit s.depth; base = deeper limit s.depth; deepest = s.deepest; outer = s.base ∷ s.outer }) else None
+step limit s closing = if s.wants then None else behind_bracket s s.outer
+step limit s (constant _) = behind_factor s
+step limit s (variable _) = behind_factor s
+step limit s wrong = None
 
 -- what a step leads to, if it leads on
 abbrev pub if_on : Option Scanned → (Scanned → Option ℕ) → Option ℕ
@@ -53,10 +54,11 @@ abbrev pub ended : Bool → List ℕ → ℕ → Option ℕ
 ended false [] deepest = Some deepest
 ended _ _ deepest = None
 
--- the nesting of the tokens, counted up to 101; None where they are no expression
-abbrev pub scan_from : Scanned → List Token → Option ℕ
-scan_from s [] = ended s.wants s.outer s.deepest
-scan_from s (token ∷ tokens) = if_on (step s token) (λ next. scan_from next tokens)
+-- the nesting of the tokens, counted up to the limit; None where they are no expression
+abbrev pub scan_from : ℕ → Scanned → List Token → Option ℕ
+scan_from limit s [] = ended s.wants s.outer s.deepest
+scan_from limit s (token ∷ tokens) = if_on (step limit s token) (λ next. scan_from limit next tokens)
 
+-- before the first token
 abbrev pub scan_start : Scanned
 scan_start = record { wants = true; depth = 0; base = 0; deepest = 0; outer = [] }

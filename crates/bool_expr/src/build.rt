@@ -8,7 +8,7 @@ ghost use Rattle.bool_expr.specs.Build.{opened, built, nothing, behind_signs, wi
 use crate::expr::Expr;
 use crate::fault::ExprFault;
 use crate::token::{Sign, Token, next_token};
-use crate::vars::named;
+use crate::vars::variable_of;
 use std::alloc::{AllocError, Global};
 use std::collections::{HashMap, VecDeque};
 use ste_base::Name;
@@ -235,7 +235,7 @@ impl Build {
             Token::Open => Ok(self.open(alloc)?),
             Token::Close => Ok(self.close(alloc)?),
             Token::Const(bit) => Ok(self.with_factor(alloc, Expr::Const(bit))?),
-            Token::Name(word) => Ok(self.with_factor(alloc, named(alloc, places, word)?)?),
+            Token::Name(word) => Ok(self.with_factor(alloc, variable_of(alloc, places, word)?)?),
             Token::Wrong => Ok(self),
         }
     }

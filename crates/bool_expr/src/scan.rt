@@ -24,7 +24,7 @@ pub struct Scan {
 
 /// One more than a depth, counted up to 101.
 fn deeper(depth: u8) -> u8
-    ensures { result ≡ deeper depth }
+    ensures { result ≡ deeper 101 depth }
 {
     if depth < 101 { depth + 1 } else { 101 }
 }
@@ -58,7 +58,7 @@ impl Scan {
 
     /// Behind an opening bracket; false where none may stand here.
     fn open(&mut self) -> Result<bool, AllocError>
-        ensures { IfOk result (λ fits. step (scanned self.old) opening ≡ (if fits then Some (scanned self.new) else None)) }
+        ensures { IfOk result (λ fits. step 101 (scanned self.old) opening ≡ (if fits then Some (scanned self.new) else None)) }
     {
         if !self.wants_factor {
             return Ok(false);
@@ -71,7 +71,7 @@ impl Scan {
 
     /// Behind a closing bracket; false where none may stand here.
     fn close(&mut self) -> bool
-        ensures { step (scanned self.old) closing ≡ (if result then Some (scanned self.new) else None) }
+        ensures { step 101 (scanned self.old) closing ≡ (if result then Some (scanned self.new) else None) }
     {
         if self.wants_factor {
             return false;
@@ -86,7 +86,7 @@ impl Scan {
 
     /// Behind one more token; false where it may not stand here.
     fn step(&mut self, token: Token<'_>) -> Result<bool, AllocError>
-        ensures { IfOk result (λ fits. step (scanned self.old) (token_of token.entry) ≡ (if fits then Some (scanned self.new) else None)) }
+        ensures { IfOk result (λ fits. step 101 (scanned self.old) (token_of token.entry) ≡ (if fits then Some (scanned self.new) else None)) }
     {
         match token {
             Token::Sign(_) => {
@@ -119,7 +119,7 @@ impl Scan {
 
 /// The nesting of an expression, counted up to 101; None where the text is none.
 pub fn nesting(alloc: Global, text: &[u8]) -> Result<Option<u8>, AllocError>
-    ensures { IfOk result (λ found. found ≡ scan_from scan_start (tokens_of text.now)) }
+    ensures { IfOk result (λ found. found ≡ scan_from 101 scan_start (tokens_of text.now)) }
 {
     let mut scan = Scan::new(alloc);
     let mut rest = text;

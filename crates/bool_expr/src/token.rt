@@ -4,7 +4,7 @@ ghost use Rattle.bool_expr.specs.Tokens.{is_blank, is_letter, is_name_byte, is_k
 ghost use Rattle.bool_expr.specs.Held.{token_of};
 
 /// A sign between the parts of a chain.
-#[derive(Clone, Copy, Debug, PartialEq, Eq)]
+#[derive(Clone, Copy)]
 pub enum Sign {
     Or,
     Xor,
@@ -12,7 +12,7 @@ pub enum Sign {
 }
 
 /// A token of an expression.
-#[derive(Clone, Copy, Debug)]
+#[derive(Clone, Copy)]
 pub enum Token<'a> {
     Sign(Sign),
     Not,

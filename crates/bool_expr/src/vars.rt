@@ -34,7 +34,11 @@ pub fn places(alloc: Global, vars: &[Name]) -> Result<HashMap<Name, u32>, AllocE
 }
 
 /// The variable that a word is.
-pub fn named(alloc: Global, places: &HashMap<Name, u32>, word: &[u8]) -> Result<Expr, ExprFault>
+pub fn variable_of(
+    alloc: Global,
+    places: &HashMap<Name, u32>,
+    word: &[u8],
+) -> Result<Expr, ExprFault>
     ensures ok { IfOk result (λ expr. tree_of expr ≡ place (place_by (numbers places.now) word.now)) }
     ensures known { IfOk result (λ _. IsTrue (is_some (numbers places.now word.now))) }
     ensures err { IfErr result (λ fault. IsCause (numbers places.now) (variable word.now ∷ []) fault) }
