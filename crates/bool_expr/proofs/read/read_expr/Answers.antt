@@ -1,0 +1,32 @@
+use Rattle.std.proofs.Common.{arith}
+use Rattle.bool_expr.proofs.Answered.{none_spelled, some_spelled, depth_of, answered, caused}
+use Rattle.bool_expr.proofs.read.read_expr.Goals as goal
+
+pub returns-in_default-clause-exact : goal.returns-in_default-clause-exact
+returns-in_default-clause-exact c = none_spelled c.args.text.now c.in_ok-depth.field-0 c.in_ok-depth.ensures c.in_default.is
+
+pub returns-in_default-clause-cause : goal.returns-in_default-clause-cause
+returns-in_default-clause-cause c = none_spelled c.args.text.now c.in_ok-depth.field-0 c.in_ok-depth.ensures c.in_default.is
+
+pub returns-then-depth-gt-MAX_NESTING-clause-exact : goal.returns-then-depth-gt-MAX_NESTING-clause-exact
+returns-then-depth-gt-MAX_NESTING-clause-exact c = λ d s.
+    let e = depth_of c.args.text.now c.in_ok-depth.field-0 c.in-Some.depth c.in_ok-depth.ensures c.in-Some.is d s in
+    omega (arith, c.if-depth-gt-MAX_NESTING.true)
+
+pub returns-then-depth-gt-MAX_NESTING-clause-cause : goal.returns-then-depth-gt-MAX_NESTING-clause-cause
+returns-then-depth-gt-MAX_NESTING-clause-cause c =
+    let d = some_spelled c.args.text.now c.in_ok-depth.field-0 c.in-Some.depth c.in_ok-depth.ensures c.in-Some.is in
+    let e = depth_of c.args.text.now c.in_ok-depth.field-0 c.in-Some.depth c.in_ok-depth.ensures c.in-Some.is d.0 d.1 in
+    (d.0, d.1, omega (arith, c.if-depth-gt-MAX_NESTING.true))
+
+pub returns-clause-exact : goal.returns-clause-exact
+returns-clause-exact c = λ d s.
+    answered c.args.vars.now c.args.text.now c.in-Some.depth _ c.expr_of.result c.if-depth-gt-MAX_NESTING.false c.in_ok-places.ensures c.expr_of.ensures.ok c.expr_of.ensures.known c.expr_of.ensures.err d s
+    (depth_of c.args.text.now c.in_ok-depth.field-0 c.in-Some.depth c.in_ok-depth.ensures c.in-Some.is d s)
+
+pub returns-clause-cause : goal.returns-clause-cause
+returns-clause-cause c =
+    let d = some_spelled c.args.text.now c.in_ok-depth.field-0 c.in-Some.depth c.in_ok-depth.ensures c.in-Some.is in
+    caused c.args.vars.now c.args.text.now c.expr_of.result d.0 d.1
+    (answered c.args.vars.now c.args.text.now c.in-Some.depth _ c.expr_of.result c.if-depth-gt-MAX_NESTING.false c.in_ok-places.ensures c.expr_of.ensures.ok c.expr_of.ensures.known c.expr_of.ensures.err d.0 d.1
+    (depth_of c.args.text.now c.in_ok-depth.field-0 c.in-Some.depth c.in_ok-depth.ensures c.in-Some.is d.0 d.1))

@@ -1,0 +1,33 @@
+ghost use Rattle.std.specs.Prelude.{◌<◌, ◌^◌, length};
+ghost use Rattle.bool_expr.specs.Grammar.{Expression};
+ghost use Rattle.bool_expr.specs.Read.{Spells, IsAnswer, HasCause};
+
+use crate::build::expr_of;
+use crate::expr::Expr;
+use crate::fault::ExprFault;
+use crate::scan::nesting;
+use crate::vars::places;
+use std::alloc::Global;
+use ste_base::Name;
+
+/// The greatest nesting of an expression that is read.
+pub const MAX_NESTING: u8 = 100;
+
+/// Reads an expression over the declared variables.
+///
+/// `BadExpr` comes exactly where the text is no expression, at any nesting. Otherwise `TooDeep` comes exactly where it is
+/// nested above 100, and otherwise `UnknownVar` exactly where a variable is not declared, with the first such in the
+/// text. `OutOfMemory` may come at any text. No call depth grows with the text.
+pub fn read_expr(alloc: Global, text: &[u8], vars: &[Name]) -> Result<Expr, ExprFault>
+    requires { length vars.now < 2 ^ 32 }
+    ensures exact { (d : Expression) → Spells d text.now → IsAnswer vars.now d result }
+    ensures cause { HasCause vars.now text.now result }
+{
+    let Some(depth) = nesting(alloc, text)? else {
+        return Err(ExprFault::BadExpr);
+    };
+    if depth > MAX_NESTING {
+        return Err(ExprFault::TooDeep);
+    }
+    expr_of(alloc, text, &places(alloc, vars)?)
+}
