@@ -1,5 +1,5 @@
 -- The words of a check.
-use Rattle.std.proofs.Common.{◌≡◌, ◌≤◌, ℕ, Option, Some, Result, Err, inl, inr, take, List, [], ◌∷◌, length, map, get_or, refl, sym, ap, ◌∙◌, arith}
+use Rattle.std.proofs.Common.{◌≡◌, ◌≤◌, ℕ, Option, Some, Result, Err, inl, inr, take, List, [], ◌∷◌, length, get_or, refl, sym, ap, ◌∙◌, arith}
 use Rattle.std.specs.Prelude.{◌⊎◌, String, string_bytes, codes}
 use Rattle.std.specs.declared.alloc.Global.{Global}
 use Rattle.ste_program.specs.declared.run.Status.{Status}

@@ -1,13 +1,11 @@
 -- When a run that nothing failed answers with a report.
-use Rattle.std.proofs.Common.{◌≡◌, ◌<◌, ◌≤◌, ℕ, List, [], ◌∷◌, Option, None, Some, inl, inr, length, map, take, refl, sym, ap, ◌∙◌, subst, arith}
+use Rattle.std.proofs.Common.{◌≡◌, ◌<◌, ◌≤◌, ℕ, List, [], ◌∷◌, Option, None, Some, inl, inr, length, map, sym, ap, ◌∙◌, arith}
 use Rattle.std.specs.Prelude.{◌⊎◌, IsSomeAnd, String, string_bytes, codes}
 use Rattle.std.specs.declared.alloc.Global.{Global}
 use Rattle.std.specs.FinMap.{get}
 use Rattle.ste_program.specs.declared.run.Status.{Status}
-use Rattle.ste_program.specs.declared.run.Status.TheVariants.{Passed, NotPassed, Refused, Faulted, NoMemory}
-use Rattle.ste_program.specs.Answer.{AreTexts, IsAnswer, IsCheck, IsNotYet, IsOversized, IsReadable, IsUnread, greatest}
-use Rattle.ste_program.specs.Causes.{Rose}
-use Rattle.ste_program.specs.Outside.{Store, with_more}
+use Rattle.ste_program.specs.Answer.{IsAnswer, IsCheck, IsNotYet, IsOversized, IsReadable, greatest}
+use Rattle.ste_program.specs.Outside.{Store}
 
 same_words : (words : List (List ℕ)) (p q net task other another : List ℕ) → words ≡ p ∷ codes "check" ∷ net ∷ task ∷ [] → words ≡ q ∷ codes "check" ∷ other ∷ another ∷ [] → (net ≡ other) × (task ≡ another)
 same_words words p q net task other another e f = (cc, cc)

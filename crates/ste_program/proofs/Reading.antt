@@ -12,7 +12,7 @@ use Rattle.ste_program.specs.declared.netlist.Netlist.{Netlist}
 use Rattle.ste_program.specs.declared.task.TaskText.{TaskText}
 use Rattle.ste_program.specs.declared.netlist.Part.{Part}
 use Rattle.ste_program.specs.declared.netlist.Part.TheVariants.{Names, Latch}
-use Rattle.ste_program.specs.Answer.{IsReading, IsUnread, OneReading}
+use Rattle.ste_program.specs.Answer.{IsUnread, OneReading}
 use Rattle.ste_program.specs.Flat.{flat_of, gates_from, net_of, signals}
 use Rattle.ste_program.specs.Netlist.{is_netlist, is_part, netlist_lines}
 use Rattle.ste_program.specs.Task.{is_task, task_lines}

@@ -1,5 +1,5 @@
 -- What the program answers, where the files tell what they hold.
-use Rattle.std.specs.Prelude.{◌≡◌, ◌≢◌, ◌<◌, ◌≤◌, ◌⊎◌, ◌++◌, ◌∷◌, [], ℕ, Bool, true, false, List, length, map, take, codes, IsTrue, IsSomeAnd, Option, Some, String, string_bytes}
+use Rattle.std.specs.Prelude.{◌≡◌, ◌<◌, ◌≤◌, ◌⊎◌, ◌++◌, ◌∷◌, [], ℕ, Bool, true, false, List, length, map, take, codes, IsTrue, IsSomeAnd, Option, Some, String, string_bytes}
 use Rattle.std.specs.declared.alloc.Global.{Global}
 use Rattle.std.specs.FinMap.{get}
 use Rattle.ste_model.specs.declared.task.Assertion.{Assertion}

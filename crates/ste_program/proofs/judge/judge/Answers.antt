@@ -1,4 +1,4 @@
-use Rattle.std.proofs.Common.{◌≡◌, ◌∙◌}
+use Rattle.std.proofs.Common.{◌∙◌}
 use Rattle.ste_program.proofs.Reading.{unread_task}
 use Rattle.ste_program.proofs.judge.judge.Goals as goal
 

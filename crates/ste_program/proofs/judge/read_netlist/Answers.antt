@@ -1,4 +1,3 @@
-use Rattle.std.proofs.Common.{◌≡◌, List, subst}
 use Rattle.ste_program.specs.Netlist.{is_netlist, netlist_lines}
 use Rattle.ste_program.proofs.Reading.{net_plain, no_lines_no_netlist, unread}
 use Rattle.ste_program.proofs.judge.read_netlist.Goals as goal

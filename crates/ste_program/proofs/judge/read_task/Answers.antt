@@ -1,4 +1,3 @@
-use Rattle.std.proofs.Common.{◌≡◌}
 use Rattle.ste_program.specs.Task.{is_task, task_lines}
 use Rattle.ste_program.proofs.Reading.{task_plain, no_lines_no_task, unread}
 use Rattle.ste_program.proofs.judge.read_task.Goals as goal

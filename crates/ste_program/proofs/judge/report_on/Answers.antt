@@ -1,15 +1,12 @@
-use Rattle.std.proofs.Common.{◌≡◌, ◌∙◌, ◌≤◌, ℕ, List, length, arith, refl, subst, sym, ap, inl, inr}
+use Rattle.std.proofs.Common.{◌∙◌, ◌≤◌, ℕ, List, length, arith, subst, sym, ap}
 use Rattle.std.specs.Prelude.{All}
-use Rattle.net_core.specs.declared.raw.Gate.{Gate}
 use Rattle.net_core.specs.declared.raw.RawNet.{RawNet}
 use Rattle.net_core.specs.Run.{IsSettled}
 use Rattle.net_core.proofs.Ordered.{settled_by_order}
-use Rattle.ste_model.specs.declared.verdict.Verdict.{Verdict}
 use Rattle.ste_model.specs.Found.{IsVerdictOf}
 use Rattle.ste_model.proofs.Passes.{pass_holds}
 use Rattle.ste_program.specs.Answer.{report_line}
 use Rattle.ste_program.specs.Flat.{flat_of}
-use Rattle.ste_program.specs.Task.{IsAssertionOf}
 use Rattle.ste_program.proofs.Reading.{few_vars, narrow}
 use Rattle.ste_program.proofs.judge.report_on.Goals as goal
 

@@ -1,4 +1,4 @@
-use Rattle.std.proofs.Common.{◌≡◌, refl, suc}
+use Rattle.std.proofs.Common.{suc}
 use Rattle.ste_program.proofs.Asked.{asked_both}
 use Rattle.ste_program.proofs.run.fetch_both.Goals as goal
 

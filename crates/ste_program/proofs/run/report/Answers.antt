@@ -1,4 +1,4 @@
-use Rattle.std.proofs.Common.{◌≡◌, ◌∙◌, List, Err, ap, inl, inr}
+use Rattle.std.proofs.Common.{Err, ap, inr}
 use Rattle.std.proofs.lemmas.Result.{err_from_is_err_and}
 use Rattle.ste_program.specs.declared.run.Refusal.TheVariants.{CannotRead}
 use Rattle.ste_program.specs.Answer.{IsUnread}

@@ -1,4 +1,4 @@
-use Rattle.std.proofs.Common.{◌≡◌, inl, inr, refl, sym}
+use Rattle.std.proofs.Common.{inl, inr, refl}
 use Rattle.ste_program.specs.Answer.{not_yet}
 use Rattle.ste_program.proofs.Commands.{memory_told, not_told}
 use Rattle.ste_program.proofs.Complete.{never_refused}
