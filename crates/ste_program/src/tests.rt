@@ -11,6 +11,19 @@ const INVERTS: &str = ".vars p\n.ste t1\n.ant a = p from 0 to 1\n.con y = !p fro
 
 const LATCH: &str = ".model l\n.inputs d\n.outputs q\n.latch d q\n.end\n";
 
+const MUX: &str = ".model mux\n.inputs s a b\n.outputs y\n.names s a b y\n01- 1\n1-1 1\n.end\n";
+
+const AND_NOT: &str =
+    ".model an\n.inputs a b\n.outputs y\n.names b n\n0 1\n.names a n y\n11 1\n.end\n";
+
+const BOTH: &str =
+    ".model both\n.inputs a\n.outputs y\n.names a n\n0 1\n.names a n y\n11 1\n.end\n";
+
+const SHIFT: &str =
+    ".model shift\n.inputs d\n.outputs c\n.latch d a\n.latch a b\n.latch b c\n.end\n";
+
+const TOGGLE: &str = ".model toggle\n.inputs\n.outputs q\n.names q n\n0 1\n.latch n q\n.end\n";
+
 const NOT_YET: &str = "stework: not yet\n";
 
 /// The words of a check of the files `n` and `t`.
@@ -52,12 +65,8 @@ fn expect(
 }
 
 #[test]
-fn examples(rt: HostRuntime) -> Result<(), Fail> {
+fn examples_of_one_gate(rt: HostRuntime) -> Result<(), Fail> {
     let alloc = rt.alloc();
-    let mux = ".model mux\n.inputs s a b\n.outputs y\n.names s a b y\n01- 1\n1-1 1\n.end\n";
-    let both = ".model both\n.inputs a\n.outputs y\n.names a n\n0 1\n.names a n y\n11 1\n.end\n";
-    let shift = ".model shift\n.inputs d\n.outputs c\n.latch d a\n.latch a b\n.latch b c\n.end\n";
-    let toggle = ".model toggle\n.inputs\n.outputs q\n.names q n\n0 1\n.latch n q\n.end\n";
     for (net, task, status, out) in [
         (INVERTER, INVERTS, Status::Passed, "t1: pass\n"),
         (
@@ -96,38 +105,48 @@ fn examples(rt: HostRuntime) -> Result<(), Fail> {
             Status::Passed,
             "empty: pass\n",
         ),
+    ] {
+        expect(&rt, alloc, net, task, status, out, "")?;
+    }
+    Ok(())
+}
+
+#[test]
+fn examples_of_gates_and_latches(rt: HostRuntime) -> Result<(), Fail> {
+    let alloc = rt.alloc();
+    for (net, task, status, out) in [
         (
-            mux,
+            MUX,
             ".ste m\n.ant a = 1 from 0 to 1\n.ant b = 1 from 0 to 1\n.con y = 1 from 0 to 1\n.end\n",
             Status::Passed,
             "m: pass\n",
         ),
         (
-            both,
+            BOTH,
             ".ste g\n.con y = 0 from 0 to 1\n.end\n",
             Status::NotPassed,
             "g: weak failure\n",
         ),
         (
-            shift,
+            SHIFT,
             ".vars p\n.ste s\n.ant d = p from 0 to 1\n.con c = p from 3 to 4\n.end\n",
             Status::Passed,
             "s: pass\n",
         ),
         (
-            shift,
+            SHIFT,
             ".vars p\n.ste s\n.ant d = p from 0 to 1\n.con c = p from 2 to 3\n.end\n",
             Status::NotPassed,
             "s: weak failure\n",
         ),
         (
-            toggle,
+            TOGGLE,
             ".vars p\n.ste f\n.ant q = p from 0 to 1\n.con q = !p from 1 to 2\n.con q = p from 2 to 3\n.end\n",
             Status::Passed,
             "f: pass\n",
         ),
         (
-            toggle,
+            TOGGLE,
             ".vars p\n.ste f\n.ant q = p from 0 to 1\n.con q = p from 1 to 2\n.end\n",
             Status::NotPassed,
             "f: strong failure\n",
@@ -229,13 +248,12 @@ fn compare(
 }
 
 #[test]
-fn sets_made_by_hand(rt: HostRuntime) -> Result<(), Fail> {
+fn sets_of_a_multiplexer(rt: HostRuntime) -> Result<(), Fail> {
     let alloc = rt.alloc();
-    let mux = ".model mux\n.inputs s a b\n.outputs y\n.names s a b y\n01- 1\n1-1 1\n.end\n";
     compare(
         &rt,
         alloc,
-        mux,
+        MUX,
         &["s", "a", "b"],
         &[
             ("000", b'0'),
@@ -267,11 +285,16 @@ fn sets_made_by_hand(rt: HostRuntime) -> Result<(), Fail> {
             ("XXX", b'X'),
         ],
     )?;
-    let and_not = ".model an\n.inputs a b\n.outputs y\n.names b n\n0 1\n.names a n y\n11 1\n.end\n";
+    Ok(())
+}
+
+#[test]
+fn sets_of_two_gates(rt: HostRuntime) -> Result<(), Fail> {
+    let alloc = rt.alloc();
     compare(
         &rt,
         alloc,
-        and_not,
+        AND_NOT,
         &["a", "b"],
         &[
             ("00", b'0'),
@@ -285,11 +308,10 @@ fn sets_made_by_hand(rt: HostRuntime) -> Result<(), Fail> {
             ("XX", b'X'),
         ],
     )?;
-    let both = ".model both\n.inputs a\n.outputs y\n.names a n\n0 1\n.names a n y\n11 1\n.end\n";
     compare(
         &rt,
         alloc,
-        both,
+        BOTH,
         &["a"],
         &[("0", b'0'), ("1", b'0'), ("X", b'X')],
     )?;
