@@ -1,5 +1,6 @@
 pub mod Causes
 pub mod Outside
+pub mod InMemory
 pub mod Words
 pub mod Netlist
 pub mod Flat

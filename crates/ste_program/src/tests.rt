@@ -361,14 +361,15 @@ fn what_fails(rt: HostRuntime) -> Result<(), Fail> {
     Ok(())
 }
 
-/// A text of 131,072 bytes.
+/// A text of 65,537 bytes, one more than a file may have.
 fn large_text(alloc: Global) -> Result<Vec<u8>, AllocError> {
     let mut text = Vec::new(alloc);
     text.push(b'.')?;
-    for _ in 0..17 {
+    for _ in 0..16 {
         let half = text.as_slice().to_vec(alloc)?;
         text.extend_from_slice(&half)?;
     }
+    text.push(b'.')?;
     Ok(text)
 }
 

@@ -1,5 +1,7 @@
-ghost use Rattle.std.specs.Prelude.{◌≡◌, List, ℕ, Some, OnOk, OnErr, IfOk, length, vec_capacity, ◌≤◌, ◌<◌, []};
-ghost use Rattle.ste_program.specs.Outside.{Store};
+ghost use Rattle.std.specs.Prelude.{◌≡◌, ◌⊎◌, List, ℕ, Some, OnOk, OnErr, IfOk, length, take, vec_capacity, ◌≤◌, ◌<◌, []};
+ghost use Rattle.ste_program.specs.Causes.{Rose};
+ghost use Rattle.ste_program.specs.InMemory.{FetchFails, WriteFails, next, taken_at_once};
+ghost use Rattle.ste_program.specs.Outside.{IsTooLarge, StandsAt, Store, with_more, with_name};
 ghost use Rattle.std.specs.FinMap.{from_entries, get};
 ghost use Rattle.std.specs.FinMap as map;
 ghost use Rattle.std.specs.Option.{option_copied};
@@ -26,6 +28,8 @@ impl MemoryFiles {
     pub fn new(alloc: Global, failing: Vec<u64>) -> Self
         ensures holds { ⟦<MemoryFiles as Files>⟧.holds result ≡ Some map.empty }
         ensures asked { ⟦<MemoryFiles as Files>⟧.asked result ≡ Some [] }
+        ensures fails { result.failing.items ≡ failing.items }
+        ensures counts { result.fetches ≡ 0 }
     {
         MemoryFiles {
             files: Vec::new(alloc),
@@ -42,6 +46,8 @@ impl MemoryFiles {
         ensures ok { OnOk result ((store : Store) → ⟦<MemoryFiles as Files>⟧.holds self.old ≡ Some store → ⟦<MemoryFiles as Files>⟧.holds self.new ≡ Some (map.insert store name.now bytes.now)) }
         ensures err { OnErr result (⟦<MemoryFiles as Files>⟧.holds self.new ≡ ⟦<MemoryFiles as Files>⟧.holds self.old) }
         ensures asked { ⟦<MemoryFiles as Files>⟧.asked self.new ≡ ⟦<MemoryFiles as Files>⟧.asked self.old }
+        ensures fails { self.new.failing.items ≡ self.old.failing.items }
+        ensures counts { self.new.fetches ≡ self.old.fetches }
     {
         let name = Name::from_bytes(self.alloc, name.as_bytes())?;
         let bytes = Items::from(bytes.to_vec(self.alloc)?);
@@ -74,7 +80,10 @@ impl MemorySink {
         failing: Vec<u64>,
     ) -> Result<MemorySink, AllocError>
         requires { 0 < most }
-        ensures { IfOk result (λ sink. ⟦<MemorySink as Sink>⟧.taken sink ≡ Some []) }
+        ensures taken { IfOk result (λ sink. ⟦<MemorySink as Sink>⟧.taken sink ≡ Some []) }
+        ensures limits { IfOk result (λ sink. (sink.room ≡ room) × (sink.most ≡ most)) }
+        ensures fails { IfOk result (λ sink. sink.failing.items ≡ failing.items) }
+        ensures counts { IfOk result (λ sink. sink.writes ≡ 0) }
     {
         Ok(MemorySink {
             bytes: Vec::with_capacity(alloc, room)?,
@@ -100,13 +109,28 @@ impl Sink for MemorySink {
     ghost faults = { λ s. s.faults };
 
     #[tactic(auto, unfolding(crate::specs::Outside::with_more))]
-    fn write(&mut self, piece: &[u8]) -> Result<usize, SinkFailed> {
+    fn write(&mut self, piece: &[u8]) -> Result<usize, SinkFailed>
+        requires { 0 < length piece.now }
+        ensures count { IfOk result (λ n. (0 < n) × (n ≤ length piece.now)) }
+        ensures ok { IfOk result (λ n. ⟦<MemorySink as Sink>⟧.taken self.new ≡ with_more (⟦<MemorySink as Sink>⟧.taken self.old) (take n piece.now)) }
+        ensures err { OnErr result (⟦<MemorySink as Sink>⟧.taken self.new ≡ ⟦<MemorySink as Sink>⟧.taken self.old) }
+        ensures failed { OnErr result (Rose (⟦<MemorySink as Sink>⟧.faults self.old) (⟦<MemorySink as Sink>⟧.faults self.new)) }
+        ensures later { ⟦<MemorySink as Sink>⟧.faults self.old ≤ ⟦<MemorySink as Sink>⟧.faults self.new }
+        ensures fails { OnErr result (WriteFails self.old.failing.items self.old.writes self.old.room (length self.old.bytes.items)) }
+        ensures takes { OnOk result (¬ WriteFails self.old.failing.items self.old.writes self.old.room (length self.old.bytes.items)) }
+        ensures at_once { IfOk result (λ n. n ≡ taken_at_once self.old.most self.old.room (length self.old.bytes.items) (length piece.now)) }
+        ensures same { (self.new.failing.items ≡ self.old.failing.items) × (self.new.room ≡ self.old.room) × (self.new.most ≡ self.old.most) × (self.new.writes ≡ next self.old.writes) }
+    {
         self.writes = self.writes.saturating_add(1);
-        let count = piece.len().min(self.most).min(self.room - self.bytes.len());
-        if count == 0 || self.failing.contains(&self.writes) {
+        if self.room <= self.bytes.len() {
             self.faults = self.faults.saturating_add(1);
             return Err(SinkFailed);
         }
+        if self.failing.contains(&self.writes) {
+            self.faults = self.faults.saturating_add(1);
+            return Err(SinkFailed);
+        }
+        let count = piece.len().min(self.most).min(self.room - self.bytes.len());
         let _ = self.bytes.extend_from_slice(&piece[..count]);
         Ok(count)
     }
@@ -119,7 +143,21 @@ impl Files for MemoryFiles {
 
     ghost faults = { λ f. f.faults };
 
-    fn fetch(&mut self, alloc: Global, name: &str, max: u64) -> Result<Vec<u8>, FetchFault> {
+    fn fetch(&mut self, alloc: Global, name: &str, max: u64) -> Result<Vec<u8>, FetchFault>
+        requires { max ≤ 67108864 }
+        ensures bytes { IfOk result (λ bytes. StandsAt (⟦<MemoryFiles as Files>⟧.holds self.old) name.now bytes.items) }
+        ensures size { IfOk result (λ bytes. length bytes.items ≤ max) }
+        ensures failed { result ≡ Err FetchFault.Failed → Rose (⟦<MemoryFiles as Files>⟧.faults self.old) (⟦<MemoryFiles as Files>⟧.faults self.new) }
+        ensures too_large { (seen : ℕ) → result ≡ Err (FetchFault.TooLarge seen) → (max < seen) × IsTooLarge (⟦<MemoryFiles as Files>⟧.holds self.old) name.now max }
+        ensures later { ⟦<MemoryFiles as Files>⟧.faults self.old ≤ ⟦<MemoryFiles as Files>⟧.faults self.new }
+        ensures holds { ⟦<MemoryFiles as Files>⟧.holds self.new ≡ ⟦<MemoryFiles as Files>⟧.holds self.old }
+        ensures asked { (⟦<MemoryFiles as Files>⟧.asked self.new ≡ with_name (⟦<MemoryFiles as Files>⟧.asked self.old) name.now) ⊎ ((result ≡ Err FetchFault.OutOfMemory) × (⟦<MemoryFiles as Files>⟧.asked self.new ≡ ⟦<MemoryFiles as Files>⟧.asked self.old)) }
+        ensures fails { result ≡ Err FetchFault.Failed → (store : Store) → ⟦<MemoryFiles as Files>⟧.holds self.old ≡ Some store → FetchFails self.old.failing.items self.old.fetches store name.now }
+        ensures reads { OnOk result ((store : Store) → ⟦<MemoryFiles as Files>⟧.holds self.old ≡ Some store → ¬ FetchFails self.old.failing.items self.old.fetches store name.now) }
+        ensures sees { (seen : ℕ) → result ≡ Err (FetchFault.TooLarge seen) → (store : Store) → ⟦<MemoryFiles as Files>⟧.holds self.old ≡ Some store → ¬ FetchFails self.old.failing.items self.old.fetches store name.now }
+        ensures same { self.new.failing.items ≡ self.old.failing.items }
+        ensures counts { (self.new.fetches ≡ next self.old.fetches) ⊎ ((result ≡ Err FetchFault.OutOfMemory) × (self.new.fetches ≡ self.old.fetches)) }
+    {
         let Ok(wanted) = Name::from_bytes(alloc, name.as_bytes()) else {
             return Err(FetchFault::OutOfMemory);
         };
