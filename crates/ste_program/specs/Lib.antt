@@ -5,7 +5,4 @@ pub mod Words
 pub mod Netlist
 pub mod Flat
 pub mod Task
-pub mod Choices
-pub mod Sets
-pub mod Outcome
 pub mod Answer

@@ -8,12 +8,12 @@ ghost use Rattle.ste_program.specs.Netlist.{is_netlist, netlist_lines};
 ghost use Rattle.ste_program.specs.Task.{is_task, task_lines};
 ghost use Rattle.ste_program.specs.Words.{text_of};
 
-use crate::check::verdict;
 use crate::flat::flat_net;
 use crate::netlist::{Netlist, netlist_of};
 use crate::task::{TaskText, assertion_of, task_of};
 use crate::words::lines_of;
 use net_core::Net;
+use plain_check::verdict;
 use std::alloc::{AllocError, Global};
 use ste_base::{Items, Name};
 use ste_model::Verdict;

@@ -1,7 +1,6 @@
 //! All that the program does, over files and sinks that are handed in.
 #![tactic(auto)]
 
-mod check;
 mod flat;
 pub mod io;
 mod judge;

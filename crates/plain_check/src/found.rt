@@ -1,0 +1,107 @@
+ghost use Rattle.std.specs.Prelude.{◌≡◌, ◌<◌, ℕ, [], false, length, IsTrue, slice_index_or};
+ghost use Rattle.std.specs.List.{list_any};
+ghost use Rattle.ste_model.specs.Asked.{quint_at};
+ghost use Rattle.plain_check.specs.Outcome.{fails, fails_at, fails_cut, has_empty, is_contradictory, is_empty, is_strong, is_weak};
+ghost use Rattle.plain_check.specs.Sets.{set_at};
+
+use crate::sources::applies;
+use crate::table::set_at;
+use bool_expr::value;
+use net_core::BitSet;
+use ste_base::{Items, Time};
+use ste_model::Quint;
+
+/// What is found under one assignment.
+#[derive(Clone, Copy, Debug, PartialEq, Eq)]
+pub enum Outcome {
+    Contradictory,
+    Strong,
+    Weak,
+    Fine,
+}
+
+impl Outcome {
+    pub fn is_strong(self) -> bool
+        ensures { result ≡ is_strong self }
+    {
+        matches!(self, Outcome::Strong)
+    }
+
+    pub fn is_weak(self) -> bool
+        ensures { result ≡ is_weak self }
+    {
+        matches!(self, Outcome::Weak)
+    }
+
+    pub fn is_contradictory(self) -> bool
+        ensures { result ≡ is_contradictory self }
+    {
+        matches!(self, Outcome::Contradictory)
+    }
+}
+
+/// Whether some set of a row has no bit.
+fn row_has_empty(row: &[BitSet]) -> bool
+    ensures { result ≡ list_any is_empty row.now }
+{
+    row.iter().any(|set| !set.zero && !set.one)
+}
+
+/// Whether some set of the table has no bit.
+pub fn has_empty(rows: &[Items<BitSet>]) -> bool
+    ensures { result ≡ has_empty rows.now }
+{
+    rows.iter().any(|row| row_has_empty(row.as_slice()))
+}
+
+/// Whether a value fails on a set: strongly where the set is exactly the opposite bit, weakly where it has both bits.
+fn fails(strongly: bool, set: BitSet, value: bool) -> bool
+    ensures { result ≡ fails strongly set value }
+{
+    if strongly {
+        set.has(!value) && !set.has(value)
+    } else {
+        set.has(false) && set.has(true)
+    }
+}
+
+/// Whether a quintuple fails at a time.
+fn quint_fails(strongly: bool, row: &[BitSet], quint: &Quint, bits: &[bool], t: Time) -> bool
+    ensures { result ≡ fails_cut strongly (set_at row.now) (quint_at bits.now t quint.now) }
+{
+    applies(quint, bits, t)
+        && fails(
+            strongly,
+            set_at(row, quint.node.0),
+            value(&quint.value, bits),
+        )
+}
+
+/// Whether some quintuple fails at a time.
+fn fails_at(strongly: bool, row: &[BitSet], quints: &[Quint], bits: &[bool], t: Time) -> bool
+    ensures { result ≡ fails_at strongly row.now quints.now bits.now t }
+{
+    quints
+        .iter()
+        .any(|quint| quint_fails(strongly, row, quint, bits, t))
+}
+
+/// Whether some quintuple fails at some time of a table with a row for each time below the depth.
+pub fn fails_somewhere(
+    strongly: bool,
+    rows: &[Items<BitSet>],
+    quints: &[Quint],
+    bits: &[bool],
+    depth: Time,
+) -> bool
+    requires { length rows.now ≡ depth }
+    ensures some { IsTrue result → (t : ℕ) × (t < depth) × IsTrue (fails_at strongly (slice_index_or rows.now t []) quints.now bits.now t) }
+    ensures none { result ≡ false → (t : ℕ) → t < depth → fails_at strongly (slice_index_or rows.now t []) quints.now bits.now t ≡ false }
+{
+    for t in 0..depth {
+        if fails_at(strongly, rows[t as usize].as_slice(), quints, bits, t) {
+            return true;
+        }
+    }
+    false
+}

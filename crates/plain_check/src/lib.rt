@@ -1,0 +1,11 @@
+//! The plain checker: one assignment after another, and a gate's set over all choices of bits.
+#![tactic(auto)]
+
+pub mod checker;
+mod choices;
+mod found;
+mod gates;
+mod sources;
+mod table;
+
+pub use checker::verdict;

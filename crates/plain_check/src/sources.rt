@@ -1,0 +1,65 @@
+ghost use Rattle.std.specs.Prelude.{◌≡◌, ◌<◌, ◌++◌, ◌∷◌, [], ℕ, List, length, All, IfOk};
+ghost use Rattle.net_core.specs.declared.bit_set.BitSet.{BitSet as Set};
+ghost use Rattle.net_core.specs.Possible.{Cut, ArePossible};
+ghost use Rattle.ste_model.specs.Asked.{asked_at, quint_at};
+ghost use Rattle.plain_check.specs.Sets.{Allows, AreLatched};
+
+use bool_expr::value;
+use net_core::{BitSet, Net};
+use std::alloc::{AllocError, Global};
+use ste_base::Time;
+use ste_model::Quint;
+
+/// Whether the quintuple applies at a time.
+pub fn applies(quint: &Quint, bits: &[bool], t: Time) -> bool
+    ensures { result ≡ (quint_at bits.now t quint.now).on }
+{
+    value(&quint.guard, bits) && quint.from <= t && t < quint.to
+}
+
+/// Cuts the set of a quintuple's net to the quintuple's value, where it applies.
+fn cut(allowed: &mut Vec<BitSet>, quint: &Quint, bits: &[bool], t: Time)
+    requires { quint.now.node.0 < length allowed.old.items }
+    ensures long { length allowed.new.items ≡ length allowed.old.items }
+    ensures allows { (cuts : List Cut) → Allows cuts allowed.old.items → Allows (cuts ++ quint_at bits.now t quint.now ∷ []) allowed.new.items }
+{
+    if applies(quint, bits, t) {
+        let net = quint.node.0 as usize;
+        let left = allowed[net].meet(BitSet::only(value(&quint.value, bits)));
+        allowed[net] = left;
+    }
+}
+
+/// The bits that the quintuples which apply at a time leave to each net.
+pub fn allowed_at(
+    alloc: Global,
+    nets: u32,
+    quints: &[Quint],
+    bits: &[bool],
+    t: Time,
+) -> Result<Vec<BitSet>, AllocError>
+    requires { All (λ quint. quint.node.0 < nets) quints.now }
+    ensures long { IfOk result (λ allowed. length allowed.items ≡ nets) }
+    ensures allows { IfOk result (λ allowed. Allows (asked_at quints.now bits.now t) allowed.items) }
+{
+    let mut allowed = vec![in alloc; BitSet::both(); nets as usize]?;
+    for quint in quints {
+        cut(&mut allowed, quint, bits, t);
+    }
+    Ok(allowed)
+}
+
+/// Gives each latch output what its latch holds and what is allowed.
+pub fn place_latches(net: &Net, held: &[BitSet], allowed: &[BitSet], sets: &mut Vec<BitSet>)
+    requires held { length held.now ≡ length net.now.raw.latches }
+    requires allowed { length allowed.now ≡ net.now.raw.nets }
+    requires long { length sets.old.items ≡ net.now.raw.nets }
+    ensures long { length sets.new.items ≡ net.now.raw.nets }
+    ensures sets { (cuts : List Cut) (family : ℕ → Set) → Allows cuts allowed.now → ArePossible net.now.raw held.now cuts family → AreLatched net.now.raw 0 family sets.old.items → AreLatched net.now.raw (length net.now.raw.latches) family sets.new.items }
+{
+    for (k, latch) in net.latches().iter().enumerate() {
+        let output = latch.output.0 as usize;
+        let set = held[k].meet(allowed[output]);
+        sets[output] = set;
+    }
+}

@@ -1,0 +1,106 @@
+ghost use Rattle.std.specs.Prelude.{◌≡◌, ◌<◌, ◌≤◌, ℕ, Bool, List, length, All, IfOk, slice_index_or};
+ghost use Rattle.net_core.specs.Possible.{ArePossible};
+ghost use Rattle.ste_model.specs.Asked.{asked_at};
+ghost use Rattle.ste_model.specs.Table.{IsPossible, first_set, first_sets, next_sets};
+ghost use Rattle.plain_check.specs.Choices.{lists_of};
+ghost use Rattle.plain_check.specs.Outcome.{table_of};
+ghost use Rattle.plain_check.specs.Sets.{set_at};
+
+use crate::gates::place_gates;
+use crate::sources::{allowed_at, place_latches};
+use net_core::{BitSet, Init, Latch, Net};
+use std::alloc::{AllocError, Global};
+use ste_base::{Items, Time};
+use ste_model::{Assertion, Quint};
+
+/// The first values of a latch.
+fn first_set(reset: bool, latch: &Latch) -> BitSet
+    ensures { result ≡ first_set reset latch.now }
+{
+    if reset {
+        match latch.init {
+            Init::Zero => BitSet::only(false),
+            Init::One => BitSet::only(true),
+            Init::Free => BitSet::both(),
+        }
+    } else {
+        BitSet::both()
+    }
+}
+
+/// The first values of the latches.
+fn first_sets(alloc: Global, net: &Net, reset: bool) -> Result<Vec<BitSet>, AllocError>
+    ensures { IfOk result (λ held. held.items ≡ first_sets net.now.raw reset) }
+{
+    net.latches()
+        .iter()
+        .map(|latch| first_set(reset, latch))
+        .collect(alloc)
+}
+
+/// The set of a net in a row; a net that the row lacks has both bits.
+pub fn set_at(row: &[BitSet], net: u32) -> BitSet
+    ensures { result ≡ set_at row.now net }
+{
+    row.get(net as usize).copied().unwrap_or(BitSet::both())
+}
+
+/// What the latches hold one time later.
+fn next_sets(alloc: Global, net: &Net, row: &[BitSet]) -> Result<Vec<BitSet>, AllocError>
+    ensures { IfOk result (λ held. held.items ≡ next_sets net.now.raw (set_at row.now)) }
+{
+    net.latches()
+        .iter()
+        .map(|latch| set_at(row, latch.input.0))
+        .collect(alloc)
+}
+
+/// The possible sets of one time, from what the latches hold and what is asked.
+fn sets_at(
+    alloc: Global,
+    net: &Net,
+    choices: &[Items<Items<bool>>],
+    held: &[BitSet],
+    quints: &[Quint],
+    bits: &[bool],
+    t: Time,
+) -> Result<Items<BitSet>, AllocError>
+    requires choices { (k : ℕ) (d : List (List Bool)) → k < length choices.now → slice_index_or choices.now k d ≡ lists_of k }
+    requires widths { All (λ gate. length gate.inputs < length choices.now) net.now.raw.gates }
+    requires held { length held.now ≡ length net.now.raw.latches }
+    requires in_range { All (λ quint. quint.node.0 < net.now.raw.nets) quints.now }
+    ensures long { IfOk result (λ row. length row ≡ net.now.raw.nets) }
+    ensures possible { IfOk result (λ row. ArePossible net.now.raw held.now (asked_at quints.now bits.now t) (set_at row)) }
+{
+    let allowed = allowed_at(alloc, net.nets(), quints, bits, t)?;
+    let mut sets = allowed.as_slice().to_vec(alloc)?;
+    place_latches(net, held, &allowed, &mut sets);
+    place_gates(alloc, net, choices, &allowed, &mut sets)?;
+    Ok(Items::from(sets))
+}
+
+/// The possible table of an assertion under an assignment: a row for each time below the depth, with a set for each net.
+pub fn table(
+    alloc: Global,
+    net: &Net,
+    choices: &[Items<Items<bool>>],
+    task: &Assertion,
+    bits: &[bool],
+    depth: Time,
+) -> Result<Vec<Items<BitSet>>, AllocError>
+    requires choices { (k : ℕ) (d : List (List Bool)) → k < length choices.now → slice_index_or choices.now k d ≡ lists_of k }
+    requires widths { All (λ gate. length gate.inputs < length choices.now) net.now.raw.gates }
+    requires in_range { All (λ quint. quint.node.0 < net.now.raw.nets) task.now.ant }
+    ensures long { IfOk result (λ rows. length rows.items ≡ depth) }
+    ensures wide { IfOk result (λ rows. All (λ row. length row ≡ net.now.raw.nets) rows.items) }
+    ensures possible { IfOk result (λ rows. IsPossible net.now.raw task.now.reset (asked_at task.now.ant bits.now) depth (table_of rows.items)) }
+{
+    let mut rows = Vec::new(alloc);
+    let mut held = first_sets(alloc, net, task.reset)?;
+    for t in 0..depth {
+        let row = sets_at(alloc, net, choices, &held, task.ant.as_slice(), bits, t)?;
+        held = next_sets(alloc, net, row.as_slice())?;
+        rows.push(row)?;
+    }
+    Ok(rows)
+}

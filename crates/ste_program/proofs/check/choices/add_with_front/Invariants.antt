@@ -1,5 +1,0 @@
-use Rattle.std.proofs.Common.{◌≡◌, ◌++◌, ◌∷◌, map, take}
-use Rattle.ste_program.proofs.check.choices.add_with_front.Given as goal
-
-abbrev pub invariant-loop-bits : goal.invariant-loop-bits
-invariant-loop-bits l = l.longer.items ≡ l.fn.longer.items ++ map (λ bits. l.bit ∷ bits) (take l.bits-index l.lists)
