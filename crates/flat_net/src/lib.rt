@@ -1,0 +1,6 @@
+//! The flat net of a netlist: its nets are numbered, and each gate and latch drives the nets of its signals.
+#![tactic(auto)]
+
+pub mod flat;
+
+pub use flat::FlatNet;
