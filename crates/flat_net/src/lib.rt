@@ -2,5 +2,7 @@
 #![tactic(auto)]
 
 pub mod flat;
+mod lines;
+mod signals;
 
 pub use flat::FlatNet;
