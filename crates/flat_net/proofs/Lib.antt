@@ -1,1 +1,3 @@
 pub mod Mentions
+pub mod Distinct
+pub mod Driven

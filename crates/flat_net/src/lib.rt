@@ -4,5 +4,6 @@
 pub mod flat;
 mod lines;
 mod signals;
+mod supported;
 
 pub use flat::FlatNet;
