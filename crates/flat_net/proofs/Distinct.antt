@@ -1,15 +1,15 @@
 -- Words that stand once, and how many a set has of them.
-use Rattle.std.proofs.Common.{◌≡◌, ◌≢◌, ℕ, ◌+◌, ◌-◌, ◌<◌, ◌≤◌, Bool, true, false, List, [], ◌∷◌, ◌++◌, map, length, length-append, append_assoc, append-nil, refl, sym, ap, ◌∙◌, subst, arith, zero, suc, get_or, inl, inr}
-use Rattle.std.specs.Prelude.{◌||◌, All, AllPairs, not, if◌then◌else◌, ◌&&◌, nat_eq}
+use Rattle.std.proofs.Common.{◌≡◌, ◌≢◌, ℕ, ◌+◌, ◌-◌, ◌≤◌, Bool, true, false, List, [], ◌∷◌, ◌++◌, map, length, append_assoc, append-nil, refl, sym, ap, ◌∙◌, arith, suc, inl, inr}
+use Rattle.std.specs.Prelude.{◌||◌, AllPairs, not, if◌then◌else◌, ◌&&◌, nat_eq}
 use Rattle.std.specs.List.{list_any}
 use Rattle.std.specs.Str.{bytes_eq}
-use Rattle.std.proofs.lemmas.Bool.{and_parts, or_right, not-true, eqb-true, eq-eqb}
+use Rattle.std.proofs.lemmas.Bool.{eqb-true, eq-eqb}
 use Rattle.std.proofs.lemmas.List.{length_push}
 use Rattle.std.proofs.lemmas.List.Kept.{AllPairs-cons}
 use Rattle.indexmap.specs.IndexSet.{insert_key, insert_all}
 use Rattle.blif_syntax.specs.Words.{is_one_of}
 use Rattle.flat_net.specs.Supported.{are_distinct}
-use Rattle.flat_net.proofs.Mentions.{among_at, in_left, in_right, left_or_right, first_or_rest, is_first, itself, never_again, distinct_rest, distinct_apart, both_within, cons_within, Within}
+use Rattle.flat_net.proofs.Mentions.{among_at, in_left, left_or_right, first_or_rest, is_first, itself, never_again, distinct_rest, distinct_apart, Apart}
 
 -- a test of what elements are mapped to
 pub any_mapped : {X Y : Type 0} (p : Y → Bool) (f : X → Y) (xs : List X) → list_any (λ x. p (f x)) xs ≡ list_any p (map f xs)
@@ -117,8 +117,12 @@ set_distinct (word ∷ words) seen h = set_distinct words (insert_key bytes_eq s
     by true e = h
     by false e = distinct_push seen word h e
 
--- a test that nothing passes
-pub none_passes : {X : Type 0} (p : X → Bool) (xs : List X) → list_any p xs ≡ false → (k : ℕ) (d : X) → k < length xs → p (get_or xs k d) ≡ false
-none_passes p [] h k d l = absurd (omega arith)
-none_passes p (x ∷ xs) h zero d l = (no_or (p x) (list_any p xs) h).0
-none_passes p (x ∷ xs) h (suc k) d l = none_passes p xs (no_or (p x) (list_any p xs) h).1 k d (omega arith)
+-- where none of the words is one of the others, they are apart
+pub none_apart : (others words : List (List ℕ)) → list_any (is_one_of others) words ≡ false → Apart words others
+none_apart others [] h word m o = absurd (cc)
+none_apart others (first ∷ words) h word m o =
+    let no = no_or (is_one_of others first) (list_any (is_one_of others) words) h in
+    elim (first_or_rest first words word m) [
+      | inl e ↦ let same = ap (is_one_of others) e in let not_first = no.0 in absurd (cc)
+      | inr e ↦ none_apart others words no.1 word e o
+    ]

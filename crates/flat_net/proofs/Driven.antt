@@ -1,5 +1,5 @@
 -- Which signals are driven, and that each is driven once.
-use Rattle.std.proofs.Common.{◌≡◌, ℕ, ◌+◌, ◌-◌, ◌≤◌, true, List, [], ◌++◌, map, length, length-append, refl, sym, ap, ◌∙◌, arith}
+use Rattle.std.proofs.Common.{◌≡◌, ℕ, ◌+◌, ◌-◌, ◌≤◌, true, List, [], map, length, length-append, refl, ap, arith}
 use Rattle.std.specs.Prelude.{nat_eq, flat_map}
 use Rattle.std.specs.Str.{bytes_eq}
 use Rattle.std.proofs.lemmas.List.{length-map}
@@ -36,7 +36,7 @@ added_tells model inputs with_gates all h =
     let gates = map (λ (line : GateLine). line.output) (gate_lines model) in
     let latches = map (λ (line : LatchLine). line.output) (latch_lines model) in
     let long : length (driven model) ≡ length (gate_lines model) + length (latch_lines model) =
-      omega (arith, length-append gates latches, length-map (gate_lines model) (λ (line : GateLine). line.output), length-map (latch_lines model) (λ (line : LatchLine). line.output)) in
+    omega (arith, length-append gates latches, length-map (gate_lines model) (λ (line : GateLine). line.output), length-map (latch_lines model) (λ (line : LatchLine). line.output)) in
     let a = h.first in
     let d = all_added model inputs with_gates all h in
     cc

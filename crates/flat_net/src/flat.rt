@@ -1,10 +1,14 @@
-ghost use Rattle.std.specs.Prelude.{◌≡◌, ◌<◌, ◌≤◌, ◌^◌, IfOk, length, map};
-ghost use Rattle.flat_net.specs.Lines.{gate_lines, latch_lines, signals};
+ghost use Rattle.std.specs.Prelude.{◌≡◌, ◌<◌, ◌≤◌, ◌^◌, All, IfOk, IfSome, IfNone, IsTrue, false, length, map};
+ghost use Rattle.net_core.specs.Flat.{IsInRange, HasOneDriver, IsListedInOrder};
+ghost use Rattle.blif_syntax.specs.Written.{AreSayable};
+ghost use Rattle.flat_net.specs.Lines.{gate_lines, latch_lines, signals, top};
 ghost use Rattle.flat_net.specs.Flat.{flat_of, gates_from, latch_at, net_of};
+ghost use Rattle.flat_net.specs.Supported.{is_supported, is_supported_model};
 
 use crate::lines::{GateLine, LatchLine, gate_lines, latch_lines};
 use crate::signals::{inputs_of, outputs_of, signals};
-use blif_syntax::Model;
+use crate::supported::is_supported_model;
+use blif_syntax::{Model, Models};
 use indexmap::IndexSet;
 use net_core::{Cover, Gate, Latch, RawNet, Row};
 use std::alloc::{AllocError, Global};
@@ -28,7 +32,11 @@ fn net_of(names: &IndexSet<Name>, word: &Name) -> NodeId
 }
 
 /// The nets of these signals.
-fn nets_of(alloc: Global, names: &IndexSet<Name>, words: &[Name]) -> Result<Items<NodeId>, AllocError>
+fn nets_of(
+    alloc: Global,
+    names: &IndexSet<Name>,
+    words: &[Name],
+) -> Result<Items<NodeId>, AllocError>
     requires { length names.now.keys < 2 ^ 32 }
     ensures { IfOk result (λ nets. nets ≡ map (net_of names.now.keys) words.now) }
 {
@@ -133,4 +141,41 @@ fn raw_net(alloc: Global, model: &Model, names: &IndexSet<Name>) -> Result<RawNe
         latches: latches_of(alloc, names, latches.as_slice())?,
         covers: covers_of(alloc, gates.as_slice())?,
     })
+}
+
+/// The flat net of a model, and the names of its nets; None where the model is none that is flattened.
+#[tactic(auto, using(crate::proofs::Nets::few_signals, crate::proofs::Nets::few_gates))]
+fn flatten_model(alloc: Global, model: &Model) -> Result<Option<FlatNet>, AllocError>
+    ensures some { IfOk result (λ found. IfSome found (λ flat. IsTrue (is_supported_model model.now) × (flat.raw ≡ flat_of model.now) × (flat.names ≡ signals model.now))) }
+    ensures none { IfOk result (λ found. IfNone found (is_supported_model model.now ≡ false)) }
+{
+    let names = signals(alloc, model)?;
+    if !is_supported_model(alloc, model, &names)? {
+        return Ok(None);
+    }
+    let raw = raw_net(alloc, model, &names)?;
+    Ok(Some(FlatNet {
+        raw,
+        names: names.into_iter().collect::<Vec<Name>>(alloc)?.into(),
+    }))
+}
+
+/// The flat net of a netlist, and the names of its nets, by number; None where the netlist is none that is flattened so
+/// far: it has more than one model, a model uses a model, a signal is driven twice or is an input and driven, its latches
+/// have different types or controls, a gate has more than eight inputs, or an input that it or a later gate drives, or
+/// there are more than 200 nets. The only error is want of memory.
+pub fn flatten(alloc: Global, models: &Models) -> Result<Option<FlatNet>, AllocError>
+    requires sayable { AreSayable models.now.models }
+    ensures some { IfOk result (λ found. IfSome found (λ flat. IsTrue (is_supported models.now.models) × (flat.raw ≡ flat_of (top models.now.models)) × (flat.names ≡ signals (top models.now.models)))) }
+    ensures none { IfOk result (λ found. IfNone found (is_supported models.now.models ≡ false)) }
+    ensures in_range { IfOk result (λ found. IfSome found (λ flat. IsInRange flat.raw)) }
+    ensures one_driver { IfOk result (λ found. IfSome found (λ flat. HasOneDriver flat.raw)) }
+    ensures in_order { IfOk result (λ found. IfSome found (λ flat. IsListedInOrder flat.raw)) }
+    ensures few { IfOk result (λ found. IfSome found (λ flat. flat.raw.nets ≤ 200)) }
+    ensures narrow { IfOk result (λ found. IfSome found (λ flat. All (λ gate. length gate.inputs ≤ 8) flat.raw.gates)) }
+{
+    match models.models.as_slice() {
+        [model] => flatten_model(alloc, model),
+        _ => Ok(None),
+    }
 }

@@ -6,4 +6,4 @@ mod lines;
 mod signals;
 mod supported;
 
-pub use flat::FlatNet;
+pub use flat::{FlatNet, flatten};

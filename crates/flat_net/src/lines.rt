@@ -46,7 +46,11 @@ fn gate_of(what: &What) -> Option<GateLine<'_>>
     ensures { result ≡ gate_of what.now }
 {
     match what {
-        What::Names { inputs, output, cover } => Some(GateLine {
+        What::Names {
+            inputs,
+            output,
+            cover,
+        } => Some(GateLine {
             inputs: inputs.as_slice(),
             output,
             cover,
@@ -60,7 +64,13 @@ fn latch_of(what: &What) -> Option<LatchLine<'_>>
     ensures { result ≡ latch_of what.now }
 {
     match what {
-        What::Latch { input, output, kind, control, init } => Some(LatchLine {
+        What::Latch {
+            input,
+            output,
+            kind,
+            control,
+            init,
+        } => Some(LatchLine {
             input,
             output,
             kind: *kind,
@@ -79,7 +89,10 @@ pub(crate) fn gate_lines<'a>(
     ensures { IfOk result (λ lines. lines.items ≡ gate_lines model.now) }
 {
     let items: &'a [Item] = model.items.as_slice();
-    items.iter().filter_map(|item| gate_of(&item.what)).collect::<Vec<GateLine>>(alloc)
+    items
+        .iter()
+        .filter_map(|item| gate_of(&item.what))
+        .collect::<Vec<GateLine>>(alloc)
 }
 
 /// The latches of a model, by line.
@@ -90,5 +103,8 @@ pub(crate) fn latch_lines<'a>(
     ensures { IfOk result (λ lines. lines.items ≡ latch_lines model.now) }
 {
     let items: &'a [Item] = model.items.as_slice();
-    items.iter().filter_map(|item| latch_of(&item.what)).collect::<Vec<LatchLine>>(alloc)
+    items
+        .iter()
+        .filter_map(|item| latch_of(&item.what))
+        .collect::<Vec<LatchLine>>(alloc)
 }

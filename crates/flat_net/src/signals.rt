@@ -47,7 +47,12 @@ fn add_signals(set: &mut IndexSet<Name>, what: &What) -> Result<(), AllocError>
             add_all(set, inputs.as_slice())?;
             add(set, output)
         }
-        What::Latch { input, output, control, .. } => {
+        What::Latch {
+            input,
+            output,
+            control,
+            ..
+        } => {
             add(set, input)?;
             add(set, output)?;
             match control {

@@ -96,7 +96,10 @@ fn is_rising(line: &LatchLine) -> Option<bool>
 fn types_of(alloc: Global, lines: &[LatchLine]) -> Result<Vec<bool>, AllocError>
     ensures { IfOk result (λ types. types.items ≡ filter_map (λ line. is_rising line.kind) lines.now) }
 {
-    lines.iter().filter_map(|line| is_rising(line)).collect::<Vec<bool>>(alloc)
+    lines
+        .iter()
+        .filter_map(|line| is_rising(line))
+        .collect::<Vec<bool>>(alloc)
 }
 
 /// The controls of the latches.

@@ -1,4 +1,3 @@
-use Rattle.std.proofs.Common.{◌≡◌, ◌∙◌, map, ap, refl}
 use Rattle.flat_net.proofs.Driven.{added_more, added_tells}
 use Rattle.flat_net.proofs.supported.is_driven_once.Goals as goal
 
