@@ -1,0 +1,5 @@
+pub mod Mentions
+pub mod Distinct
+pub mod Driven
+pub mod Named
+pub mod Nets

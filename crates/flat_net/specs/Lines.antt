@@ -1,0 +1,81 @@
+-- What the lines of a model say of its signals. Source: the Berkeley description of BLIF.
+use Rattle.std.specs.Prelude.{ℕ, ◌++◌, ◌∷◌, [], List, map, Option, Some, None, flat_map, filter_map, option_to_list, bytes_eq}
+use Rattle.indexmap.specs.IndexSet.{insert_all}
+use Rattle.net_core.specs.declared.cover.Cover.{Cover}
+use Rattle.net_core.specs.declared.raw.Init.{Init}
+use Rattle.blif_syntax.specs.declared.models.LatchKind.{LatchKind}
+use Rattle.blif_syntax.specs.declared.models.Model.{Model}
+use Rattle.blif_syntax.specs.declared.models.What.{What}
+use Rattle.blif_syntax.specs.declared.models.What.TheVariants.{Inputs, Outputs, Clock, Names, Latch, Subckt}
+
+-- the top of these models: the first
+abbrev pub top : List Model → Model
+top [] = record { line = 0; name = []; items = [] }
+top (model ∷ models) = model
+
+-- the words in the order of first mention, each once
+abbrev pub first_mentions : List (List ℕ) → List (List ℕ)
+first_mentions words = insert_all bytes_eq [] words
+
+-- the words of a line that name signals, in order
+abbrev pub signal_words : What → List (List ℕ)
+signal_words (Inputs names) = names
+signal_words (Outputs names) = names
+signal_words (Clock names) = names
+signal_words (Names inputs output cover) = inputs ++ output ∷ []
+signal_words (Latch input output kind control init) = input ∷ output ∷ option_to_list control
+signal_words (Subckt model formals) = map (λ binding. binding.1) formals
+
+-- the signals of a model, in the order of first mention
+abbrev pub signals : Model → List (List ℕ)
+signals model = first_mentions (flat_map (λ item. signal_words item.what) model.items)
+
+-- the words of a line that are inputs of the top: those of `.inputs` and of `.clock`
+abbrev pub input_words : What → List (List ℕ)
+input_words (Inputs names) = names
+input_words (Clock names) = names
+input_words other = []
+
+-- the inputs of a model, in the order of lines, each once
+abbrev pub inputs_of : Model → List (List ℕ)
+inputs_of model = first_mentions (flat_map (λ item. input_words item.what) model.items)
+
+-- the words of a line that are outputs
+abbrev pub output_words : What → List (List ℕ)
+output_words (Outputs names) = names
+output_words other = []
+
+-- the outputs of a model, in the order of lines, each once
+abbrev pub outputs_of : Model → List (List ℕ)
+outputs_of model = first_mentions (flat_map (λ item. output_words item.what) model.items)
+
+-- a gate as a line gives it
+pub record GateLine : Type 0 where
+  pub inputs : List (List ℕ)
+  pub output : List ℕ
+  pub cover : Cover
+
+abbrev pub gate_of : What → Option GateLine
+gate_of (Names inputs output cover) = Some (record { inputs = inputs; output = output; cover = cover })
+gate_of other = None
+
+-- the gates of a model, by line
+abbrev pub gate_lines : Model → List GateLine
+gate_lines model = filter_map (λ item. gate_of item.what) model.items
+
+-- a latch as a line gives it
+pub record LatchLine : Type 0 where
+  pub input : List ℕ
+  pub output : List ℕ
+  pub kind : LatchKind
+  pub control : Option (List ℕ)
+  pub init : Init
+
+abbrev pub latch_of : What → Option LatchLine
+latch_of (Latch input output kind control init) =
+    Some (record { input = input; output = output; kind = kind; control = control; init = init })
+latch_of other = None
+
+-- the latches of a model, by line
+abbrev pub latch_lines : Model → List LatchLine
+latch_lines model = filter_map (λ item. latch_of item.what) model.items

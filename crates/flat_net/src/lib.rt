@@ -1,0 +1,9 @@
+//! The flat net of a netlist: its nets are numbered, and each gate and latch drives the nets of its signals.
+#![tactic(auto)]
+
+pub mod flat;
+mod lines;
+mod signals;
+mod supported;
+
+pub use flat::{FlatNet, flatten};
