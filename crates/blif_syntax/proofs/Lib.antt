@@ -1,0 +1,4 @@
+pub mod Bindings
+pub mod Faults
+pub mod Growth
+pub mod Turn
