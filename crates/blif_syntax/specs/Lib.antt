@@ -5,3 +5,4 @@ pub mod Spelled
 pub mod Answer
 pub mod Rules
 pub mod Written
+pub mod Drafts

@@ -1,10 +1,18 @@
 //! The grammar of BLIF netlists: from logical lines to models, or to the first faulty line.
 #![tactic(auto)]
 
+mod draft;
 pub mod fault;
 pub mod form;
+mod forms;
+mod latches;
 pub mod models;
 pub mod place;
+pub mod read;
+mod rows;
+mod uses;
+mod words;
 
 pub use fault::BlifFault;
 pub use models::{Item, LatchKind, Model, Models, What};
+pub use read::read_models;

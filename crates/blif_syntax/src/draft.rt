@@ -1,0 +1,204 @@
+ghost use Rattle.std.specs.Prelude.{◌≡◌, [], None, IfOk};
+ghost use Rattle.blif_syntax.specs.Places.{first_or};
+ghost use Rattle.blif_syntax.specs.Drafts.{place_of, row_added, cover_item, closed_items, closed, item_added, model_added, line_added};
+
+use crate::form::{Entry, Form};
+use crate::models::{Item, Model, What};
+use crate::place::{Place, first_or};
+use net_core::{Cover, Row};
+use std::alloc::{AllocError, Global};
+use ste_base::{Items, Name};
+
+/// A cover whose rows are being read.
+#[derive(Debug, Drop)]
+pub struct Pending {
+    /// The number of its `.names` line.
+    pub line: u32,
+    pub inputs: Items<Name>,
+    pub output: Name,
+    pub place: Place,
+    pub rows: Items<Row>,
+}
+
+/// What is read so far: the models that are ended, the one that is open, and its last cover, where rows may follow.
+#[derive(Debug, Drop)]
+pub struct Draft {
+    pub models: Items<Model>,
+    pub model: Option<Model>,
+    pub cover: Option<Pending>,
+}
+
+/// The cover that a row may go on with.
+pub fn place_of(cover: &Option<Pending>) -> Option<Place>
+    ensures { result ≡ place_of cover.now }
+{
+    match cover {
+        None => None,
+        Some(cover) => Some(cover.place),
+    }
+}
+
+/// The cover, with a row more.
+fn row_added(row: Row, on: bool, cover: Option<Pending>) -> Result<Option<Pending>, AllocError>
+    ensures { IfOk result (λ cover_then. cover_then ≡ row_added row on cover) }
+{
+    let Some(
+        Pending {
+            line,
+            inputs,
+            output,
+            place,
+            mut rows,
+        },
+    ) = cover
+    else {
+        return Ok(None);
+    };
+    rows.push(row)?;
+    Ok(Some(Pending {
+        line,
+        inputs,
+        output,
+        place: Place {
+            width: place.width,
+            first: Some(first_or(place.first, on)),
+        },
+        rows,
+    }))
+}
+
+/// The item of a cover.
+fn cover_item(cover: Pending) -> Item
+    ensures { result ≡ cover_item cover }
+{
+    let Pending {
+        line,
+        inputs,
+        output,
+        place,
+        rows,
+    } = cover;
+    let cover = Cover {
+        inputs: place.width,
+        on: first_or(place.first, true),
+        rows,
+    };
+    Item {
+        line,
+        what: What::Names {
+            inputs,
+            output,
+            cover,
+        },
+    }
+}
+
+/// The open model, with an item more.
+fn item_added(model: Option<Model>, item: Item) -> Result<Option<Model>, AllocError>
+    ensures { IfOk result (λ model_then. model_then ≡ item_added model item) }
+{
+    let Some(
+        Model {
+            line,
+            name,
+            mut items,
+        },
+    ) = model
+    else {
+        return Ok(None);
+    };
+    items.push(item)?;
+    Ok(Some(Model { line, name, items }))
+}
+
+/// The open model, with the item of a cover.
+fn closed(model: Option<Model>, cover: Option<Pending>) -> Result<Option<Model>, AllocError>
+    ensures { IfOk result (λ model_then. model_then ≡ closed model cover) }
+{
+    match cover {
+        None => Ok(model),
+        Some(cover) => item_added(model, cover_item(cover)),
+    }
+}
+
+/// The models, and the one that was open.
+fn model_added(models: Items<Model>, model: Option<Model>) -> Result<Items<Model>, AllocError>
+    ensures { IfOk result (λ models_then. models_then ≡ model_added models model) }
+{
+    let mut models = models;
+    if let Some(model) = model {
+        models.push(model)?;
+    }
+    Ok(models)
+}
+
+/// The models, when the last line is read.
+pub fn models_of(draft: Draft) -> Result<Items<Model>, AllocError>
+    ensures { IfOk result (λ models. models ≡ model_added draft.models (closed draft.model draft.cover)) }
+{
+    let Draft {
+        models,
+        model,
+        cover,
+    } = draft;
+    model_added(models, closed(model, cover)?)
+}
+
+/// What is read, with a line more.
+pub fn line_added(alloc: Global, draft: Draft, entry: Entry) -> Result<Draft, AllocError>
+    ensures { IfOk result (λ draft_then. draft_then ≡ line_added draft entry.line entry.form) }
+{
+    let Draft {
+        models,
+        model,
+        cover,
+    } = draft;
+    let Entry { line, form } = entry;
+    match form {
+        Form::Passed => Ok(Draft {
+            models,
+            model,
+            cover,
+        }),
+        Form::Row(row, on) => Ok(Draft {
+            models,
+            model,
+            cover: row_added(row, on, cover)?,
+        }),
+        Form::Item(what) => Ok(Draft {
+            models,
+            model: item_added(closed(model, cover)?, Item { line, what })?,
+            cover: None,
+        }),
+        Form::Names(width, inputs, output) => Ok(Draft {
+            models,
+            model: closed(model, cover)?,
+            cover: Some(Pending {
+                line,
+                inputs,
+                output,
+                place: Place { width, first: None },
+                rows: Items::new(alloc),
+            }),
+        }),
+        Form::Model(name) => Ok(Draft {
+            models: model_added(models, closed(model, cover)?)?,
+            model: Some(Model {
+                line,
+                name,
+                items: Items::new(alloc),
+            }),
+            cover: None,
+        }),
+        Form::End => Ok(Draft {
+            models: model_added(models, closed(model, cover)?)?,
+            model: None,
+            cover: None,
+        }),
+        Form::Wrong(_) => Ok(Draft {
+            models,
+            model: closed(model, cover)?,
+            cover: None,
+        }),
+    }
+}

@@ -1,0 +1,97 @@
+ghost use Rattle.std.specs.Prelude.{◌≡◌, ◌<◌, ◌^◌, IfOk, length};
+ghost use Rattle.blif_syntax.specs.Forms.{model_of, names_of, end_of, form_of};
+ghost use Rattle.blif_syntax.specs.Answer.{entry_of};
+
+use crate::form::{Entry, Form, Kind};
+use crate::latches::latch_of;
+use crate::models::What;
+use crate::rows::row_of;
+use crate::uses::use_of;
+use crate::words::{begins_with_dot, copies, is, is_left_out, is_passed};
+use blif_lines::Line;
+use std::alloc::{AllocError, Global};
+use ste_base::Name;
+
+/// What the words behind `.model` spell.
+fn model_of(alloc: Global, words: &[Name]) -> Result<Form, AllocError>
+    ensures { IfOk result (λ form. form ≡ model_of words.now) }
+{
+    match words {
+        [] => Ok(Form::Model(Name::from_bytes(alloc, b"")?)),
+        [name] => Ok(Form::Model(name.clone()?)),
+        _ => Ok(Form::Wrong(Kind::Bad)),
+    }
+}
+
+/// What the words behind `.names` spell.
+fn names_of(alloc: Global, words: &[Name]) -> Result<Form, AllocError>
+    requires { length words.now < 2 ^ 32 }
+    ensures { IfOk result (λ form. form ≡ names_of words.now) }
+{
+    match words {
+        [inputs @ .., output] => Ok(Form::Names(
+            inputs.len() as u32,
+            copies(alloc, inputs)?,
+            output.clone()?,
+        )),
+        [] => Ok(Form::Wrong(Kind::Bad)),
+    }
+}
+
+/// What the words behind `.end` spell.
+fn end_of(words: &[Name]) -> Form
+    ensures { result ≡ end_of words.now }
+{
+    if words.is_empty() {
+        Form::End
+    } else {
+        Form::Wrong(Kind::Bad)
+    }
+}
+
+/// What the words of a line spell.
+fn form_of(alloc: Global, words: &[Name]) -> Result<Form, AllocError>
+    requires { length words.now < 2 ^ 32 }
+    ensures { IfOk result (λ form. form ≡ form_of words.now) }
+{
+    let [first, rest @ ..] = words else {
+        return Ok(Form::Wrong(Kind::Bad));
+    };
+    let word = first.bytes();
+    if is_passed(word) {
+        Ok(Form::Passed)
+    } else if is(word, ".model") {
+        model_of(alloc, rest)
+    } else if is(word, ".inputs") {
+        Ok(Form::Item(What::Inputs(copies(alloc, rest)?)))
+    } else if is(word, ".outputs") {
+        Ok(Form::Item(What::Outputs(copies(alloc, rest)?)))
+    } else if is(word, ".clock") {
+        Ok(Form::Item(What::Clock(copies(alloc, rest)?)))
+    } else if is(word, ".names") {
+        names_of(alloc, rest)
+    } else if is(word, ".latch") {
+        latch_of(rest)
+    } else if is(word, ".subckt") {
+        use_of(alloc, rest)
+    } else if is(word, ".end") {
+        Ok(end_of(rest))
+    } else if is_left_out(word) {
+        Ok(Form::Wrong(Kind::LeftOut(first.clone()?)))
+    } else if begins_with_dot(word) {
+        Ok(Form::Wrong(Kind::Unknown(first.clone()?)))
+    } else {
+        row_of(alloc, word, rest)
+    }
+}
+
+/// A line with its form.
+pub fn entry_of(alloc: Global, line: &Line) -> Result<Entry, AllocError>
+    requires { length line.now.words < 2 ^ 32 }
+    ensures { IfOk result (λ entry. entry ≡ entry_of line.now) }
+{
+    Ok(Entry {
+        line: line.number,
+        form: form_of(alloc, line.words.as_slice())?,
+    })
+}
