@@ -1,12 +1,17 @@
 -- The words of a check.
-use Rattle.std.proofs.Common.{◌≡◌, ◌≤◌, ℕ, Option, Some, Result, Err, inl, inr, take, List, [], ◌∷◌, length, get_or, refl, sym, ap, ◌∙◌, arith}
+use Rattle.std.proofs.Common.{◌≡◌, ◌≤◌, ℕ, Option, Result, Err, inl, inr, take, List, [], ◌∷◌, length, bytes_eq, true, get_or, refl, sym, ap, ◌∙◌, arith}
 use Rattle.std.specs.Prelude.{◌⊎◌, String, string_bytes, codes}
+use Rattle.std.proofs.lemmas.Slice.Eq.{bytes_eq-Decides}
 use Rattle.std.specs.declared.alloc.Global.{Global}
 use Rattle.ste_program.specs.declared.run.Status.{Status}
 use Rattle.ste_program.specs.declared.run.Status.TheVariants.{Refused, Faulted, NoMemory}
-use Rattle.ste_program.specs.Answer.{CannotTell, IsCheck, IsNotYet, not_yet, out_of_memory}
+use Rattle.ste_program.specs.Answer.{CannotTell, IsCheck, IsRefusal, WasRefused}
+use Rattle.ste_program.specs.Netlist.{out_of_memory}
 use Rattle.ste_program.specs.Causes.{Rose}
 use Rattle.ste_program.specs.Outside.{Store, with_more}
+
+pub same_word : (one other : List ℕ) → bytes_eq one other ≡ true → one ≡ other
+same_word one other = (bytes_eq-Decides one other).0
 
 spelled : (p x y z a b : List ℕ) → x ≡ codes "check" → a ≡ y → b ≡ z → p ∷ x ∷ y ∷ z ∷ [] ≡ p ∷ codes "check" ∷ a ∷ b ∷ []
 spelled p x y z a b e f g = cc
@@ -32,8 +37,13 @@ rose_later before between now le rose = omega (arith, le, rose)
 pub rose_earlier : (before between now : ℕ) → between ≤ now → Rose before between → Rose before now
 rose_earlier before between now le rose = omega (arith, le, rose)
 
+-- a refusal that was told
+pub was_told : (holds : Option Store) (words : List (String Global)) (out err err' : Option (List ℕ)) (before now : ℕ) (message : List ℕ) (result : Status) → IsRefusal holds words message → ((result ≡ Refused) × (err' ≡ with_more err message)) ⊎ ((result ≡ Faulted) × Rose before now × ((n : ℕ) × (err' ≡ with_more err (take n message)))) → result ≡ Refused → WasRefused holds words out out err err'
+was_told holds words out err err' before now message result refusal (inl h) e = record { message = message; refusal = refusal; untouched = refl; told = h.1 }
+was_told holds words out err err' before now message result refusal (inr h) e = absurd (cc h.0)
+
 -- a refusal that could not be told
-pub not_told : (holds : Option Store) (words : List (String Global)) (out err err' : Option (List ℕ)) (before now : ℕ) (message : List ℕ) (result : Status) → (((message ≡ not_yet) × ((store : Store) → holds ≡ Some store → IsNotYet store words)) ⊎ (message ≡ out_of_memory)) → ((result ≡ Refused) × (err' ≡ with_more err message)) ⊎ ((result ≡ Faulted) × Rose before now × ((n : ℕ) × (err' ≡ with_more err (take n message)))) → result ≡ Faulted → CannotTell holds words out out err err' before now
+pub not_told : (holds : Option Store) (words : List (String Global)) (out err err' : Option (List ℕ)) (before now : ℕ) (message : List ℕ) (result : Status) → IsRefusal holds words message ⊎ (message ≡ out_of_memory) → ((result ≡ Refused) × (err' ≡ with_more err message)) ⊎ ((result ≡ Faulted) × Rose before now × ((n : ℕ) × (err' ≡ with_more err (take n message)))) → result ≡ Faulted → CannotTell holds words out out err err' before now
 not_told holds words out err err' before now message result cause (inl h) e = absurd (cc h.0)
 not_told holds words out err err' before now message result cause (inr h) e = record { failed = h.1; untouched = refl; message = message; cause = cause; partly = h.2 }
 
@@ -41,3 +51,8 @@ not_told holds words out err err' before now message result cause (inr h) e = re
 pub memory_told : (out err err' : Option (List ℕ)) (before now : ℕ) (result : Status) → ((result ≡ NoMemory) × (err' ≡ with_more err out_of_memory)) ⊎ ((result ≡ Faulted) × Rose before now × ((n : ℕ) × (err' ≡ with_more err (take n out_of_memory)))) → result ≡ NoMemory → (out ≡ out) × (err' ≡ with_more err out_of_memory)
 memory_told out err err' before now result (inl h) e = (refl, h.1)
 memory_told out err err' before now result (inr h) e = absurd (cc h.0)
+
+-- want of memory that could not be told
+pub memory_not_told : (holds : Option Store) (words : List (String Global)) (out err err' : Option (List ℕ)) (before now : ℕ) (result : Status) → ((result ≡ NoMemory) × (err' ≡ with_more err out_of_memory)) ⊎ ((result ≡ Faulted) × Rose before now × ((n : ℕ) × (err' ≡ with_more err (take n out_of_memory)))) → result ≡ Faulted → CannotTell holds words out out err err' before now
+memory_not_told holds words out err err' before now result (inl h) e = absurd (cc h.0)
+memory_not_told holds words out err err' before now result (inr h) e = record { failed = h.1; untouched = refl; message = out_of_memory; cause = inr refl; partly = h.2 }

@@ -1,5 +1,5 @@
 -- What the program answers, where the files tell what they hold.
-use Rattle.std.specs.Prelude.{◌≡◌, ◌<◌, ◌≤◌, ◌⊎◌, ◌++◌, ◌∷◌, [], ℕ, Bool, true, false, List, length, map, take, codes, IsTrue, IsSomeAnd, Option, Some, String, string_bytes}
+use Rattle.std.specs.Prelude.{◌≡◌, ◌<◌, ◌≤◌, ◌⊎◌, ◌≢◌, ◌++◌, ◌∷◌, [], ℕ, Bool, true, false, List, length, map, take, codes, IsTrue, IsSomeAnd, Option, Some, Err, String, string_bytes}
 use Rattle.std.specs.declared.alloc.Global.{Global}
 use Rattle.std.specs.FinMap.{get}
 use Rattle.ste_model.specs.declared.task.Assertion.{Assertion}
@@ -7,13 +7,18 @@ use Rattle.ste_model.specs.declared.verdict.Verdict.{Verdict}
 use Rattle.ste_model.specs.declared.verdict.Verdict.TheVariants.{Pass, Weak, Strong, Vacuous, Budget}
 use Rattle.ste_model.specs.Found.{IsVerdictOf}
 use Rattle.ste_model.specs.Holds.{Holds}
-use Rattle.ste_program.specs.declared.netlist.Netlist.{Netlist}
+use Rattle.blif_syntax.specs.Answer.{IsAnswer as IsReadAs}
+use Rattle.blif_syntax.specs.declared.fault.BlifFault.{BlifFault}
+use Rattle.blif_syntax.specs.declared.fault.BlifFault.TheVariants as fault
+use Rattle.blif_syntax.specs.declared.models.Model.{Model}
+use Rattle.flat_net.specs.Flat.{flat_of}
+use Rattle.flat_net.specs.Lines.{signals, top}
+use Rattle.flat_net.specs.Supported.{is_supported}
 use Rattle.ste_program.specs.declared.run.Status.{Status}
 use Rattle.ste_program.specs.declared.run.Status.TheVariants.{Passed, NotPassed, NoMemory}
 use Rattle.ste_program.specs.declared.task.TaskText.{TaskText}
 use Rattle.ste_program.specs.Causes.{Rose}
-use Rattle.ste_program.specs.Flat.{flat_of, signals}
-use Rattle.ste_program.specs.Netlist.{is_netlist, netlist_lines}
+use Rattle.ste_program.specs.Netlist.{IsNetlist, net_lines, net_message, out_of_memory}
 use Rattle.ste_program.specs.Outside.{Store, with_more, with_names}
 use Rattle.ste_program.specs.Task.{is_task, task_lines, IsAssertionOf}
 use Rattle.ste_program.specs.Words.{text_of}
@@ -49,46 +54,45 @@ cannot_read name = codes "stework: cannot read " ++ name ++ codes "\n"
 abbrev pub cannot_write : List ℕ
 cannot_write = codes "stework: cannot write the report\n"
 
-abbrev pub out_of_memory : List ℕ
-out_of_memory = codes "stework: out of memory\n"
-
 -- the words are the program's name, check, and the names of the netlist's file and the task's file
 abbrev pub IsCheck : List (String Global) → List ℕ → List ℕ → Type 0
 IsCheck words net task = (program : List ℕ) × (map string_bytes words ≡ program ∷ codes "check" ∷ net ∷ task ∷ [])
 
--- the two texts spell a netlist, and a task over its signals
-pub record IsReading (net_text task_text : List ℕ) (netlist : Netlist) (task : TaskText) : Type 0 where
-  pub net_sound : IsTrue (is_netlist netlist)
-  pub net_spelled : net_text ≡ text_of (netlist_lines netlist)
-  pub task_sound : IsTrue (is_task (signals netlist) task)
+-- the two texts spell a netlist that is flattened so far, and a task over the signals of its top
+pub record IsReading (net_text task_text : List ℕ) (models : List Model) (task : TaskText) : Type 0 where
+  pub netlist : IsNetlist net_text models
+  pub supported : IsTrue (is_supported models)
+  pub task_sound : IsTrue (is_task (signals (top models)) task)
   pub task_spelled : task_text ≡ text_of (task_lines task)
 
 -- Law: two texts have one reading at most.
 abbrev pub OneReading : Type 0
 OneReading =
-    (net_text task_text : List ℕ) (netlist other : Netlist) (task another : TaskText) →
-    IsReading net_text task_text netlist task → IsReading net_text task_text other another → (netlist ≡ other) × (task ≡ another)
+    (net_text task_text : List ℕ) (models others : List Model) (task another : TaskText) →
+    IsReading net_text task_text models task → IsReading net_text task_text others another → (models ≡ others) × (task ≡ another)
 
--- The report on a netlist and a task over its signals: the task's assertion has this verdict on the flat net, and the
+-- The report on a model and a task over its signals: the task's assertion has this verdict on the flat net, and the
 -- line says so. Where the verdict is pass, or contradictory antecedent, the assertion holds: for every assignment, each
 -- two-valued run of its depth that meets the antecedent meets the consequent.
-pub record IsJudged (netlist : Netlist) (task : TaskText) (verdict : Verdict) (line : List ℕ) : Type 0 where
+pub record IsJudged (model : Model) (task : TaskText) (verdict : Verdict) (line : List ℕ) : Type 0 where
   pub assertion : Assertion
-  pub meaning : IsAssertionOf (signals netlist) task assertion
-  pub judged : IsVerdictOf (flat_of netlist) (length task.vars) assertion verdict
+  pub meaning : IsAssertionOf (signals model) task assertion
+  pub judged : IsVerdictOf (flat_of model) (length task.vars) assertion verdict
   pub written : line ≡ report_line task.name verdict
-  pub holds : (verdict ≡ Pass) ⊎ (verdict ≡ Vacuous) → Holds (flat_of netlist) (length task.vars) assertion
+  pub holds : (verdict ≡ Pass) ⊎ (verdict ≡ Vacuous) → Holds (flat_of model) (length task.vars) assertion
 
 -- the report on the netlist and the task that two texts spell
 pub record IsReport (net_text task_text : List ℕ) (verdict : Verdict) (line : List ℕ) : Type 0 where
-  pub netlist : Netlist
+  pub models : List Model
   pub task : TaskText
-  pub reading : IsReading net_text task_text netlist task
-  pub judged : IsJudged netlist task verdict line
+  pub reading : IsReading net_text task_text models task
+  pub judged : IsJudged (top models) task verdict line
 
--- the two texts are not of the forms that are read
-abbrev pub IsUnread : List ℕ → List ℕ → Type 0
-IsUnread net_text task_text = (netlist : Netlist) (task : TaskText) → IsReading net_text task_text netlist task → ⊥
+-- the first text spells a netlist, but the two texts are not of the forms that are checked so far
+pub record IsUnread (net_text task_text : List ℕ) : Type 0 where
+  pub models : List Model
+  pub netlist : IsNetlist net_text models
+  pub none : (task : TaskText) → IsReading net_text task_text models task → ⊥
 
 -- the words name two files that hold these texts
 pub record AreTexts (store : Store) (words : List (String Global)) (net_text task_text : List ℕ) : Type 0 where
@@ -111,12 +115,44 @@ pub record IsChecked (store : Store) (words : List (String Global)) (verdict : V
 abbrev pub IsOversized : Store → List ℕ → Type 0
 IsOversized store name = IsSomeAnd (get store name) (λ bytes. greatest < length bytes)
 
--- what is not read yet: other words, a file that is too large, and texts of other forms
+-- what is not checked yet: other words, a file that is too large, and texts of other forms
 abbrev pub IsNotYet : Store → List (String Global) → Type 0
 IsNotYet store words =
     ((net task : List ℕ) → ¬ IsCheck words net task)
     ⊎ (((net : List ℕ) × (task : List ℕ) × IsCheck words net task × (IsOversized store net ⊎ IsOversized store task))
     ⊎ ((net_text : List ℕ) × (task_text : List ℕ) × AreTexts store words net_text task_text × IsUnread net_text task_text))
+
+-- the netlist's text is refused for this fault: that of its first faulty line, or that it has no model
+pub record IsFaulty (store : Store) (words : List (String Global)) (found : BlifFault) : Type 0 where
+  pub net_text : List ℕ
+  pub task_text : List ℕ
+  pub texts : AreTexts store words net_text task_text
+  pub net_small : length net_text ≤ greatest
+  pub task_small : length task_text ≤ greatest
+  pub answer : IsReadAs (net_lines net_text) (Err found)
+
+-- The message is on a fault of the netlist of the file that the words name. Its cause is told where the files tell what
+-- they hold.
+pub record IsNetRefusal (holds : Option Store) (words : List (String Global)) (message : List ℕ) : Type 0 where
+  pub net : List ℕ
+  pub task : List ℕ
+  pub check : IsCheck words net task
+  pub found : BlifFault
+  pub stated : found ≢ fault.OutOfMemory
+  pub spelled : message ≡ net_message net found
+  pub cause : (store : Store) → holds ≡ Some store → IsFaulty store words found
+
+-- the message of a refusal, with its cause where the files tell what they hold
+abbrev pub IsRefusal : Option Store → List (String Global) → List ℕ → Type 0
+IsRefusal holds words message =
+    ((message ≡ not_yet) × ((store : Store) → holds ≡ Some store → IsNotYet store words)) ⊎ IsNetRefusal holds words message
+
+-- The words and the texts were refused: nothing is on the output, and the message is on the error sink.
+pub record WasRefused (holds : Option Store) (words : List (String Global)) (out out' err err' : Option (List ℕ)) : Type 0 where
+  pub message : List ℕ
+  pub refusal : IsRefusal holds words message
+  pub untouched : out' ≡ out
+  pub told : err' ≡ with_more err message
 
 -- The files were asked for the two names that the words name, in order, or for the first of them alone, or for none;
 -- other words ask for nothing.
@@ -158,7 +194,7 @@ pub record CannotTell (holds : Option Store) (words : List (String Global)) (out
   pub failed : Rose err_before err_now
   pub untouched : out' ≡ out
   pub message : List ℕ
-  pub cause : ((message ≡ not_yet) × ((store : Store) → holds ≡ Some store → IsNotYet store words)) ⊎ (message ≡ out_of_memory)
+  pub cause : IsRefusal holds words message ⊎ (message ≡ out_of_memory)
   pub partly : (n : ℕ) × (err' ≡ with_more err (take n message))
 
 -- the words name two files that are not too large, and whose texts are of the forms that are read
@@ -168,9 +204,9 @@ pub record IsReadable (store : Store) (words : List (String Global)) : Type 0 wh
   pub texts : AreTexts store words net_text task_text
   pub net_small : length net_text ≤ greatest
   pub task_small : length task_text ≤ greatest
-  pub netlist : Netlist
+  pub models : List Model
   pub task : TaskText
-  pub reading : IsReading net_text task_text netlist task
+  pub reading : IsReading net_text task_text models task
 
 -- the answer of a run that nothing failed: a report, or want of memory
 abbrev pub IsAnswer : Status → Type 0

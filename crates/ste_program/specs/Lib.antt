@@ -3,6 +3,5 @@ pub mod Outside
 pub mod InMemory
 pub mod Words
 pub mod Netlist
-pub mod Flat
 pub mod Task
 pub mod Answer

@@ -12,7 +12,7 @@ use Rattle.ste_program.specs.declared.task.Value.TheVariants.{Const, Variable, N
 use Rattle.ste_program.specs.declared.task.Clause.{Clause}
 use Rattle.ste_program.specs.declared.task.TaskText.{TaskText}
 use Rattle.ste_program.specs.Words.{are_plain, are_distinct, is_among}
-use Rattle.ste_program.specs.Flat.{net_of}
+use Rattle.flat_net.specs.Flat.{net_of}
 
 -- how a value is written
 abbrev pub value_word : Value → List ℕ

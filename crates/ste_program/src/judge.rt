@@ -1,18 +1,24 @@
-ghost use Rattle.std.specs.Prelude.{◌≡◌, ◌≢◌, ◌++◌, List, ℕ, codes, IfOk, IfSome, IfNone, IsTrue};
+ghost use Rattle.std.specs.Prelude.{◌≡◌, ◌≢◌, ◌≤◌, ◌++◌, List, ℕ, codes, length, IfOk, IfSome, IfNone, IsTrue, All};
+ghost use Rattle.blif_syntax.specs.Answer.{IsAnswer};
+ghost use Rattle.blif_syntax.specs.Written.{AreSayable};
+ghost use Rattle.blif_syntax.specs.declared.fault.BlifFault.{BlifFault as Fault};
+ghost use Rattle.blif_syntax.specs.declared.fault.BlifFault.TheVariants as fault;
+ghost use Rattle.flat_net.specs.Flat.{flat_of};
+ghost use Rattle.flat_net.specs.Lines.{signals, top};
+ghost use Rattle.flat_net.specs.Supported.{is_supported};
 ghost use Rattle.ste_model.specs.declared.verdict.Verdict.{Verdict as V};
-ghost use Rattle.ste_program.specs.declared.netlist.Netlist.{Netlist as Spelled};
 ghost use Rattle.ste_program.specs.declared.task.TaskText.{TaskText as Task};
-ghost use Rattle.ste_program.specs.Answer.{IsJudged, IsReport, IsUnread, passes, report_line, verdict_words};
-ghost use Rattle.ste_program.specs.Flat.{flat_of, signals};
-ghost use Rattle.ste_program.specs.Netlist.{is_netlist, netlist_lines};
+ghost use Rattle.ste_program.specs.Answer.{IsJudged, IsReport, IsUnread, greatest, passes, report_line, verdict_words};
+ghost use Rattle.ste_program.specs.Netlist.{IsNetlist, net_lines};
 ghost use Rattle.ste_program.specs.Task.{is_task, task_lines};
 ghost use Rattle.ste_program.specs.Words.{text_of};
 
-use crate::flat::flat_net;
-use crate::netlist::{Netlist, netlist_of};
 use crate::task::{TaskText, assertion_of, task_of};
 use crate::words::lines_of;
-use net_core::Net;
+use blif_lines::logical_lines;
+use blif_syntax::{BlifFault, Models, read_models};
+use flat_net::flatten;
+use net_core::{Net, order};
 use plain_check::verdict;
 use std::alloc::{AllocError, Global};
 use ste_base::{Items, Name};
@@ -56,15 +62,15 @@ fn report_line(alloc: Global, name: &[u8], verdict: Verdict) -> Result<Items<u8>
     Ok(Items::from(line))
 }
 
-/// The netlist that a text spells; None where it spells none that is read.
-fn read_netlist(alloc: Global, text: &[u8]) -> Result<Option<Netlist>, AllocError>
-    ensures some { IfOk result (λ found. IfSome found (λ netlist. IsTrue (is_netlist netlist) × (text.now ≡ text_of (netlist_lines netlist)))) }
-    ensures none { IfOk result (λ found. IfNone found ((netlist : Spelled) → IsTrue (is_netlist netlist) → text.now ≢ text_of (netlist_lines netlist))) }
+/// The models that the text of a netlist spells.
+fn read_netlist(alloc: Global, text: &[u8]) -> Result<Models, BlifFault>
+    requires { length text.now ≤ greatest }
+    ensures answer { IsAnswer (net_lines text.now) result }
+    ensures netlist { IfOk result (λ models. IsNetlist text.now models.models) }
+    ensures sayable { IfOk result (λ models. AreSayable models.models) }
 {
-    let Some(lines) = lines_of(alloc, text)? else {
-        return Ok(None);
-    };
-    netlist_of(alloc, &lines)
+    let lines = logical_lines(alloc, text)?;
+    read_models(alloc, lines.as_slice())
 }
 
 /// The task that a text spells over a net with these signals; None where it spells none that is read.
@@ -78,21 +84,21 @@ fn read_task(alloc: Global, text: &[u8], names: &[Name]) -> Result<Option<TaskTe
     task_of(alloc, &lines, names)
 }
 
-/// The report on a netlist and a task over its signals.
+/// The report on a netlist and a task over the signals of its top.
 fn report_on(
     alloc: Global,
-    netlist: &Netlist,
+    models: &Models,
     net: &Net,
     names: &[Name],
     task: &TaskText,
 ) -> Result<Report, AllocError>
-    requires sound { IsTrue (is_netlist netlist.now) }
-    requires net { net.now.raw ≡ flat_of netlist.now }
-    requires names { names.now ≡ signals netlist.now }
+    requires net { net.now.raw ≡ flat_of (top models.now.models) }
+    requires narrow { All (λ gate. length gate.inputs ≤ 8) net.now.raw.gates }
+    requires names { names.now ≡ signals (top models.now.models) }
     requires task { IsTrue (is_task names.now task.now) }
-    ensures { IfOk result (λ report. (verdict : V) × IsJudged netlist.now task.now verdict report.line × (report.passes ≡ passes verdict)) }
+    ensures { IfOk result (λ report. (verdict : V) × IsJudged (top models.now.models) task.now verdict report.line × (report.passes ≡ passes verdict)) }
 {
-    let _ = netlist;
+    let _ = models;
     let assertion = assertion_of(alloc, names, task)?;
     let verdict = verdict(alloc, net, task.vars.len() as u32, &assertion)?;
     Ok(Report {
@@ -101,17 +107,52 @@ fn report_on(
     })
 }
 
-/// The report on two texts; None where they are not of the forms that are read.
-pub fn judge(alloc: Global, net_text: &[u8], task_text: &[u8]) -> Result<Option<Report>, AllocError>
-    ensures some { IfOk result (λ found. IfSome found (λ report. (verdict : V) × IsReport net_text.now task_text.now verdict report.line × (report.passes ≡ passes verdict))) }
-    ensures none { IfOk result (λ found. IfNone found (IsUnread net_text.now task_text.now)) }
+/// The report on a netlist and the text of a task; None where they are not of the forms that are checked so far.
+fn report_of(
+    alloc: Global,
+    models: &Models,
+    task_text: &[u8],
+) -> Result<Option<Report>, AllocError>
+    requires { AreSayable models.now.models }
+    ensures some { IfOk result (λ found. IfSome found (λ report. (task : Task) × (verdict : V) × IsTrue (is_supported models.now.models) × IsTrue (is_task (signals (top models.now.models)) task) × (task_text.now ≡ text_of (task_lines task)) × IsJudged (top models.now.models) task verdict report.line × (report.passes ≡ passes verdict))) }
+    ensures none { IfOk result (λ found. IfNone found ((task : Task) → IsTrue (is_supported models.now.models) → IsTrue (is_task (signals (top models.now.models)) task) → task_text.now ≢ text_of (task_lines task))) }
 {
-    let Some(netlist) = read_netlist(alloc, net_text)? else {
+    let Some(flat) = flatten(alloc, models)? else {
         return Ok(None);
     };
-    let (net, names) = flat_net(alloc, &netlist)?;
-    let Some(task) = read_task(alloc, task_text, names.as_slice())? else {
+    let net = order(alloc, flat.raw)?;
+    let names = flat.names.as_slice();
+    let Some(task) = read_task(alloc, task_text, names)? else {
         return Ok(None);
     };
-    Ok(Some(report_on(alloc, &netlist, &net, names.as_slice(), &task)?))
+    Ok(Some(report_on(alloc, models, &net, names, &task)?))
+}
+
+/// Why there is no report on two texts.
+#[derive(Drop)]
+pub enum Unjudged {
+    /// The text of the netlist has a faulty line, or no model.
+    Netlist(BlifFault),
+    /// The texts are not of the forms that are checked so far.
+    NotYet,
+    OutOfMemory,
+}
+
+/// The report on the texts of a netlist and of a task.
+pub fn judge(alloc: Global, net_text: &[u8], task_text: &[u8]) -> Result<Report, Unjudged>
+    requires { length net_text.now ≤ greatest }
+    ensures report { IfOk result (λ report. (verdict : V) × IsReport net_text.now task_text.now verdict report.line × (report.passes ≡ passes verdict)) }
+    ensures faulty { (found : Fault) → result ≡ Err (Unjudged.Netlist found) → (found ≢ fault.OutOfMemory) × IsAnswer (net_lines net_text.now) (Err found) }
+    ensures not_yet { result ≡ Err Unjudged.NotYet → IsUnread net_text.now task_text.now }
+{
+    let models = match read_netlist(alloc, net_text) {
+        Ok(models) => models,
+        Err(BlifFault::OutOfMemory) => return Err(Unjudged::OutOfMemory),
+        Err(fault) => return Err(Unjudged::Netlist(fault)),
+    };
+    match report_of(alloc, &models, task_text) {
+        Ok(Some(report)) => Ok(report),
+        Ok(None) => Err(Unjudged::NotYet),
+        Err(_) => Err(Unjudged::OutOfMemory),
+    }
 }

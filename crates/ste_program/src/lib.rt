@@ -1,12 +1,11 @@
 //! All that the program does, over files and sinks that are handed in.
 #![tactic(auto)]
 
-mod flat;
 pub mod io;
 mod judge;
 pub mod law;
 mod lines;
-pub mod netlist;
+mod message;
 pub mod run;
 pub mod task;
 #[cfg(test)]

@@ -1,12 +1,15 @@
 ghost use Rattle.std.specs.Prelude.{◌≡◌, ◌≢◌, ◌⊎◌, ◌≤◌, ◌++◌, ◌∷◌, [], List, ℕ, IfOk, IfErr, IfSome, IfNone, Some, length, take, true, false};
 ghost use Rattle.ste_model.specs.declared.verdict.Verdict.{Verdict as V};
 ghost use Rattle.ste_model.specs.declared.verdict.Verdict.TheVariants as verdict;
-ghost use Rattle.ste_program.specs.Answer.{CannotRead as FailedRead, CannotTell, CannotWrite, IsAnswer, IsAsked, IsCheck, IsChecked, IsNamed, IsNotYet, IsOversized, IsReadable, IsTold, Reported, cannot_read, cannot_write, greatest, not_yet, out_of_memory, passes};
+ghost use Rattle.ste_program.specs.Answer.{CannotRead as FailedRead, CannotTell, CannotWrite, IsAnswer, IsAsked, IsCheck, IsChecked, IsNamed, IsNetRefusal, IsNotYet, IsOversized, IsReadable, IsTold, Reported, WasRefused, cannot_read, cannot_write, greatest, passes};
 ghost use Rattle.ste_program.specs.Causes.{Rose};
+ghost use Rattle.ste_program.specs.Netlist.{net_message, out_of_memory};
 ghost use Rattle.ste_program.specs.Outside.{StandsAt, Store, with_more, with_names};
 
 use crate::io::{FetchFault, Files, Sink, write_whole};
-use crate::judge::{Report, judge};
+use crate::judge::{Report, Unjudged, judge};
+use crate::message::net_message;
+use blif_syntax::BlifFault;
 use std::alloc::{AllocError, Global};
 use ste_base::Items;
 
@@ -28,8 +31,10 @@ pub enum Status {
 /// Why there is no report.
 #[derive(Drop)]
 enum Refusal {
-    /// The words or the texts are not of the forms that are read so far.
+    /// The words or the texts are not of the forms that are checked so far.
     NotYet,
+    /// The netlist was refused, and this is the message.
+    Netlist(Items<u8>),
     /// A file could not be read, and this is the message.
     CannotRead(Items<u8>),
     OutOfMemory,
@@ -63,10 +68,23 @@ fn cannot_read(alloc: Global, name: &str) -> Result<Items<u8>, AllocError>
 /// The refusal of a file that could not be read.
 fn unreadable(alloc: Global, name: &str) -> Refusal
     ensures read { result ≢ Refusal.NotYet }
+    ensures no_netlist { (message : List ℕ) → result ≢ Refusal.Netlist message }
     ensures message { (message : List ℕ) → result ≡ Refusal.CannotRead message → message ≡ cannot_read name.now }
 {
     match cannot_read(alloc, name) {
         Ok(message) => Refusal::CannotRead(message),
+        Err(_) => Refusal::OutOfMemory,
+    }
+}
+
+/// The refusal of a netlist of this file.
+fn refused(alloc: Global, name: &str, fault: &BlifFault) -> Refusal
+    ensures read { result ≢ Refusal.NotYet }
+    ensures no_file { (message : List ℕ) → result ≢ Refusal.CannotRead message }
+    ensures message { (message : List ℕ) → result ≡ Refusal.Netlist message → message ≡ net_message name.now fault.now }
+{
+    match net_message(alloc, name, fault) {
+        Ok(message) => Refusal::Netlist(message),
         Err(_) => Refusal::OutOfMemory,
     }
 }
@@ -77,6 +95,7 @@ fn fetch<F: Files>(alloc: Global, files: &mut F, name: &str) -> Result<Vec<u8>, 
     ensures size { IfOk result (λ bytes. length bytes.items ≤ greatest) }
     ensures not_yet { result ≡ Err Refusal.NotYet → (store : Store) → F.holds files.old ≡ Some store → IsOversized store name.now }
     ensures failed { (message : List ℕ) → result ≡ Err (Refusal.CannotRead message) → Rose (F.faults files.old) (F.faults files.new) × (message ≡ cannot_read name.now) }
+    ensures no_netlist { (message : List ℕ) → result ≢ Err (Refusal.Netlist message) }
     ensures later { F.faults files.old ≤ F.faults files.new }
     ensures holds { F.holds files.new ≡ F.holds files.old }
     ensures asked { IfOk result (λ _. F.asked files.new ≡ with_names (F.asked files.old) (name.now ∷ [])) }
@@ -101,6 +120,7 @@ fn fetch_both<F: Files>(
     ensures task { IfOk result (λ texts. StandsAt (F.holds files.old) task.now texts.1.items × (length texts.1.items ≤ greatest)) }
     ensures not_yet { result ≡ Err Refusal.NotYet → (store : Store) → F.holds files.old ≡ Some store → IsOversized store net.now ⊎ IsOversized store task.now }
     ensures failed { (message : List ℕ) → result ≡ Err (Refusal.CannotRead message) → Rose (F.faults files.old) (F.faults files.new) × ((message ≡ cannot_read net.now) ⊎ (message ≡ cannot_read task.now)) }
+    ensures no_netlist { (message : List ℕ) → result ≢ Err (Refusal.Netlist message) }
     ensures later { F.faults files.old ≤ F.faults files.new }
     ensures holds { F.holds files.new ≡ F.holds files.old }
     ensures asked { (n : ℕ) × (F.asked files.new ≡ with_names (F.asked files.old) (take n (net.now ∷ task.now ∷ []))) }
@@ -126,6 +146,7 @@ fn report<F: Files>(alloc: Global, words: &[String], files: &mut F) -> Result<Re
     ensures ok { IfOk result (λ report. (store : Store) → F.holds files.old ≡ Some store → (verdict : V) × IsChecked store words.now verdict report.line × (report.passes ≡ passes verdict)) }
     ensures not_yet { result ≡ Err Refusal.NotYet → (store : Store) → F.holds files.old ≡ Some store → IsNotYet store words.now }
     ensures failed { (message : List ℕ) → result ≡ Err (Refusal.CannotRead message) → Rose (F.faults files.old) (F.faults files.new) × ((name : List ℕ) × IsNamed words.now name × (message ≡ cannot_read name)) }
+    ensures netlist { (message : List ℕ) → result ≡ Err (Refusal.Netlist message) → IsNetRefusal (F.holds files.old) words.now message }
     ensures later { F.faults files.old ≤ F.faults files.new }
     ensures holds { F.holds files.new ≡ F.holds files.old }
     ensures asked { IsAsked words.now (F.asked files.old) (F.asked files.new) }
@@ -135,9 +156,10 @@ fn report<F: Files>(alloc: Global, words: &[String], files: &mut F) -> Result<Re
     };
     let (net_text, task_text) = fetch_both(alloc, files, net, task)?;
     match judge(alloc, &net_text, &task_text) {
-        Ok(Some(report)) => Ok(report),
-        Ok(None) => Err(Refusal::NotYet),
-        Err(_) => Err(Refusal::OutOfMemory),
+        Ok(report) => Ok(report),
+        Err(Unjudged::Netlist(fault)) => Err(refused(alloc, net, &fault)),
+        Err(Unjudged::NotYet) => Err(Refusal::NotYet),
+        Err(Unjudged::OutOfMemory) => Err(Refusal::OutOfMemory),
     }
 }
 
@@ -177,7 +199,7 @@ pub fn run<F: Files, O: Sink, E: Sink>(
     ensures asked { IsAsked words.now (F.asked files.old) (F.asked files.new) }
     ensures passed { result ≡ Status.Passed → (store : Store) → F.holds files.old ≡ Some store → Reported store words.now verdict.Pass (O.taken out.old) (O.taken out.new) (E.taken err.old) (E.taken err.new) }
     ensures not_passed { result ≡ Status.NotPassed → (store : Store) → F.holds files.old ≡ Some store → (found : V) × (found ≢ verdict.Pass) × Reported store words.now found (O.taken out.old) (O.taken out.new) (E.taken err.old) (E.taken err.new) }
-    ensures refused { result ≡ Status.Refused → (O.taken out.new ≡ O.taken out.old) × (E.taken err.new ≡ with_more (E.taken err.old) not_yet) × ((store : Store) → F.holds files.old ≡ Some store → IsNotYet store words.now) }
+    ensures refused { result ≡ Status.Refused → WasRefused (F.holds files.old) words.now (O.taken out.old) (O.taken out.new) (E.taken err.old) (E.taken err.new) }
     ensures faulted { result ≡ Status.Faulted → FailedRead words.now (F.faults files.old) (F.faults files.new) (O.taken out.old) (O.taken out.new) (E.taken err.old) (E.taken err.new) (E.faults err.old) (E.faults err.new) ⊎ (CannotWrite (F.holds files.old) words.now (O.taken out.old) (O.taken out.new) (O.faults out.old) (O.faults out.new) (E.taken err.old) (E.taken err.new) (E.faults err.old) (E.faults err.new) ⊎ CannotTell (F.holds files.old) words.now (O.taken out.old) (O.taken out.new) (E.taken err.old) (E.taken err.new) (E.faults err.old) (E.faults err.new)) }
     ensures complete { (store : Store) → F.holds files.old ≡ Some store → IsReadable store words.now → ¬ Rose (F.faults files.old) (F.faults files.new) → ¬ Rose (O.faults out.old) (O.faults out.new) → ¬ Rose (E.faults err.old) (E.faults err.new) → IsAnswer result }
     ensures no_memory { result ≡ Status.NoMemory → (O.taken out.new ≡ O.taken out.old) × (E.taken err.new ≡ with_more (E.taken err.old) out_of_memory) }
@@ -185,6 +207,7 @@ pub fn run<F: Files, O: Sink, E: Sink>(
     match report(alloc, words, files) {
         Ok(report) => write_report(&report, out, err),
         Err(Refusal::NotYet) => tell(err, b"stework: not yet\n", Status::Refused),
+        Err(Refusal::Netlist(message)) => tell(err, message.as_slice(), Status::Refused),
         Err(Refusal::CannotRead(message)) => tell(err, message.as_slice(), Status::Faulted),
         Err(Refusal::OutOfMemory) => tell(err, b"stework: out of memory\n", Status::NoMemory),
     }

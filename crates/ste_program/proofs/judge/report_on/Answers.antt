@@ -1,24 +1,21 @@
-use Rattle.std.proofs.Common.{◌∙◌, ◌≤◌, ℕ, List, length, arith, subst, sym, ap}
-use Rattle.std.specs.Prelude.{All}
+use Rattle.std.proofs.Common.{◌∙◌, ℕ, List, length, arith, subst, ap}
 use Rattle.net_core.specs.declared.raw.RawNet.{RawNet}
 use Rattle.net_core.specs.Run.{IsSettled}
 use Rattle.net_core.proofs.Ordered.{settled_by_order}
+use Rattle.flat_net.specs.Flat.{flat_of}
+use Rattle.flat_net.specs.Lines.{top}
 use Rattle.ste_model.specs.Found.{IsVerdictOf}
 use Rattle.ste_model.proofs.Passes.{pass_holds}
 use Rattle.ste_program.specs.Answer.{report_line}
-use Rattle.ste_program.specs.Flat.{flat_of}
-use Rattle.ste_program.proofs.Reading.{few_vars, narrow}
+use Rattle.ste_program.proofs.Reading.{few_vars}
 use Rattle.ste_program.proofs.judge.report_on.Goals as goal
 
 pub overflow_cast-len : goal.overflow_cast-len
 overflow_cast-len c = let few = few_vars c.args.names.now c.args.task.now c.requires.task in omega (arith, few, c.len.ensures)
 
-pub verdict-requires-clause-widths : goal.verdict-requires-clause-widths
-verdict-requires-clause-widths c = subst (λ (net : RawNet). All (λ gate. length gate.inputs ≤ 8) net.gates) (sym c.requires.net) (narrow c.args.netlist.now c.requires.sound)
-
 pub returns : goal.returns
 returns c =
-    let flat = flat_of c.args.netlist.now in
+    let flat = flat_of (top c.args.models.now.models) in
     let vars = length c.args.task.now.vars in
     let verdict = c.in_ok-verdict.verdict in
     let assertion = c.in_ok-assertion.assertion in

@@ -1,7 +1,6 @@
 use Rattle.std.proofs.Common.{◌≡◌, ◌∙◌, arith, sym}
 use Rattle.std.specs.Prelude.{codes, string_bytes}
-use Rattle.ste_program.proofs.Commands.{is_check}
-use Rattle.ste_program.proofs.Mentions.{same_word}
+use Rattle.ste_program.proofs.Commands.{is_check, same_word}
 use Rattle.ste_program.proofs.run.files_of.Goals as goal
 
 pub returns-then-eq-clause-some : goal.returns-then-eq-clause-some

@@ -1,9 +1,13 @@
-use Rattle.std.proofs.Common.{Err, ap, inr}
+use Rattle.std.proofs.Common.{Err, ap, refl, subst, List, ℕ}
+use Rattle.std.specs.Prelude.{◌≢◌}
+use Rattle.blif_syntax.specs.Answer.{IsAnswer}
+use Rattle.blif_syntax.specs.declared.fault.BlifFault.TheVariants.{OutOfMemory}
 use Rattle.std.proofs.lemmas.Result.{err_from_is_err_and}
-use Rattle.ste_program.specs.declared.run.Refusal.TheVariants.{CannotRead}
-use Rattle.ste_program.specs.Answer.{IsUnread}
+use Rattle.ste_program.specs.declared.run.Refusal.TheVariants.{CannotRead, Netlist}
+use Rattle.ste_program.specs.Netlist.{net_lines}
 use Rattle.ste_program.proofs.Asked.{asked_check, named}
 use Rattle.ste_program.proofs.Commands.{handed_on}
+use Rattle.ste_program.proofs.NetTexts.{refusal_of}
 use Rattle.ste_program.proofs.run.report.Goals as goal
 
 pub returns-in_err-net_text-clause-failed : goal.returns-in_err-net_text-clause-failed
@@ -16,27 +20,23 @@ returns-in_err-net_text-clause-failed g c = λ message e.
 pub returns-in_err-net_text-clause-asked : goal.returns-in_err-net_text-clause-asked
 returns-in_err-net_text-clause-asked g c = asked_check c.args.words.now _ _ c.in-Some.net.now c.in-Some.task.now c.in-Some.ensures.some c.in_err-net_text.ensures.asked
 
-pub returns-in-Ok-Some-clause-asked : goal.returns-in-Ok-Some-clause-asked
-returns-in-Ok-Some-clause-asked g c = asked_check c.args.words.now _ _ c.in-Some.net.now c.in-Some.task.now c.in-Some.ensures.some c.in_ok-net_text.ensures.asked
-
-pub returns-in-Ok-None-clause-asked : goal.returns-in-Ok-None-clause-asked
-returns-in-Ok-None-clause-asked g c = asked_check c.args.words.now _ _ c.in-Some.net.now c.in-Some.task.now c.in-Some.ensures.some c.in_ok-net_text.ensures.asked
-
 pub returns-clause-asked : goal.returns-clause-asked
 returns-clause-asked g c = asked_check c.args.words.now _ _ c.in-Some.net.now c.in-Some.task.now c.in-Some.ensures.some c.in_ok-net_text.ensures.asked
 
-pub returns-in-Ok-None-clause-not_yet : goal.returns-in-Ok-None-clause-not_yet
-returns-in-Ok-None-clause-not_yet g c = λ same store told.
-    let unread : IsUnread c.deref.result.now c.deref-2.result.now = rw c.in-Ok-None.field-0-is at c.in-Ok-None.ensures.none in
-    inr (inr (
-      c.in_ok-net_text.net_text.items,
-      c.in_ok-net_text.task_text.items,
-      record {
-        net = c.in-Some.net.now;
-        task = c.in-Some.task.now;
-        check = c.in-Some.ensures.some;
-        net_held = (rw told at c.in_ok-net_text.ensures.net).0;
-        task_held = (rw told at c.in_ok-net_text.ensures.task).0;
-      },
-      rw (c.deref.ensures.value, c.deref-2.ensures.value) at unread,
-    ))
+pub returns-in-Ok-clause-asked : goal.returns-in-Ok-clause-asked
+returns-in-Ok-clause-asked g c = asked_check c.args.words.now _ _ c.in-Some.net.now c.in-Some.task.now c.in-Some.ensures.some c.in_ok-net_text.ensures.asked
+
+pub returns-in-Err-Netlist-clause-asked : goal.returns-in-Err-Netlist-clause-asked
+returns-in-Err-Netlist-clause-asked g c = asked_check c.args.words.now _ _ c.in-Some.net.now c.in-Some.task.now c.in-Some.ensures.some c.in_ok-net_text.ensures.asked
+
+pub returns-in-Err-NotYet-clause-asked : goal.returns-in-Err-NotYet-clause-asked
+returns-in-Err-NotYet-clause-asked g c = asked_check c.args.words.now _ _ c.in-Some.net.now c.in-Some.task.now c.in-Some.ensures.some c.in_ok-net_text.ensures.asked
+
+pub returns-in-Err-Netlist-clause-netlist : goal.returns-in-Err-Netlist-clause-netlist
+returns-in-Err-Netlist-clause-netlist g c = λ message e.
+    let found = c.in-Err-Netlist.fault in
+    let same = handed_on (Err c.refused.result) c.refused.result c.refused.result (Netlist message) refl refl e in
+    let faulty = rw c.in-Err-Netlist.field-0-is at c.in-Err-Netlist.ensures.faulty in
+    let stated : found ≢ OutOfMemory = (faulty found refl).0 in
+    let answer : IsAnswer (net_lines c.deref.result.now) (Err found) = (faulty found refl).1 in
+    refusal_of _ c.args.words.now c.in-Some.net.now c.in-Some.task.now message c.in_ok-net_text.net_text.items c.in_ok-net_text.task_text.items found c.in-Some.ensures.some c.in_ok-net_text.ensures.net c.in_ok-net_text.ensures.task (stated, subst (λ (text : List ℕ). IsAnswer (net_lines text) (Err found)) c.deref.ensures.value answer) (c.refused.ensures.message message same)
