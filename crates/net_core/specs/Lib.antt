@@ -3,3 +3,5 @@ pub mod Run
 pub mod Possible
 pub mod Flat
 pub mod Source
+pub mod Loop
+pub mod Cases
