@@ -1,3 +1,5 @@
 pub mod Levels
 pub mod Ordered
 pub mod Possible
+pub mod Halves
+pub mod Left

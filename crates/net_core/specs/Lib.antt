@@ -5,3 +5,4 @@ pub mod Flat
 pub mod Source
 pub mod Loop
 pub mod Cases
+pub mod Asks

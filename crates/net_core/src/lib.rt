@@ -2,15 +2,18 @@
 //! bits that the nets may have at one time.
 #![tactic(auto)]
 
+mod asks;
 pub mod bit_set;
 pub mod cover;
 pub mod law;
 pub mod net;
 pub mod raw;
 pub mod source;
+pub mod split;
 
 pub use bit_set::BitSet;
 pub use cover::{Cover, Lit, Row, eval};
 pub use net::{Net, order, settles};
 pub use raw::{Gate, Init, Latch, RawNet};
 pub use source::Source;
+pub use split::{cases, other_rows};
