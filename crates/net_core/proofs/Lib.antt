@@ -3,3 +3,4 @@ pub mod Ordered
 pub mod Possible
 pub mod Halves
 pub mod Left
+pub mod Complement
