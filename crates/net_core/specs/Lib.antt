@@ -6,3 +6,4 @@ pub mod Source
 pub mod Loop
 pub mod Cases
 pub mod Asks
+pub mod Search

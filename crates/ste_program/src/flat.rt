@@ -5,7 +5,7 @@ ghost use Rattle.ste_program.specs.Flat.{with_mention, signals_of, signals, net_
 
 use crate::lines::is_among;
 use crate::netlist::{Netlist, Part};
-use net_core::{Cover, Gate, Init, Latch, Net, RawNet, Row, order};
+use net_core::{Cover, Gate, Init, Latch, Net, OrderFault, RawNet, Row, order};
 use std::alloc::{AllocError, Global};
 use ste_base::{Items, Name, NodeId};
 
@@ -177,5 +177,10 @@ pub fn flat_net(alloc: Global, netlist: &Netlist) -> Result<(Net, Items<Name>), 
 {
     let names = signals(alloc, netlist)?;
     let raw = raw_net(alloc, netlist, names.as_slice())?;
-    Ok((order(alloc, raw)?, names))
+    match order(alloc, raw) {
+        Ok(net) => Ok((net, names)),
+        Err(OrderFault::OutOfMemory) => Err(AllocError),
+        // The gates stand in order, so that no loop can be.
+        Err(OrderFault::Loop { .. }) => unreachable!(),
+    }
 }
