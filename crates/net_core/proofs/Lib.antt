@@ -1,3 +1,10 @@
+pub mod Among
+pub mod Complement
+pub mod Halves
+pub mod Left
 pub mod Levels
 pub mod Ordered
 pub mod Possible
+pub mod Samples
+pub mod Searched
+pub mod Undriven

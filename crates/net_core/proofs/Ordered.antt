@@ -21,15 +21,6 @@ place_of order gate h =
     let same : any.1 ≡ gate = eqb-true any.1 gate any.4 in
     (any.0, any.2, here ∙ same)
 
--- the numbers of gates that are listed in order are such an order
-pub listed_order : (net : RawNet) (order : List ℕ) → IsListedInOrder net → length order ≡ length net.gates → ((k : ℕ) → k < length net.gates → get_or order k 0 ≡ k) → IsSettledOrder net order
-listed_order net order listed long each = record {
-  long = long;
-  gates = λ k d l. let same = get_or_default order k d 0 l in let at = each k (omega arith) in omega (arith, same, at);
-  every = λ gate l. list_any_at (λ other. other == gate) order gate 0 (omega arith) (eq-eqb (get_or order gate 0) gate (each gate l));
-  behind = λ j k d le l. let a = each j (omega arith) in let b = each k (omega arith) in rw (a, b) (listed j k d le (omega arith));
-}
-
 -- a net that no gate from the n-th place on drives is settled
 settles : (net : RawNet) (order : List ℕ) → IsSettledOrder net order → (n id : ℕ) → ((k : ℕ) (d : _) → n ≤ k → k < length order → (get_or net.gates (get_or order k 0) d).output.0 ≢ id) → IsSettledAt net (suc n) id
 settles net order is zero id none = λ g d l e.
@@ -47,6 +38,19 @@ settles net order is (suc n) id none = λ g d l e.
 -- a net with a settled order has no loop of gates
 pub settled_by_order : (net : RawNet) (order : List ℕ) → IsSettledOrder net order → IsSettled net
 settled_by_order net order is id = (suc (length order), settles net order is (length order) id (λ k d le lt. absurd (omega arith)))
+
+-- where the gates are listed in order, a net that no gate from the n-th on drives is settled
+listed_at : (net : RawNet) → IsListedInOrder net → (n id : ℕ) → ((k : ℕ) (d : Gate) → n ≤ k → k < length net.gates → (get_or net.gates k d).output.0 ≢ id) → IsSettledAt net (suc n) id
+listed_at net listed zero id none = λ g d l e. absurd (none g d (omega arith) l e)
+listed_at net listed (suc n) id none = λ g d l e.
+    elim (cases_lt n g) [
+      | inl late ↦ absurd (none g d late l e)
+      | inr early ↦ λ i c m. listed_at net listed n _ (λ k f le lt o. listed g k d (omega arith) lt i c m (sym o ∙ ap (λ (x : Gate). x.output.0) (get_or_default net.gates k f d lt)))
+    ]
+
+-- a net whose gates are listed in order has no loop of gates
+pub settled_by_list : (net : RawNet) → IsListedInOrder net → IsSettled net
+settled_by_list net listed id = (suc (length net.gates), listed_at net listed (length net.gates) id (λ k d le lt. absurd (omega arith)))
 
 -- drivers of different nets are at most as many as the nets
 few_drivers : {D : Type 0} (net_of : D → ℕ) (drivers : List D) (n : ℕ) → All (λ d. net_of d < n) drivers → AllPairs (λ one other. net_of one ≢ net_of other) drivers → length drivers ≤ n

@@ -3,3 +3,7 @@ pub mod Run
 pub mod Possible
 pub mod Flat
 pub mod Source
+pub mod Loop
+pub mod Cases
+pub mod Asks
+pub mod Search

@@ -1,13 +1,18 @@
-ghost use Rattle.std.specs.Prelude.{◌≡◌, ◌<◌, ◌==◌, ℕ, Some, length, position, IfOk, slice_get, slice_index};
+ghost use Rattle.std.specs.Prelude.{◌≡◌, ◌<◌, ◌==◌, Err, Some, length, not, position, IfOk, OnOk, slice_get};
 ghost use Rattle.std.specs.List.{list_any};
 ghost use Rattle.net_core.specs.Run.{IsSettled};
 ghost use Rattle.net_core.specs.Source.{source_of};
-ghost use Rattle.net_core.specs.Flat.{IsInRange, HasOneDriver, IsListedInOrder, IsSettledOrder};
+ghost use Rattle.net_core.specs.Flat.{IsInRange, HasOneDriver, IsSettledOrder};
+ghost use Rattle.net_core.specs.Loop.{IsLeastUnsettled};
+ghost use Rattle.net_core.specs.declared.fault.OrderFault.TheVariants.{Loop};
+ghost use Rattle.ste_base.specs.declared.id.NodeId.{NodeId};
 
 use crate::cover::Cover;
+use crate::fault::OrderFault;
 use crate::raw::{Gate, Latch, RawNet};
+use crate::search::run_search;
 use crate::source::Source;
-use std::alloc::{AllocError, Global};
+use std::alloc::Global;
 use ste_base::{Items, NodeId};
 
 /// A flat net in which every number is in range, each net has one driver at most, and the gates have a settled order.
@@ -118,25 +123,29 @@ pub fn settles(net: &Net)
     let _ = net;
 }
 
-/// The numbers from 0 to below `count`, in order.
-fn numbers(alloc: Global, count: u32) -> Result<Vec<u32>, AllocError>
-    ensures long { IfOk result (λ numbers. length numbers.items ≡ count) }
-    ensures each { IfOk result (λ numbers. (k : ℕ) → k < count → slice_index numbers.items k ≡ k) }
+/// The place of the first net that is not marked.
+fn first_unmarked(marks: &[bool]) -> Option<usize>
+    ensures { result ≡ position not marks.now }
 {
-    let mut numbers = Vec::new(alloc);
-    for number in 0..count {
-        numbers.push(number)?;
-    }
-    Ok(numbers)
+    marks.iter().position(|mark| !*mark)
 }
 
-/// The net in its settled order. The gates have to be listed in such an order already.
-pub fn order(alloc: Global, raw: RawNet) -> Result<Net, AllocError>
+/// The net in a settled order, or the least net that does not settle. The time is linear in the net's size.
+pub fn order(alloc: Global, raw: RawNet) -> Result<Net, OrderFault>
     requires in_range { IsInRange raw }
     requires one_driver { HasOneDriver raw }
-    requires listed { IsListedInOrder raw }
-    ensures { IfOk result (λ net. net.raw ≡ raw) }
+    ensures same { IfOk result (λ net. net.raw ≡ raw) }
+    ensures settles { OnOk result (IsSettled raw) }
+    ensures looped { (net : NodeId) → result ≡ Err (Loop net) → IsLeastUnsettled raw net.0 }
 {
-    let settled = Items::from(numbers(alloc, raw.gates.len() as u32)?);
-    Ok(Net { raw, settled })
+    let search = run_search(alloc, &raw)?;
+    match first_unmarked(search.marks.as_slice()) {
+        Some(net) => Err(OrderFault::Loop {
+            net: NodeId(net as u32),
+        }),
+        None => Ok(Net {
+            raw,
+            settled: search.order,
+        }),
+    }
 }
