@@ -1,0 +1,8 @@
+//! What holds of the grammar. The bodies are empty: each contract is a law.
+
+ghost use Rattle.blif_syntax.specs.Rules.{FirstFaultIsLeast};
+
+/// Law: the first fault is that of the first line that may not stand where it does.
+pub fn first_fault_is_least()
+    ensures { FirstFaultIsLeast }
+{}
