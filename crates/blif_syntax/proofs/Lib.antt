@@ -1,5 +1,10 @@
 pub mod Sayable
 pub mod Bindings
 pub mod Faults
+pub mod Fit
 pub mod Growth
+pub mod ReadBack
+pub mod Spelling
+pub mod Standing
+pub mod Tied
 pub mod Turn

@@ -58,15 +58,19 @@ abbrev pub model_added : List Model → Option Model → List Model
 model_added models None = models
 model_added models (Some model) = models ++ model ∷ []
 
+-- a line more that goes on with no cover, behind these models and this open one
+abbrev pub line_behind : List Model → Option Model → ℕ → Form → Draft
+line_behind models model line (form.Item what) =
+    record { models = models; model = item_added model (record { line = line; what = what }); cover = None }
+line_behind models model line (form.Names width inputs output) =
+    record { models = models; model = model; cover = Some (record { line = line; inputs = inputs; output = output; place = record { width = width; first = None }; rows = [] }) }
+line_behind models model line (form.Model name) =
+    record { models = model_added models model; model = Some (record { line = line; name = name; items = [] }); cover = None }
+line_behind models model line form.End = record { models = model_added models model; model = None; cover = None }
+line_behind models model line other = record { models = models; model = model; cover = None }
+
 -- a line more
 abbrev pub line_added : Draft → ℕ → Form → Draft
 line_added draft line form.Passed = draft
 line_added draft line (form.Row row on) = record draft { cover = row_added row on draft.cover }
-line_added draft line (form.Item what) =
-    record draft { model = item_added (closed draft.model draft.cover) (record { line = line; what = what }); cover = None }
-line_added draft line (form.Names width inputs output) =
-    record draft { model = closed draft.model draft.cover; cover = Some (record { line = line; inputs = inputs; output = output; place = record { width = width; first = None }; rows = [] }) }
-line_added draft line (form.Model name) =
-    record { models = model_added draft.models (closed draft.model draft.cover); model = Some (record { line = line; name = name; items = [] }); cover = None }
-line_added draft line form.End = record { models = model_added draft.models (closed draft.model draft.cover); model = None; cover = None }
-line_added draft line (form.Wrong kind) = record draft { model = closed draft.model draft.cover; cover = None }
+line_added draft line other = line_behind draft.models (closed draft.model draft.cover) line other

@@ -1,6 +1,6 @@
 ghost use Rattle.std.specs.Prelude.{◌≡◌, [], None, IfOk};
 ghost use Rattle.blif_syntax.specs.Places.{first_or};
-ghost use Rattle.blif_syntax.specs.Drafts.{place_of, row_added, cover_item, closed_items, closed, item_added, model_added, line_added};
+ghost use Rattle.blif_syntax.specs.Drafts.{place_of, row_added, cover_item, closed_items, closed, item_added, model_added, line_behind, line_added};
 
 use crate::form::{Entry, Form};
 use crate::models::{Item, Model, What};
@@ -144,6 +144,55 @@ pub fn models_of(draft: Draft) -> Result<Items<Model>, AllocError>
     model_added(models, closed(model, cover)?)
 }
 
+/// What is read, with a line more that goes on with no cover, behind these models and this open one.
+fn line_behind(
+    alloc: Global,
+    models: Items<Model>,
+    model: Option<Model>,
+    line: u32,
+    form: Form,
+) -> Result<Draft, AllocError>
+    ensures { IfOk result (λ draft. draft ≡ line_behind models model line form) }
+{
+    match form {
+        Form::Item(what) => Ok(Draft {
+            models,
+            model: item_added(model, Item { line, what })?,
+            cover: None,
+        }),
+        Form::Names(width, inputs, output) => Ok(Draft {
+            models,
+            model,
+            cover: Some(Pending {
+                line,
+                inputs,
+                output,
+                place: Place { width, first: None },
+                rows: Items::new(alloc),
+            }),
+        }),
+        Form::Model(name) => Ok(Draft {
+            models: model_added(models, model)?,
+            model: Some(Model {
+                line,
+                name,
+                items: Items::new(alloc),
+            }),
+            cover: None,
+        }),
+        Form::End => Ok(Draft {
+            models: model_added(models, model)?,
+            model: None,
+            cover: None,
+        }),
+        _ => Ok(Draft {
+            models,
+            model,
+            cover: None,
+        }),
+    }
+}
+
 /// What is read, with a line more.
 pub fn line_added(alloc: Global, draft: Draft, entry: Entry) -> Result<Draft, AllocError>
     ensures { IfOk result (λ draft_then. draft_then ≡ line_added draft entry.line entry.form) }
@@ -165,40 +214,6 @@ pub fn line_added(alloc: Global, draft: Draft, entry: Entry) -> Result<Draft, Al
             model,
             cover: row_added(row, on, cover)?,
         }),
-        Form::Item(what) => Ok(Draft {
-            models,
-            model: item_added(closed(model, cover)?, Item { line, what })?,
-            cover: None,
-        }),
-        Form::Names(width, inputs, output) => Ok(Draft {
-            models,
-            model: closed(model, cover)?,
-            cover: Some(Pending {
-                line,
-                inputs,
-                output,
-                place: Place { width, first: None },
-                rows: Items::new(alloc),
-            }),
-        }),
-        Form::Model(name) => Ok(Draft {
-            models: model_added(models, closed(model, cover)?)?,
-            model: Some(Model {
-                line,
-                name,
-                items: Items::new(alloc),
-            }),
-            cover: None,
-        }),
-        Form::End => Ok(Draft {
-            models: model_added(models, closed(model, cover)?)?,
-            model: None,
-            cover: None,
-        }),
-        Form::Wrong(_) => Ok(Draft {
-            models,
-            model: closed(model, cover)?,
-            cover: None,
-        }),
+        other => line_behind(alloc, models, closed(model, cover)?, line, other),
     }
 }

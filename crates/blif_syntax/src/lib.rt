@@ -6,6 +6,7 @@ pub mod fault;
 pub mod form;
 mod forms;
 mod latches;
+pub mod laws;
 pub mod models;
 pub mod place;
 pub mod read;
@@ -16,3 +17,6 @@ mod words;
 pub use fault::BlifFault;
 pub use models::{Item, LatchKind, Model, Models, What};
 pub use read::read_models;
+
+#[cfg(test)]
+mod tests;
