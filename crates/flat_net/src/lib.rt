@@ -5,5 +5,7 @@ pub mod flat;
 mod lines;
 mod signals;
 mod supported;
+#[cfg(test)]
+mod tests;
 
 pub use flat::{FlatNet, flatten};
