@@ -18,7 +18,7 @@ use crate::words::lines_of;
 use blif_lines::logical_lines;
 use blif_syntax::{BlifFault, Models, read_models};
 use flat_net::flatten;
-use net_core::{Net, order};
+use net_core::{Net, OrderFault, order};
 use plain_check::verdict;
 use std::alloc::{AllocError, Global};
 use ste_base::{Items, Name};
@@ -108,11 +108,7 @@ fn report_on(
 }
 
 /// The report on a netlist and the text of a task; None where they are not of the forms that are checked so far.
-fn report_of(
-    alloc: Global,
-    models: &Models,
-    task_text: &[u8],
-) -> Result<Option<Report>, AllocError>
+fn report_of(alloc: Global, models: &Models, task_text: &[u8]) -> Result<Option<Report>, AllocError>
     requires { AreSayable models.now.models }
     ensures some { IfOk result (λ found. IfSome found (λ report. (task : Task) × (verdict : V) × IsTrue (is_supported models.now.models) × IsTrue (is_task (signals (top models.now.models)) task) × (task_text.now ≡ text_of (task_lines task)) × IsJudged (top models.now.models) task verdict report.line × (report.passes ≡ passes verdict))) }
     ensures none { IfOk result (λ found. IfNone found ((task : Task) → IsTrue (is_supported models.now.models) → IsTrue (is_task (signals (top models.now.models)) task) → task_text.now ≢ text_of (task_lines task))) }
@@ -120,7 +116,12 @@ fn report_of(
     let Some(flat) = flatten(alloc, models)? else {
         return Ok(None);
     };
-    let net = order(alloc, flat.raw)?;
+    let net = match order(alloc, flat.raw) {
+        Ok(net) => net,
+        Err(OrderFault::OutOfMemory) => return Err(AllocError),
+        // The gates are listed in order, so they drive one another in no loop.
+        Err(OrderFault::Loop { .. }) => unreachable!(),
+    };
     let names = flat.names.as_slice();
     let Some(task) = read_task(alloc, task_text, names)? else {
         return Ok(None);

@@ -49,11 +49,7 @@ fn on_word(
 }
 
 /// The message on a netlist of this file that was refused.
-pub fn net_message(
-    alloc: Global,
-    name: &str,
-    fault: &BlifFault,
-) -> Result<Items<u8>, AllocError>
+pub fn net_message(alloc: Global, name: &str, fault: &BlifFault) -> Result<Items<u8>, AllocError>
     ensures { IfOk result (λ message. message ≡ net_message name.now fault.now) }
 {
     match fault {

@@ -170,27 +170,157 @@ fn examples_of_gates_and_latches(rt: HostRuntime) -> Result<(), Fail> {
 }
 
 #[test]
-fn what_is_not_read_yet(rt: HostRuntime) -> Result<(), Fail> {
+fn tasks_that_are_not_read_yet(rt: HostRuntime) -> Result<(), Fail> {
     let alloc = rt.alloc();
-    let nine =
-        ".model nine\n.inputs a b c d e f g h i\n.outputs y\n.names a b c d e f g h i y\n111111111 1\n.end\n";
-    let loops = ".model loops\n.inputs a\n.outputs y\n.names y a y\n11 1\n.end\n";
-    for (net, task) in [
-        (nine, ".ste w\n.con y = 0 from 0 to 1\n.end\n"),
-        (loops, ".ste w\n.con y = 0 from 0 to 1\n.end\n"),
-        (INVERTER, ".ste w\n.con y = 0 from 0 to 21\n.end\n"),
-        (INVERTER, ".ste w\n.con y = 0 from 2 to 1\n.end\n"),
-        (INVERTER, ".ste w\n.con z = 0 from 0 to 1\n.end\n"),
-        (INVERTER, ".ste w\n.con y = p from 0 to 1\n.end\n"),
-        (INVERTER, ".ste w\n.end"),
-        (INVERTER, ""),
-        ("", INVERTS),
+    for task in [
+        ".ste w\n.con y = 0 from 0 to 21\n.end\n",
+        ".ste w\n.con y = 0 from 2 to 1\n.end\n",
+        ".ste w\n.con z = 0 from 0 to 1\n.end\n",
+        ".ste w\n.con y = p from 0 to 1\n.end\n",
+        ".ste w\n.end",
+        "",
+    ] {
+        expect(&rt, alloc, INVERTER, task, Status::Refused, "", NOT_YET)?;
+    }
+    Ok(())
+}
+
+/// A netlist of so many nets, all of them outputs.
+fn wide_net(alloc: Global, nets: u32) -> Result<String, AllocError> {
+    let mut text = String::new(alloc);
+    text.push_str(".model wide\n.outputs")?;
+    for number in 0..nets {
+        text.push_str(format!(in alloc; " n{number}")?.as_str())?;
+    }
+    text.push_str("\n.end\n")?;
+    Ok(text)
+}
+
+#[test]
+fn netlists_that_are_not_checked_yet(rt: HostRuntime) -> Result<(), Fail> {
+    let alloc = rt.alloc();
+    for net in [
+        ".model m\n.inputs a\n.outputs y\n.names a y\n0 1\n.end\n.model n\n.end\n",
+        ".model m\n.inputs a\n.outputs y\n.names a y\n0 1\n.subckt m a=a\n.end\n",
+        ".model m\n.inputs a\n.outputs y\n.names a y\n0 1\n.names y\n.end\n",
+        ".model m\n.inputs a\n.outputs y\n.names a y\n0 1\n.latch a y\n.end\n",
+        ".model m\n.inputs a y\n.outputs y\n.names a y\n0 1\n.end\n",
+        ".model m\n.inputs a\n.clock y\n.names a y\n0 1\n.end\n",
+        ".model m\n.inputs a\n.latch a y re a 0\n.latch a z fe a 0\n.end\n",
+        ".model m\n.inputs a\n.latch a y re a 0\n.latch a z re y 0\n.end\n",
+        ".model nine\n.inputs a b c d e f g h i\n.outputs y\n.names a b c d e f g h i y\n111111111 1\n.end\n",
+        ".model loops\n.inputs a\n.outputs y\n.names y a y\n11 1\n.end\n",
+        ".model late\n.inputs a\n.outputs y\n.names n y\n1 1\n.names a n\n0 1\n.end\n",
+    ] {
+        let task = ".ste w\n.con y = 0 from 0 to 1\n.end\n";
+        expect(&rt, alloc, net, task, Status::Refused, "", NOT_YET)?;
+    }
+    let task = ".ste w\n.con n0 = 0 from 0 to 1\n.end\n";
+    let few = wide_net(alloc, 200)?;
+    expect(
+        &rt,
+        alloc,
+        few.as_str(),
+        task,
+        Status::NotPassed,
+        "w: weak failure\n",
+        "",
+    )?;
+    let many = wide_net(alloc, 201)?;
+    expect(
+        &rt,
+        alloc,
+        many.as_str(),
+        task,
+        Status::Refused,
+        "",
+        NOT_YET,
+    )?;
+    Ok(())
+}
+
+#[test]
+fn netlists_that_are_refused(rt: HostRuntime) -> Result<(), Fail> {
+    let alloc = rt.alloc();
+    for (net, message) in [
+        ("", "stework: n: no model\n"),
+        ("# nothing\n\n.attr a b\n", "stework: n: no model\n"),
         (
-            ".model inv\n.inputs a\n.outputs y\n.names a y # inverts\n0 1\n.end\n",
+            ".model m\n.inputs a b\n.outputs y\n.names a b y\n1\\\n 1\n",
+            "stework: n:5: bad line\n",
+        ),
+        (".model m\n.names a b y\n1\n", "stework: n:3: bad line\n"),
+        (".inputs a\n.model m\n", "stework: n:1: bad line\n"),
+        (
+            ".model m\n.end\n.inputs a\n.foo\n",
+            "stework: n:3: bad line\n",
+        ),
+        (
+            ".model m\n.names a y\n0 1\n1 0\n",
+            "stework: n:4: bad line\n",
+        ),
+        (
+            ".model m\n.gate nand2 A=a O=y\n",
+            "stework: n:2: left out: .gate\n",
+        ),
+        (
+            ".model m\n.latch a b as c 2\n",
+            "stework: n:2: left out: as\n",
+        ),
+        (".model m\n\n.foo\n", "stework: n:3: unknown word .foo\n"),
+    ] {
+        // the netlist is refused before the task's text is looked at
+        for task in [INVERTS, "no task"] {
+            expect(&rt, alloc, net, task, Status::Refused, "", message)?;
+        }
+    }
+    Ok(())
+}
+
+#[test]
+fn netlists_of_every_form(rt: HostRuntime) -> Result<(), Fail> {
+    let alloc = rt.alloc();
+    for (net, task, status, out) in [
+        // a cover without rows, covers without inputs, an off-row, and a free net
+        (
+            ".model covers\n.outputs z o n c\n.names z\n.names o\n1\n.names c\n0\n.names a n\n1 0\n.end\n",
+            ".vars p\n.ste k\n.ant a = p from 0 to 1\n.con z = 0 from 0 to 1\n.con o = 1 from 0 to 1\n.con c = 0 from 0 to 1\n.con n = !p from 0 to 1\n.end\n",
+            Status::Passed,
+            "k: pass\n",
+        ),
+        (
+            "# Generated by Yosys\n.model top\n.inputs clk d\n.outputs q\n.names $false\n.names $true\n1\n.names $undef\n.latch d q re clk 2\n.end\n",
+            ".vars p\n.ste s\n.ant d = p from 0 to 1\n.con q = p from 1 to 2\n.end\n",
+            Status::Passed,
+            "s: pass\n",
+        ),
+        (
+            "# Benchmark \"top\"\n.model top\n.inputs d \\\n e\n.outputs q\n\n.latch          n1          q  0\n\n.names d e n1\n11 1\n.end\n",
+            ".vars p\n.ste s\n.ant d = p from 0 to 1\n.ant e = 1 from 0 to 1\n.con q = p from 1 to 2\n.end\n",
+            Status::Passed,
+            "s: pass\n",
+        ),
+        (
+            ".model inv\n.inputs a\n.outputs y\n.names a y\n0 1\n",
             INVERTS,
+            Status::Passed,
+            "t1: pass\n",
+        ),
+        (
+            ".model and2\n.inputs a\n.inputs b a\n.outputs y\n.names a b y\n11 1\n.end\n",
+            ".vars p\n.ste t1\n.ant a = p from 0 to 1\n.ant b = 1 from 0 to 1\n.con y = p from 0 to 1\n.end\n",
+            Status::Passed,
+            "t1: pass\n",
+        ),
+        // a latch that begins with 1 begins with either bit, since the task asks for no reset
+        (
+            ".model l\n.inputs d\n.outputs q\n.latch d q 1\n.end\n",
+            ".ste f\n.con q = 1 from 0 to 1\n.end\n",
+            Status::NotPassed,
+            "f: weak failure\n",
         ),
     ] {
-        expect(&rt, alloc, net, task, Status::Refused, "", NOT_YET)?;
+        expect(&rt, alloc, net, task, status, out, "")?;
     }
     Ok(())
 }
