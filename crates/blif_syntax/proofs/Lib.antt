@@ -4,6 +4,7 @@ pub mod Faults
 pub mod Fit
 pub mod Growth
 pub mod ReadBack
+pub mod Sound
 pub mod Spelling
 pub mod Standing
 pub mod Tied

@@ -6,3 +6,4 @@ pub mod Answer
 pub mod Rules
 pub mod Written
 pub mod Drafts
+pub mod Sayable

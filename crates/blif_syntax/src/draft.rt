@@ -40,7 +40,7 @@ pub fn place_of(cover: &Option<Pending>) -> Option<Place>
 
 /// The cover, with a row more.
 fn row_added(row: Row, on: bool, cover: Option<Pending>) -> Result<Option<Pending>, AllocError>
-    ensures { IfOk result (λ cover_then. cover_then ≡ row_added row on cover) }
+    ensures { IfOk result (λ grown. grown ≡ row_added row on cover) }
 {
     let Some(
         Pending {
@@ -95,7 +95,7 @@ fn cover_item(cover: Pending) -> Item
 
 /// The open model, with an item more.
 fn item_added(model: Option<Model>, item: Item) -> Result<Option<Model>, AllocError>
-    ensures { IfOk result (λ model_then. model_then ≡ item_added model item) }
+    ensures { IfOk result (λ grown. grown ≡ item_added model item) }
 {
     let Some(
         Model {
@@ -113,7 +113,7 @@ fn item_added(model: Option<Model>, item: Item) -> Result<Option<Model>, AllocEr
 
 /// The open model, with the item of a cover.
 fn closed(model: Option<Model>, cover: Option<Pending>) -> Result<Option<Model>, AllocError>
-    ensures { IfOk result (λ model_then. model_then ≡ closed model cover) }
+    ensures { IfOk result (λ grown. grown ≡ closed model cover) }
 {
     match cover {
         None => Ok(model),
@@ -123,7 +123,7 @@ fn closed(model: Option<Model>, cover: Option<Pending>) -> Result<Option<Model>,
 
 /// The models, and the one that was open.
 fn model_added(models: Items<Model>, model: Option<Model>) -> Result<Items<Model>, AllocError>
-    ensures { IfOk result (λ models_then. models_then ≡ model_added models model) }
+    ensures { IfOk result (λ grown. grown ≡ model_added models model) }
 {
     let mut models = models;
     if let Some(model) = model {
@@ -195,7 +195,7 @@ fn line_behind(
 
 /// What is read, with a line more.
 pub fn line_added(alloc: Global, draft: Draft, entry: Entry) -> Result<Draft, AllocError>
-    ensures { IfOk result (λ draft_then. draft_then ≡ line_added draft entry.line entry.form) }
+    ensures { IfOk result (λ grown. grown ≡ line_added draft entry.line entry.form) }
 {
     let Draft {
         models,

@@ -12,7 +12,7 @@ pub struct Place {
 }
 
 /// The output character of a cover's first row, from a row behind it.
-pub fn first_or(first: Option<bool>, on: bool) -> bool
+pub(crate) fn first_or(first: Option<bool>, on: bool) -> bool
     ensures { result ≡ first_or first on }
 {
     match first {
@@ -32,7 +32,7 @@ fn row_fits(width: usize, on: bool, cover: Option<Place>) -> bool
 }
 
 /// Whether a line of this form may stand where a model is open, or none is, and where a row may go on with this cover.
-pub fn may_stand(form: &Form, inside: bool, cover: Option<Place>) -> bool
+pub(crate) fn may_stand(form: &Form, inside: bool, cover: Option<Place>) -> bool
     ensures { result ≡ may_stand form.now inside cover }
 {
     match form {

@@ -169,8 +169,9 @@ fn add_word(out: &mut Vec<u8>, word: &[u8]) -> Result<(), AllocError> {
     Ok(())
 }
 
-/// Adds the names, each with a blank before it.
-fn add_names(out: &mut Vec<u8>, names: &Items<Name>) -> Result<(), AllocError> {
+/// Adds a word and the names behind it, each with a blank before it.
+fn add_names(out: &mut Vec<u8>, word: &[u8], names: &Items<Name>) -> Result<(), AllocError> {
+    add_word(out, word)?;
     for name in names.as_slice() {
         add_word(out, name.bytes())?;
     }
@@ -227,25 +228,15 @@ fn add_latch(
 fn add_item(alloc: Global, out: &mut Vec<u8>, item: &Item) -> Result<(), AllocError> {
     out.extend_from_slice(format!(in alloc; "{}:", item.line)?.as_bytes())?;
     match &item.what {
-        What::Inputs(names) => {
-            add_word(out, b"inputs")?;
-            add_names(out, names)?;
-        }
-        What::Outputs(names) => {
-            add_word(out, b"outputs")?;
-            add_names(out, names)?;
-        }
-        What::Clock(names) => {
-            add_word(out, b"clock")?;
-            add_names(out, names)?;
-        }
+        What::Inputs(names) => add_names(out, b"inputs", names)?,
+        What::Outputs(names) => add_names(out, b"outputs", names)?,
+        What::Clock(names) => add_names(out, b"clock", names)?,
         What::Names {
             inputs,
             output,
             cover,
         } => {
-            add_word(out, b"names")?;
-            add_names(out, inputs)?;
+            add_names(out, b"names", inputs)?;
             add_word(out, b"->")?;
             add_word(out, output.bytes())?;
             add_cover(alloc, out, cover)?;
