@@ -3,14 +3,11 @@ use Rattle.std.proofs.Common.{◌≡◌, ◌≢◌, ℕ, ◌+◌, ◌<◌, ◌�
 use Rattle.std.specs.Prelude.{◌⊎◌, not, All, AllPairs, if◌then◌else◌, nat_lt, unwrap_or, Some, None}
 use Rattle.std.specs.List.{list_all, list_any, position, position_or_len}
 use Rattle.std.specs.Str.{bytes_eq}
-use Rattle.std.specs.Cmp.Lexicographic.{nat_list_eq_equiv}
 use Rattle.std.proofs.lemmas.Bool.{and_parts, or_cases, or_left, or_right, not-true}
 use Rattle.std.proofs.lemmas.Bool.Decides.{nat_tests}
 use Rattle.std.proofs.lemmas.List.{get_or-map, length-map}
 use Rattle.std.proofs.lemmas.List.Folds.{list_any-append, list_any_at}
-use Rattle.std.proofs.lemmas.List.Quantifiers.{all_pairs_push}
 use Rattle.std.proofs.lemmas.List.Sums.{passes_at_first, prefix_len-le-length}
-use Rattle.std.proofs.lemmas.Map.Made.{IsDistinct-from_AllPairs, length-le_from_is_member}
 use Rattle.std.proofs.lemmas.Slice.Eq.{bytes_eq-Decides}
 use Rattle.ste_base.specs.declared.id.NodeId.{NodeId}
 use Rattle.indexmap.specs.IndexSet.{insert_key, insert_all}
@@ -98,10 +95,6 @@ only_by : (new : Bool) (seen : List (List ℕ)) (word : List ℕ) (others : List
 only_by true seen word others f h = f
 only_by false seen word others f h = both_within seen (word ∷ []) others f (cons_within word [] others h (λ w m. absurd (cc)))
 
-once_by : (new : Bool) (seen : List (List ℕ)) (word : List ℕ) → is_one_of seen word ≡ new → AllPairs (λ x y. x ≢ y) seen → AllPairs (λ x y. x ≢ y) (if new then seen else (seen ++ word ∷ []))
-once_by true seen word e h = h
-once_by false seen word e h = all_pairs_push (λ x y. x ≢ y) seen word h (λ k d l same. let at = among_at seen k d l in let here = ap (is_one_of seen) same in absurd (cc))
-
 fold_keeps : (words seen : List (List ℕ)) → Within seen (insert_all bytes_eq seen words)
 fold_keeps [] seen word h = h
 fold_keeps (first ∷ words) seen word h = fold_keeps words (insert_key bytes_eq seen first) word (kept_by (is_one_of seen first) seen first word h)
@@ -120,23 +113,12 @@ fold_only (first ∷ words) seen others f g =
     (only_by (is_one_of seen first) seen first others f (g first (is_first first words)))
     (λ word h. g word (in_rest first words word h))
 
-fold_once : (words seen : List (List ℕ)) → AllPairs (λ x y. x ≢ y) seen → AllPairs (λ x y. x ≢ y) (insert_all bytes_eq seen words)
-fold_once [] seen h = h
-fold_once (first ∷ words) seen h = fold_once words (insert_key bytes_eq seen first) (once_by (is_one_of seen first) seen first refl h)
-
 -- what is mentioned is among the first mentions
 pub mentioned : (words : List (List ℕ)) → Within words (first_mentions words)
 mentioned words = fold_has words []
 
 pub mentions_within : (words others : List (List ℕ)) → Within words others → Within (first_mentions words) others
 mentions_within words others f = fold_only words [] others (λ w m. absurd (cc)) f
-
--- no more words are mentioned than there are others, where each is among them
-pub few_mentions : (words others : List (List ℕ)) → Within words others → length (first_mentions words) ≤ length others
-few_mentions words others f =
-    length-le_from_is_member nat_list_eq_equiv (first_mentions words) others
-    (IsDistinct-from_AllPairs bytes_eq-Decides (first_mentions words) (fold_once words [] (λ i j d l m. absurd (omega arith))))
-    (mentions_within words others f)
 
 -- ---- numbers
 place_by : (here : Bool) (n m : ℕ) → (here ≡ false → n < m) → cond (not here) (1 + n) 0 < suc m

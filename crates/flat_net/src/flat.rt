@@ -122,24 +122,30 @@ fn covers_of(alloc: Global, lines: &[GateLine]) -> Result<Items<Cover>, AllocErr
     Ok(covers)
 }
 
-/// The flat net of a model with these signals.
-fn raw_net(alloc: Global, model: &Model, names: &IndexSet<Name>) -> Result<RawNet, AllocError>
+/// The flat net of a model with these signals, gates and latches.
+fn raw_net(
+    alloc: Global,
+    model: &Model,
+    names: &IndexSet<Name>,
+    gates: &[GateLine],
+    latches: &[LatchLine],
+) -> Result<RawNet, AllocError>
     requires names { names.now.keys ≡ signals model.now }
-    requires few { length (signals model.now) < 2 ^ 32 }
-    requires gates { length (gate_lines model.now) < 2 ^ 32 }
+    requires gates { gates.now ≡ gate_lines model.now }
+    requires latches { latches.now ≡ latch_lines model.now }
+    requires few_names { length (signals model.now) < 2 ^ 32 }
+    requires few_gates { length (gate_lines model.now) < 2 ^ 32 }
     ensures { IfOk result (λ raw. raw ≡ flat_of model.now) }
 {
-    let gates = gate_lines(alloc, model)?;
-    let latches = latch_lines(alloc, model)?;
     let inputs = inputs_of(alloc, model)?;
     let outputs = outputs_of(alloc, model)?;
     Ok(RawNet {
         nets: names.len() as u32,
         inputs: nets_of(alloc, names, inputs.as_slice())?,
         outputs: nets_of(alloc, names, outputs.as_slice())?,
-        gates: gates_of(alloc, names, gates.as_slice())?,
-        latches: latches_of(alloc, names, latches.as_slice())?,
-        covers: covers_of(alloc, gates.as_slice())?,
+        gates: gates_of(alloc, names, gates)?,
+        latches: latches_of(alloc, names, latches)?,
+        covers: covers_of(alloc, gates)?,
     })
 }
 
@@ -150,10 +156,18 @@ fn flatten_model(alloc: Global, model: &Model) -> Result<Option<FlatNet>, AllocE
     ensures none { IfOk result (λ found. IfNone found (is_supported_model model.now ≡ false)) }
 {
     let names = signals(alloc, model)?;
-    if !is_supported_model(alloc, model, &names)? {
+    let gates = gate_lines(alloc, model)?;
+    let latches = latch_lines(alloc, model)?;
+    if !is_supported_model(
+        alloc,
+        model,
+        names.len(),
+        gates.as_slice(),
+        latches.as_slice(),
+    )? {
         return Ok(None);
     }
-    let raw = raw_net(alloc, model, &names)?;
+    let raw = raw_net(alloc, model, &names, gates.as_slice(), latches.as_slice())?;
     Ok(Some(FlatNet {
         raw,
         names: names.into_iter().collect::<Vec<Name>>(alloc)?.into(),

@@ -8,7 +8,7 @@ use std::marker::Model;
 use ste_base::Name;
 
 /// A gate, as a line gives it.
-#[derive(Debug, Drop)]
+#[derive(Drop)]
 pub(crate) struct GateLine<'a> {
     pub(crate) inputs: &'a [Name],
     pub(crate) output: &'a Name,
@@ -24,7 +24,7 @@ impl<'a> Model for GateLine<'a> {
 }
 
 /// A latch, as a line gives it.
-#[derive(Debug, Drop)]
+#[derive(Drop)]
 pub(crate) struct LatchLine<'a> {
     pub(crate) input: &'a Name,
     pub(crate) output: &'a Name,

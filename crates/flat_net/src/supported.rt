@@ -5,7 +5,7 @@ ghost use Rattle.blif_syntax.specs.Words.{is_one_of};
 ghost use Rattle.flat_net.specs.Lines.{gate_lines, inputs_of, latch_lines, signals};
 ghost use Rattle.flat_net.specs.Supported.{are_alike, are_distinct, are_in_order, driven, is_clocked_once, is_driven_once, is_narrow, is_rising, is_supported_model, is_use};
 
-use crate::lines::{GateLine, LatchLine, gate_lines, latch_lines};
+use crate::lines::{GateLine, LatchLine};
 use crate::signals::{add, inputs_of};
 use blif_syntax::{Item, LatchKind, Model, What};
 use indexmap::IndexSet;
@@ -169,24 +169,24 @@ fn are_in_order(lines: &[GateLine]) -> bool
     true
 }
 
-/// Whether a model with these signals is one that is flattened.
+/// Whether a model with so many signals, and with these gates and latches, is one that is flattened.
 pub(crate) fn is_supported_model(
     alloc: Global,
     model: &Model,
-    names: &IndexSet<Name>,
+    nets: usize,
+    gates: &[GateLine],
+    latches: &[LatchLine],
 ) -> Result<bool, AllocError>
-    requires { names.now.keys ≡ signals model.now }
+    requires nets { nets ≡ length (signals model.now) }
+    requires gates { gates.now ≡ gate_lines model.now }
+    requires latches { latches.now ≡ latch_lines model.now }
     ensures { IfOk result (λ supported. supported ≡ is_supported_model model.now) }
 {
-    if names.len() > MOST_NETS || uses_model(model.items.as_slice()) {
+    if nets > MOST_NETS || uses_model(model.items.as_slice()) || !are_narrow(gates) {
         return Ok(false);
     }
-    let gates = gate_lines(alloc, model)?;
-    let latches = latch_lines(alloc, model)?;
-    if !are_narrow(gates.as_slice())
-        || !is_driven_once(alloc, model, gates.as_slice(), latches.as_slice())?
-    {
+    if !is_driven_once(alloc, model, gates, latches)? {
         return Ok(false);
     }
-    Ok(is_clocked_once(alloc, model, latches.as_slice())? && are_in_order(gates.as_slice()))
+    Ok(is_clocked_once(alloc, model, latches)? && are_in_order(gates))
 }
