@@ -1,4 +1,3 @@
-pub mod Sayable
 pub mod Bindings
 pub mod Faults
 pub mod Fit

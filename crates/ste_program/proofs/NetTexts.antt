@@ -1,28 +1,22 @@
--- What the reader of netlists asks for, and what it gives.
-use Rattle.std.proofs.Common.{◌≡◌, ◌<◌, ◌≤◌, ◌^◌, ℕ, List, Option, length, Result, Ok, Err, arith, subst, sym}
-use Rattle.std.specs.Prelude.{◌≢◌, All, IfOk, String}
+-- What the reader of netlists gives.
+use Rattle.std.proofs.Common.{◌≡◌, ◌≤◌, ℕ, List, Option, length, Result, Ok, Err, subst, sym}
+use Rattle.std.specs.Prelude.{◌≢◌, IfOk, String}
 use Rattle.std.specs.declared.alloc.Global.{Global}
-use Rattle.blif_lines.specs.Lines.{lines_of}
 use Rattle.blif_lines.specs.declared.lines.Line.{Line}
-use Rattle.blif_lines.proofs.Sizes.{lines_fit}
 use Rattle.blif_syntax.specs.Answer.{IsAnswer, entries_of}
 use Rattle.blif_syntax.specs.Written.{AreSayable}
 use Rattle.blif_syntax.specs.declared.fault.BlifFault.{BlifFault}
 use Rattle.blif_syntax.specs.declared.fault.BlifFault.TheVariants.{OutOfMemory}
 use Rattle.blif_syntax.specs.declared.models.Model.{Model}
 use Rattle.blif_syntax.specs.declared.models.Models.{Models}
-use Rattle.blif_syntax.proofs.Sayable.{models_are_sayable}
+use Rattle.blif_syntax.proofs.Sound.{read_is_sayable}
 use Rattle.ste_program.specs.Answer.{IsCheck, IsNetRefusal, greatest}
 use Rattle.ste_program.specs.Netlist.{net_lines, net_message}
 use Rattle.ste_program.specs.Outside.{StandsAt, Store}
 
--- a line of a small text has few words
-pub few_words : (text : List ℕ) (lines : List Line) → length text ≤ greatest → lines ≡ lines_of text → All (λ line. length line.words < 2 ^ 32) lines
-few_words text lines small e = subst (λ (ls : List Line). All (λ line. length line.words < 2 ^ 32) ls) (sym e) (λ k d h. let both = (lines_fit text).0 k d h in omega (arith, both.1, small))
-
 -- models that are read can be written out
 pub read_sayable : (lines : List Line) (result : Result Models BlifFault) → IsAnswer (entries_of lines) result → IfOk result (λ models. AreSayable models.models)
-read_sayable lines (Ok models) h = subst (λ (ms : List Model). AreSayable ms) (sym h.1) (models_are_sayable lines h.0)
+read_sayable lines (Ok models) h = subst (λ (ms : List Model). AreSayable ms) (sym h.1) (read_is_sayable lines h.0)
 read_sayable lines (Err e) h = tt
 
 -- a message on a faulty netlist is a refusal of it
