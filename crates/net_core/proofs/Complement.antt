@@ -90,9 +90,9 @@ exact (suc width) rows [] e = absurd (omega arith)
 exact (suc width) rows (bit ∷ bits) e = by (is_one_case rows) refl (list_all begins_any rows) refl (exact width (map behind rows) bits (omega arith)) (λ b. exact width (half b rows) bits (omega arith))
   where
     by : (one : Bool) → is_one_case rows ≡ one → (any : Bool) → list_all begins_any rows ≡ any →
-      some_matches (others_of width (map behind rows)) bits ≡ not (some_matches (map behind rows) bits) →
-      ((b : Bool) → some_matches (others_of width (half b rows)) bits ≡ not (some_matches (half b rows) bits)) →
-      some_matches (others_of (suc width) rows) (bit ∷ bits) ≡ not (some_matches rows (bit ∷ bits))
+        some_matches (others_of width (map behind rows)) bits ≡ not (some_matches (map behind rows) bits) →
+        ((b : Bool) → some_matches (others_of width (half b rows)) bits ≡ not (some_matches (half b rows) bits)) →
+        some_matches (others_of (suc width) rows) (bit ∷ bits) ≡ not (some_matches rows (bit ∷ bits))
     by true one any all whole halves = rw one (one_left (suc width) rows (bit ∷ bits) one)
     by false one true all whole halves = rw (one, all) (before_any bit (others_of width (map behind rows)) bits ∙ whole ∙ ap not (sym (behind_any bit rows bits all)))
     by false one false all whole halves = rw (one, all) (before_both bit (others_of width (half false rows)) (others_of width (half true rows)) bits ∙ each bit ∙ ap not (sym (in_half bit rows bits)))
@@ -109,9 +109,10 @@ few (suc width) rows = by (is_one_case rows) refl (list_all begins_any rows) ref
     one_few : (all : List (List Lit)) → length (left_by_one (suc width) all) ≤ 1
     one_few [] = omega arith
     one_few (row ∷ all) = omega arith
+
     by : (one : Bool) → is_one_case rows ≡ one → (any : Bool) → list_all begins_any rows ≡ any →
-      length (others_of width (map behind rows)) ≤ cases_of width (map behind rows) → length (others_of width (half false rows)) ≤ cases_of width (half false rows) → length (others_of width (half true rows)) ≤ cases_of width (half true rows) →
-      length (others_of (suc width) rows) ≤ cases_of (suc width) rows
+        length (others_of width (map behind rows)) ≤ cases_of width (map behind rows) → length (others_of width (half false rows)) ≤ cases_of width (half false rows) → length (others_of width (half true rows)) ≤ cases_of width (half true rows) →
+        length (others_of (suc width) rows) ≤ cases_of (suc width) rows
     by true one any all whole zeros ones = rw one (one_few rows)
     by false one true all whole zeros ones =
         let long = length-map (others_of width (map behind rows)) (λ (row : List Lit). Any ∷ row) in

@@ -36,14 +36,17 @@ first_is inputs [] position e = let same : inputs ≡ position = cc in (tt, omeg
 first_is inputs ([] ∷ rows) position e = absurd cc
 first_is inputs ((ask ∷ asks) ∷ rows) position e =
     let rest = first_is (min inputs ask.position) rows position e in
-    let low = rest.1 in
-    ((omega arith, rest.0), omega arith, elim rest.2 as (λ _. (position ≡ inputs) ⊎ SomeAt position ((ask ∷ asks) ∷ rows)) [
-      | inl same ↦ elim (cases_lt ask.position inputs) as (λ _. (position ≡ inputs) ⊎ SomeAt position ((ask ∷ asks) ∷ rows)) [
-        | inl less ↦ inr (inl (omega arith))
-        | inr more ↦ inl (omega arith)
-      ]
-      | inr some ↦ inr (inr some)
-    ])
+    let low = rest.1 in (
+      (omega arith, rest.0),
+      omega arith,
+      elim rest.2 as (λ _. (position ≡ inputs) ⊎ SomeAt position ((ask ∷ asks) ∷ rows)) [
+        | inl same ↦ elim (cases_lt ask.position inputs) as (λ _. (position ≡ inputs) ⊎ SomeAt position ((ask ∷ asks) ∷ rows)) [
+          | inl less ↦ inr (inl (omega arith))
+          | inr more ↦ inl (omega arith)
+        ]
+        | inr some ↦ inr (inr some)
+      ],
+    )
 
 -- behind its position a row asks later
 later : (at : ℕ) (row : List Lit) (position : ℕ) (bit : Bool) → position < at → (admits_at position bit (asks_from at row) ≡ true) × (behind_at position (asks_from at row) ≡ asks_from at row)
@@ -178,6 +181,10 @@ map_both f g h (x ∷ xs) ys = ap (λ rest. f (g x) ∷ rest) (map_both f g h xs
 map_both f g h [] (y ∷ ys) = ap (λ rest. f (h y) ∷ rest) (map_both f g h [] ys)
 map_both f g h [] [] = refl
 
+any_before : (before : ℕ) (zeros ones all : List (List Lit)) → all ≡ map (λ row. replicate before Any ++ (Zero ∷ row)) zeros ++ map (λ row. replicate before Any ++ (One ∷ row)) ones → map (λ row. Any ∷ row) all ≡ map (λ row. Any ∷ (replicate before Any ++ (Zero ∷ row))) zeros ++ map (λ row. Any ∷ (replicate before Any ++ (One ∷ row))) ones
+any_before before zeros ones all e =
+    ap (map (λ row. Any ∷ row)) e ∙ map_both (λ row. Any ∷ row) (λ row. replicate before Any ++ (Zero ∷ row)) (λ row. replicate before Any ++ (One ∷ row)) zeros ones
+
 halved : (before all at position width : ℕ) (lits : List (List Lit)) → before + at ≡ position → width + suc before ≡ all → AllFrom position (map (asks_from at) lits) → SomeAt position (map (asks_from at) lits) → IsHalved (cases_of all lits) (others_of all lits) before position width (map (asks_from at) lits)
 halved before zero at position width lits e f from some = absurd (omega arith)
 halved zero (suc all) at position width lits e f from some =
@@ -204,7 +211,7 @@ halved (suc before) (suc all) at position width lits e f from some =
       zeros_asked = rest.zeros_asked ∙ ap (half_at position false) same;
       ones_asked = rest.ones_asked ∙ ap (half_at position true) same;
       cases_are = rw (one, any) rest.cases_are;
-      others_are = rw (one, any) (ap (map (λ row. Any ∷ row)) rest.others_are ∙ map_both (λ row. Any ∷ row) (λ row. replicate before Any ++ (Zero ∷ row)) (λ row. replicate before Any ++ (One ∷ row)) (others_of width rest.zeros) (others_of width rest.ones));
+      others_are = rw (one, any) (any_before before (others_of width rest.zeros) (others_of width rest.ones) (others_of all (map behind lits)) rest.others_are);
     }
 
 -- the halves of rows from position `from` on, of `inputs`
@@ -217,9 +224,12 @@ halves from inputs position asks lits are le e ne =
     let ahead : from ≤ position = elim (cases_lt position from) as (λ _. from ≤ position) [
       | inl early ↦ absurd (no_earlier from position lits early (subst (SomeAt position) (sym are) some))
       | inr late ↦ late
-    ] in
-    (ahead, omega arith, subst (IsHalved (cases_of (inputs - from) lits) (others_of (inputs - from) lits) (position - from) position (inputs - (position + 1))) are
-      (halved (position - from) (inputs - from) from position (inputs - (position + 1)) lits (omega arith) (omega arith) (subst (AllFrom position) (sym are) first.0) (subst (SomeAt position) (sym are) some)))
+    ] in (
+      ahead,
+      omega arith,
+      subst (IsHalved (cases_of (inputs - from) lits) (others_of (inputs - from) lits) (position - from) position (inputs - (position + 1))) are
+          (halved (position - from) (inputs - from) from position (inputs - (position + 1)) lits (omega arith) (omega arith) (subst (AllFrom position) (sym are) first.0) (subst (SomeAt position) (sym are) some)),
+    )
 
 -- the cases where no row asks before the end
 pub at_end : (from inputs position : ℕ) (asks : List (List Ask)) (lits : List (List Lit)) → AreAsks from lits asks → from ≤ inputs → first_position_from inputs asks ≡ Some position → position ≡ inputs →

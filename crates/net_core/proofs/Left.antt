@@ -60,7 +60,7 @@ half_added row from position lit half le lt blank =
     let one : position + 1 ≡ suc position = omega arith in
     map_after (λ other. take from row ++ other) (λ other. replicate (position - from) Any ++ (lit ∷ other)) half
     ∙ map_same (λ other. take from row ++ (replicate (position - from) Any ++ (lit ∷ other))) (λ other. take (position + 1) (set row position lit) ++ other) half
-      (λ other. sym (rw one (with_lit row from (position - from) position lit other (omega arith) lt blank)))
+    (λ other. sym (rw one (with_lit row from (position - from) position lit other (omega arith) lt blank)))
 
 set_twice : (row : List Lit) (position : ℕ) (one other : Lit) → set (set row position one) position other ≡ set row position other
 set_twice [] position one other = refl

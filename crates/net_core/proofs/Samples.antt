@@ -1,9 +1,9 @@
 -- The nets of the tests: gate k drives net k and has three inputs, and a latch drives the net behind them.
-use Rattle.std.proofs.Common.{◌≡◌, ◌≢◌, ℕ, zero, suc, ◌+◌, ◌<◌, ◌≤◌, List, [], ◌∷◌, ◌++◌, length, get_or, Some, slice_get, arith, sym, ap, ◌∙◌, subst, inl, inr}
+use Rattle.std.proofs.Common.{◌≡◌, ◌≢◌, ℕ, zero, suc, ◌+◌, ◌<◌, ◌≤◌, List, [], ◌∷◌, ◌++◌, length, get_or, Some, slice_get, arith, refl, sym, ap, ◌∙◌, subst, inl, inr}
 use Rattle.std.specs.Prelude.{All}
 use Rattle.std.proofs.lemmas.Bool.{cases_lt}
 use Rattle.std.proofs.lemmas.List.{length_push}
-use Rattle.std.proofs.lemmas.List.Elements.{All-nil}
+use Rattle.std.proofs.lemmas.List.Elements.{All-nil, All-cons}
 use Rattle.std.proofs.Math.Decide.{ℕ_discrete}
 use Rattle.ste_base.specs.declared.id.NodeId.{NodeId}
 use Rattle.net_core.specs.declared.cover.Cover.{Cover}
@@ -70,3 +70,14 @@ module _ (net : RawNet) (count : ℕ) (latch : Latch) (cover : Cover) (nets : ne
     no_gate = subst (All (λ (i : NodeId). All (λ gate. gate.output.0 ≢ i.0) net.gates)) (sym inputs) (All-nil (λ (i : NodeId). All (λ gate. gate.output.0 ≢ i.0) net.gates));
     no_latch = subst (All (λ (i : NodeId). All (λ l. l.output.0 ≢ i.0) net.latches)) (sym inputs) (All-nil (λ (i : NodeId). All (λ l. l.output.0 ≢ i.0) net.latches));
   }
+
+pub sample_gate : (count number : ℕ) (inputs : List NodeId) (one two three : NodeId) → inputs ≡ one ∷ (two ∷ (three ∷ [])) → one.0 < count + 1 → two.0 < count + 1 → three.0 < count + 1 → IsSampleGate count number (record { inputs = inputs; output = record { 0 = number }; cover = 0 })
+sample_gate count number inputs one two three e first second third = record {
+  output = refl;
+  inputs = subst (All (λ (input : NodeId). input.0 < count + 1)) (sym e) (All-cons (λ (i : NodeId). i.0 < count + 1) one (two ∷ (three ∷ [])) first (All-cons (λ (i : NodeId). i.0 < count + 1) two (three ∷ []) second (All-cons (λ (i : NodeId). i.0 < count + 1) three [] third (All-nil (λ (i : NodeId). i.0 < count + 1)))));
+  wide = ap length e;
+  cover = refl;
+}
+
+pub all_samples : (count number : ℕ) (before gates : List Gate) → gates ≡ before → count ≤ number → number ≤ count → AreSampleGates count before number → AreSampleGates count gates count
+all_samples count number before gates same low high are = let end : number ≡ count = omega arith in subst (λ (gs : List Gate). AreSampleGates count gs count) (sym same) (subst (AreSampleGates count before) end are)

@@ -31,23 +31,33 @@ one_gate : (net : RawNet) → HasOneDriver net → (j k : ℕ) (one other : Gate
 one_gate net driver j k one other at there e = elim (ℕ_discrete j k) [
   | yes same ↦ same
   | no differ ↦ elim (cases_lt j k) [
-      | inl less ↦ absurd (driver.gates j k one less (get_within net.gates k other there) (ap (λ (g : Gate). g.output.0) (get_same net.gates j one one at) ∙ e ∙ ap (λ (g : Gate). g.output.0) (sym (get_same net.gates k other one there))))
-      | inr more ↦ absurd (driver.gates k j one (omega arith) (get_within net.gates j one at) (ap (λ (g : Gate). g.output.0) (get_same net.gates k other one there) ∙ sym e ∙ ap (λ (g : Gate). g.output.0) (sym (get_same net.gates j one one at))))
-    ]
+    | inl less ↦ absurd (driver.gates j k one less (get_within net.gates k other there) (ap (λ (g : Gate). g.output.0) (get_same net.gates j one one at) ∙ e ∙ ap (λ (g : Gate). g.output.0) (sym (get_same net.gates k other one there))))
+    | inr more ↦ absurd (driver.gates k j one (omega arith) (get_within net.gates j one at) (ap (λ (g : Gate). g.output.0) (get_same net.gates k other one there) ∙ sym e ∙ ap (λ (g : Gate). g.output.0) (sym (get_same net.gates j one one at))))
+  ]
 ]
 
 module _ (net : RawNet) (marks : List Bool) (waits : List (List ℕ)) (passed order : List ℕ) (released : ℕ) (left : List ℕ) (number : ℕ) (gate : Gate) (at : slice_get net.gates number ≡ Some gate) (search : IsSearch net marks waits passed order released (number ∷ left)) where
   -- its output has a mark
   pub passes : get_or marks gate.output.0 false ≡ true → IsSearch net marks waits passed order released left
   passes done = record {
-    marks_long = search.marks_long; waits_long = search.waits_long; passed_long = search.passed_long; count = search.count; released_of = search.released_of;
-    sources = search.sources; settled = search.settled; gates = search.gates; every = search.every; inputs = search.inputs; behind = search.behind;
-    passed_marked = search.passed_marked; entries = search.entries;
+    marks_long = search.marks_long;
+    waits_long = search.waits_long;
+    passed_long = search.passed_long;
+    count = search.count;
+    released_of = search.released_of;
+    sources = search.sources;
+    settled = search.settled;
+    gates = search.gates;
+    every = search.every;
+    inputs = search.inputs;
+    behind = search.behind;
+    passed_marked = search.passed_marked;
+    entries = search.entries;
     waiting = λ other here is. by other here is (search.waiting other here is);
   }
     where
       by : (other : ℕ) (here : Gate) → slice_get net.gates other ≡ Some here →
-        (get_or marks here.output.0 false ≡ true) ⊎ (IsAmong (number ∷ left) other ⊎ IsWaiting net marks waits order released other here) → (get_or marks here.output.0 false ≡ true) ⊎ (IsAmong left other ⊎ IsWaiting net marks waits order released other here)
+          (get_or marks here.output.0 false ≡ true) ⊎ (IsAmong (number ∷ left) other ⊎ IsWaiting net marks waits order released other here) → (get_or marks here.output.0 false ≡ true) ⊎ (IsAmong left other ⊎ IsWaiting net marks waits order released other here)
       by other here is (inl mark) = inl mark
       by other here is (inr (inl (inl same))) = inl (subst (λ (g : Gate). get_or marks g.output.0 false ≡ true) (get_one net.gates other gate here (ap (λ (k : ℕ). slice_get net.gates k) (sym same) ∙ at) is) done)
       by other here is (inr (inl (inr rest))) = inr (inl rest)
@@ -58,9 +68,17 @@ module _ (net : RawNet) (marks : List Bool) (waits : List (List ℕ)) (passed or
       ((k : ℕ) (d : NodeId) → get_or passed number 0 ≤ k → k < place → get_or marks (get_or gate.inputs k d).0 false ≡ true) →
       IsSearch net marks (set waits input.0 (get_or waits input.0 [] ++ number ∷ [])) (set passed number place) order released left
   stays place input lt is_input unmarked within rest = record {
-    marks_long = search.marks_long; waits_long = length-set waits input.0 (get_or waits input.0 [] ++ number ∷ []) ∙ search.waits_long; passed_long = length-set passed number place ∙ search.passed_long;
-    count = search.count; released_of = search.released_of;
-    sources = search.sources; settled = search.settled; gates = search.gates; every = search.every; inputs = search.inputs; behind = search.behind;
+    marks_long = search.marks_long;
+    waits_long = length-set waits input.0 (get_or waits input.0 [] ++ number ∷ []) ∙ search.waits_long;
+    passed_long = length-set passed number place ∙ search.passed_long;
+    count = search.count;
+    released_of = search.released_of;
+    sources = search.sources;
+    settled = search.settled;
+    gates = search.gates;
+    every = search.every;
+    inputs = search.inputs;
+    behind = search.behind;
     passed_marked = λ other here is k d less inside. elim (ℕ_discrete other number) [
       | yes same ↦ by_place other here is same k d (subst (λ (n : ℕ). k < n) (ap (λ (n : ℕ). get_or (set passed number place) n 0) same ∙ get_or-set_same passed number place 0 long) less) inside (cases_lt k (get_or passed number 0))
       | no differ ↦ search.passed_marked other here is k d (subst (λ (n : ℕ). k < n) (get_or-set_other passed number other place 0 differ) less) inside
@@ -71,14 +89,17 @@ module _ (net : RawNet) (marks : List Bool) (waits : List (List ℕ)) (passed or
     where
       long : number < length passed
       long = let inside = get_within net.gates number gate at in let size = search.passed_long in omega arith
+
       by_place : (other : ℕ) (here : Gate) → slice_get net.gates other ≡ Some here → other ≡ number → (k : ℕ) (d : NodeId) → k < place → k < length here.inputs → (k < get_or passed number 0) ⊎ (get_or passed number 0 ≤ k) → get_or marks (get_or here.inputs k d).0 false ≡ true
       by_place other here is same k d less inside (inl early) = search.passed_marked other here is k d (subst (λ (n : ℕ). k < get_or passed n 0) (sym same) early) inside
       by_place other here is same k d less inside (inr late) = subst (λ (g : Gate). get_or marks (get_or g.inputs k d).0 false ≡ true) (get_one net.gates other gate here (ap (λ (n : ℕ). slice_get net.gates n) same ∙ at) is) (rest k d late less)
+
       rows : List (List ℕ)
       rows = set waits input.0 (get_or waits input.0 [] ++ number ∷ [])
+
       by : (other : ℕ) (here : Gate) → slice_get net.gates other ≡ Some here →
-        (get_or marks here.output.0 false ≡ true) ⊎ (IsAmong (number ∷ left) other ⊎ IsWaiting net marks waits order released other here) →
-        (get_or marks here.output.0 false ≡ true) ⊎ (IsAmong left other ⊎ IsWaiting net marks (set waits input.0 (get_or waits input.0 [] ++ number ∷ [])) order released other here)
+          (get_or marks here.output.0 false ≡ true) ⊎ (IsAmong (number ∷ left) other ⊎ IsWaiting net marks waits order released other here) →
+          (get_or marks here.output.0 false ≡ true) ⊎ (IsAmong left other ⊎ IsWaiting net marks (set waits input.0 (get_or waits input.0 [] ++ number ∷ [])) order released other here)
       by other here is (inl mark) = inl mark
       by other here is (inr (inl (inl same))) = inr (inr (record {
         input = input;
@@ -94,7 +115,9 @@ module _ (net : RawNet) (marks : List Bool) (waits : List (List ℕ)) (passed or
       ((k : ℕ) (d : NodeId) → get_or passed number 0 ≤ k → k < length gate.inputs → get_or marks (get_or gate.inputs k d).0 false ≡ true) →
       IsSearch net (set marks gate.output.0 true) waits passed (order ++ number ∷ []) released left
   lists range driver unmarked rest = record {
-    marks_long = length-set marks gate.output.0 true ∙ search.marks_long; waits_long = search.waits_long; passed_long = search.passed_long;
+    marks_long = length-set marks gate.output.0 true ∙ search.marks_long;
+    waits_long = search.waits_long;
+    passed_long = search.passed_long;
     count = let more = marked marks gate.output.0 within unmarked in let count = search.count in let long = longer in omega arith;
     released_of = let of = search.released_of in let long = longer in omega arith;
     sources = λ id lt none. set_keeps marks gate.output.0 id (search.sources id lt none);
@@ -113,12 +136,16 @@ module _ (net : RawNet) (marks : List Bool) (waits : List (List ℕ)) (passed or
     where
       within : gate.output.0 < length marks
       within = let low = all_get (λ (g : Gate). g.output.0 < net.nets) net.gates number gate range.gate_outputs at in let long = search.marks_long in omega arith
+
       longer : length (order ++ number ∷ []) ≡ length order + 1
       longer = length_push order number
+
       longer_suc : length (order ++ number ∷ []) ≡ suc (length order)
       longer_suc = let long = longer in omega arith
+
       all_marked : (k : ℕ) (d : NodeId) → k < length gate.inputs → get_or marks (get_or gate.inputs k d).0 false ≡ true
       all_marked k d lt = elim (cases_lt k (get_or passed number 0)) [ inl early ↦ search.passed_marked number gate at k d early lt | inr late ↦ rest k d late lt ]
+
       settled_by : (id : ℕ) → (get_or marks id false ≡ true) ⊎ (gate.output.0 ≡ id) → IsSettledAt net (suc (suc (length order))) id
       settled_by id (inl old) = higher net (suc (length order)) id (search.settled id old)
       settled_by id (inr same) = λ k d lt e i c m.
@@ -126,13 +153,15 @@ module _ (net : RawNet) (marks : List Bool) (waits : List (List ℕ)) (passed or
           let place : k ≡ number = one_gate net driver k number (get_or net.gates k d) gate here at (e ∙ sym same) in
           let one : get_or net.gates k d ≡ gate = get_one net.gates number (get_or net.gates k d) gate (subst (λ (n : ℕ). slice_get net.gates n ≡ Some (get_or net.gates k d)) place here) at in
           subst (λ (g : Gate). (j : ℕ) (b : NodeId) → j < length g.inputs → IsSettledAt net (suc (length order)) (get_or g.inputs j b).0) (sym one) (λ j b l. search.settled (get_or gate.inputs j b).0 (all_marked j b l)) i c m
+
       read : (n : ℕ) (here : Gate) → IsAmong (order ++ number ∷ []) n → slice_get net.gates n ≡ Some here → (k : ℕ) (d : NodeId) → k < length here.inputs → get_or marks (get_or here.inputs k d).0 false ≡ true
       read n here h is = elim (last_cases order number n h) as (λ _. (k : ℕ) (d : NodeId) → k < length here.inputs → get_or marks (get_or here.inputs k d).0 false ≡ true) [
         | inl old ↦ search.inputs n here old is
         | inr same ↦ subst (λ (g : Gate). (k : ℕ) (d : NodeId) → k < length g.inputs → get_or marks (get_or g.inputs k d).0 false ≡ true) (get_one net.gates n gate here (ap (λ (k : ℕ). slice_get net.gates k) (sym same) ∙ at) is) all_marked
       ]
+
       behind_by : (j k : ℕ) (one other : Gate) → j ≤ k → k < length (order ++ number ∷ []) → slice_get net.gates (get_or (order ++ number ∷ []) j 0) ≡ Some one → slice_get net.gates (get_or (order ++ number ∷ []) k 0) ≡ Some other →
-        (i : ℕ) (d : NodeId) → i < length one.inputs → (get_or one.inputs i d).0 ≢ other.output.0
+          (i : ℕ) (d : NodeId) → i < length one.inputs → (get_or one.inputs i d).0 ≢ other.output.0
       behind_by j k one other le lt first second i d inside e = elim (ℕ_discrete k (length order)) [
         | yes last ↦
             let same : gate ≡ other = get_one net.gates number gate other at (subst (λ (n : ℕ). slice_get net.gates n ≡ Some other) (at_last order number k 0 last) second) in
@@ -143,28 +172,37 @@ module _ (net : RawNet) (marks : List Bool) (waits : List (List ℕ)) (passed or
             let long = longer in
             let early : k < length order = omega arith in
             search.behind j k one other le early
-              (subst (λ (n : ℕ). slice_get net.gates n ≡ Some one) (before_last order number j 0 (omega arith)) first)
-              (subst (λ (n : ℕ). slice_get net.gates n ≡ Some other) (before_last order number k 0 early) second) i d inside e
+            (subst (λ (n : ℕ). slice_get net.gates n ≡ Some one) (before_last order number j 0 (omega arith)) first)
+            (subst (λ (n : ℕ). slice_get net.gates n ≡ Some other) (before_last order number k 0 early) second) i d inside e
       ]
+
       due_still : (id : ℕ) → IsDue net order released id → IsDue net (order ++ number ∷ []) released id
       due_still id due = record {
-        place = due.place; late = due.late;
+        place = due.place;
+        late = due.late;
         within = let long = longer in let lt = due.within in omega arith;
         gate = due.gate;
         is = subst (λ (n : ℕ). slice_get net.gates n ≡ Some due.gate) (sym (before_last order number due.place 0 due.within)) due.is;
         drives = due.drives;
       }
+
       due_new : IsDue net (order ++ number ∷ []) released gate.output.0
       due_new = record {
-        place = length order; late = search.released_of; within = let long = longer in omega arith;
-        gate = gate; is = subst (λ (n : ℕ). slice_get net.gates n ≡ Some gate) (sym (at_last order number (length order) 0 refl)) at; drives = refl;
+        place = length order;
+        late = search.released_of;
+        within = let long = longer in omega arith;
+        gate = gate;
+        is = subst (λ (n : ℕ). slice_get net.gates n ≡ Some gate) (sym (at_last order number (length order) 0 refl)) at;
+        drives = refl;
       }
+
       why : (id : ℕ) → (get_or marks id false ≡ false) ⊎ IsDue net order released id → (get_or (set marks gate.output.0 true) id false ≡ false) ⊎ IsDue net (order ++ number ∷ []) released id
       why id (inl shut) = elim (still_unmarked marks gate.output.0 id shut) as (λ _. (get_or (set marks gate.output.0 true) id false ≡ false) ⊎ IsDue net (order ++ number ∷ []) released id) [ inl still ↦ inl still | inr same ↦ inr (subst (IsDue net (order ++ number ∷ []) released) same due_new) ]
       why id (inr due) = inr (due_still id due)
+
       by : (n : ℕ) (here : Gate) → slice_get net.gates n ≡ Some here →
-        (get_or marks here.output.0 false ≡ true) ⊎ (IsAmong (number ∷ left) n ⊎ IsWaiting net marks waits order released n here) →
-        (get_or (set marks gate.output.0 true) here.output.0 false ≡ true) ⊎ (IsAmong left n ⊎ IsWaiting net (set marks gate.output.0 true) waits (order ++ number ∷ []) released n here)
+          (get_or marks here.output.0 false ≡ true) ⊎ (IsAmong (number ∷ left) n ⊎ IsWaiting net marks waits order released n here) →
+          (get_or (set marks gate.output.0 true) here.output.0 false ≡ true) ⊎ (IsAmong left n ⊎ IsWaiting net (set marks gate.output.0 true) waits (order ++ number ∷ []) released n here)
       by n here is (inl mark) = inl (set_keeps marks gate.output.0 here.output.0 mark)
       by n here is (inr (inl (inl same))) = inl (subst (λ (g : Gate). get_or (set marks gate.output.0 true) g.output.0 false ≡ true) (get_one net.gates n gate here (ap (λ (k : ℕ). slice_get net.gates k) (sym same) ∙ at) is) (get_or-set_same marks gate.output.0 true false within))
       by n here is (inr (inl (inr rest))) = inr (inl rest)
@@ -188,16 +226,16 @@ waits_on net marks waits passed order released number gate gates nets seen from 
     let at : slice_get net.gates number ≡ Some gate = get_here net.gates number gate lt ∙ ap Some (sym (gate_is ∙ ap (λ (gs : List Gate). get_or gs number gate) gates_are)) in
     let long : number < length passed = let size = search.passed_long in omega arith in
     let here : IsFirstUnmarked gate.inputs marks (get_or passed number 0) place =
-      subst (λ (n : ℕ). IsFirstUnmarked gate.inputs marks n place) (from_is ∙ get_or_default passed number from 0 long)
-      (subst (λ (ms : List Bool). IsFirstUnmarked gate.inputs ms from place) seen_is (subst (λ (ns : List NodeId). IsFirstUnmarked ns seen from place) nets_are first)) in
+    subst (λ (n : ℕ). IsFirstUnmarked gate.inputs marks n place) (from_is ∙ get_or_default passed number from 0 long)
+    (subst (λ (ms : List Bool). IsFirstUnmarked gate.inputs ms from place) seen_is (subst (λ (ns : List NodeId). IsFirstUnmarked ns seen from place) nets_are first)) in
     let input = get_or gate.inputs place no_net in
     let within : input.0 < length waits = let low = all_get (λ (g : Gate). All (λ (i : NodeId). i.0 < net.nets) g.inputs) net.gates number gate range.gate_inputs at place no_net here.0 in let size = search.waits_long in omega arith in
     let same : (get_or nets place no_net).0 ≡ input.0 = ap (λ (ns : List NodeId). (get_or ns place no_net).0) nets_are in
     let old : row ≡ get_or waits input.0 [] = row_is ∙ ap (λ (i : ℕ). get_or waits i row) same ∙ get_or_default waits input.0 row [] within in
     let made : set waits (get_or nets place no_net).0 new ≡ set waits input.0 (get_or waits input.0 [] ++ number ∷ []) =
-      ap (λ (i : ℕ). set waits i new) same ∙ ap (λ (r : List ℕ). set waits input.0 r) (new_is ∙ ap (λ (r : List ℕ). r ++ number ∷ []) old) in
+    ap (λ (i : ℕ). set waits i new) same ∙ ap (λ (r : List ℕ). set waits input.0 r) (new_is ∙ ap (λ (r : List ℕ). r ++ number ∷ []) old) in
     subst (λ (w : List (List ℕ)). IsSearch net marks w (set passed number place) order released left) (sym made)
-      (stays net marks waits passed order released left number gate at search place input here.0 (get_or_default gate.inputs place input no_net here.0) (here.1 no_net) within here.2)
+    (stays net marks waits passed order released left number gate at search place input here.0 (get_or_default gate.inputs place input no_net here.0) (here.1 no_net) within here.2)
 
 pub is_listed : (net : RawNet) (marks : List Bool) (waits : List (List ℕ)) (passed order : List ℕ) (released number : ℕ) (gate : Gate) (gates : List Gate) (nets : List NodeId) (seen : List Bool) (mark : Bool) (from : ℕ) (new : List ℕ) →
     IsInRange net → HasOneDriver net → number < length net.gates → gates ≡ net.gates → gate ≡ get_or gates number gate → nets ≡ gate.inputs → seen ≡ marks → from ≡ get_or passed number from →
@@ -209,11 +247,11 @@ is_listed net marks waits passed order released number gate gates nets seen mark
     let long : number < length passed = let size = search.passed_long in omega arith in
     let within : gate.output.0 < length marks = let low = all_get (λ (g : Gate). g.output.0 < net.nets) net.gates number gate range.gate_outputs at in let size = search.marks_long in omega arith in
     let here : (k : ℕ) (d : NodeId) → get_or passed number 0 ≤ k → k < length gate.inputs → get_or marks (get_or gate.inputs k d).0 false ≡ true =
-      subst (λ (n : ℕ). (k : ℕ) (d : NodeId) → n ≤ k → k < length gate.inputs → get_or marks (get_or gate.inputs k d).0 false ≡ true) (from_is ∙ get_or_default passed number from 0 long)
-      (subst (λ (ms : List Bool). (k : ℕ) (d : NodeId) → from ≤ k → k < length gate.inputs → get_or ms (get_or gate.inputs k d).0 false ≡ true) seen_is
-        (subst (λ (ns : List NodeId). (k : ℕ) (d : NodeId) → from ≤ k → k < length ns → get_or seen (get_or ns k d).0 false ≡ true) nets_are rest)) in
+    subst (λ (n : ℕ). (k : ℕ) (d : NodeId) → n ≤ k → k < length gate.inputs → get_or marks (get_or gate.inputs k d).0 false ≡ true) (from_is ∙ get_or_default passed number from 0 long)
+    (subst (λ (ms : List Bool). (k : ℕ) (d : NodeId) → from ≤ k → k < length gate.inputs → get_or ms (get_or gate.inputs k d).0 false ≡ true) seen_is
+    (subst (λ (ns : List NodeId). (k : ℕ) (d : NodeId) → from ≤ k → k < length ns → get_or seen (get_or ns k d).0 false ≡ true) nets_are rest)) in
     subst (λ (o : List ℕ). IsSearch net (set marks gate.output.0 true) waits passed o released left) (sym new_is)
-      (lists net marks waits passed order released left number gate at search range driver (get_or_default marks gate.output.0 false mark within ∙ sym mark_is ∙ unmarked) here)
+    (lists net marks waits passed order released left number gate at search range driver (get_or_default marks gate.output.0 false mark within ∙ sym mark_is ∙ unmarked) here)
 
 pub on_ok : {T E : Type 0} (r : Result T E) (P Q : Type 0) → (P → Q) → OnOk r P → OnOk r Q
 on_ok (Ok value) P Q f h = f h
@@ -223,31 +261,45 @@ on_ok (Err fault) P Q f h = h
 pub releases : (net : RawNet) (marks : List Bool) (waits : List (List ℕ)) (passed order : List ℕ) (released : ℕ) (left : List ℕ) (gate : Gate) → released < length order → slice_get net.gates (get_or order released 0) ≡ Some gate →
     IsSearch net marks waits passed order released left → IsSearch net marks (set waits gate.output.0 []) passed order (released + 1) (get_or waits gate.output.0 [] ++ left)
 releases net marks waits passed order released left gate lt at search = record {
-  marks_long = search.marks_long; waits_long = length-set waits gate.output.0 [] ∙ search.waits_long; passed_long = search.passed_long; count = search.count; released_of = omega arith;
-  sources = search.sources; settled = search.settled; gates = search.gates; every = search.every; inputs = search.inputs; behind = search.behind; passed_marked = search.passed_marked;
+  marks_long = search.marks_long;
+  waits_long = length-set waits gate.output.0 [] ∙ search.waits_long;
+  passed_long = search.passed_long;
+  count = search.count;
+  released_of = omega arith;
+  sources = search.sources;
+  settled = search.settled;
+  gates = search.gates;
+  every = search.every;
+  inputs = search.inputs;
+  behind = search.behind;
+  passed_marked = search.passed_marked;
   entries = λ id n h. search.entries id n (row_less waits gate.output.0 id n h);
   waiting = λ n here is. by n here (search.waiting n here is);
 }
   where
     free : (n id : ℕ) → IsAmong (get_or waits id []) n → gate.output.0 ≡ id → IsAmong (get_or waits gate.output.0 [] ++ left) n
     free n id h same = among_left (get_or waits gate.output.0 []) left n (subst (λ (i : ℕ). IsAmong (get_or waits i []) n) (sym same) h)
+
     by_due : (n : ℕ) (here : Gate) (waiting : IsWaiting net marks waits order released n here) → IsAmong (get_or (set waits gate.output.0 []) waiting.input.0 []) n → IsDue net order released waiting.input.0 →
-      (get_or marks here.output.0 false ≡ true) ⊎ (IsAmong (get_or waits gate.output.0 [] ++ left) n ⊎ IsWaiting net marks (set waits gate.output.0 []) order (released + 1) n here)
+        (get_or marks here.output.0 false ≡ true) ⊎ (IsAmong (get_or waits gate.output.0 [] ++ left) n ⊎ IsWaiting net marks (set waits gate.output.0 []) order (released + 1) n here)
     by_due n here waiting kept due = elim (ℕ_discrete due.place released) [
       | yes now ↦ inr (inl (free n waiting.input.0 waiting.listed
           (ap (λ (g : Gate). g.output.0) (get_one net.gates (get_or order released 0) gate due.gate at (subst (λ (k : ℕ). slice_get net.gates (get_or order k 0) ≡ Some due.gate) now due.is)) ∙ due.drives)))
       | no later ↦ inr (inr (record { input = waiting.input; one = waiting.one; listed = kept; why = inr (record { place = due.place; late = let late = due.late in omega arith; within = due.within; gate = due.gate; is = due.is; drives = due.drives }) }))
     ]
+
     by_why : (n : ℕ) (here : Gate) (waiting : IsWaiting net marks waits order released n here) → IsAmong (get_or (set waits gate.output.0 []) waiting.input.0 []) n → (get_or marks waiting.input.0 false ≡ false) ⊎ IsDue net order released waiting.input.0 →
-      (get_or marks here.output.0 false ≡ true) ⊎ (IsAmong (get_or waits gate.output.0 [] ++ left) n ⊎ IsWaiting net marks (set waits gate.output.0 []) order (released + 1) n here)
+        (get_or marks here.output.0 false ≡ true) ⊎ (IsAmong (get_or waits gate.output.0 [] ++ left) n ⊎ IsWaiting net marks (set waits gate.output.0 []) order (released + 1) n here)
     by_why n here waiting kept (inl shut) = inr (inr (record { input = waiting.input; one = waiting.one; listed = kept; why = inl shut }))
     by_why n here waiting kept (inr due) = by_due n here waiting kept due
+
     by_row : (n : ℕ) (here : Gate) (waiting : IsWaiting net marks waits order released n here) → IsAmong (get_or (set waits gate.output.0 []) waiting.input.0 []) n ⊎ (gate.output.0 ≡ waiting.input.0) →
-      (get_or marks here.output.0 false ≡ true) ⊎ (IsAmong (get_or waits gate.output.0 [] ++ left) n ⊎ IsWaiting net marks (set waits gate.output.0 []) order (released + 1) n here)
+        (get_or marks here.output.0 false ≡ true) ⊎ (IsAmong (get_or waits gate.output.0 [] ++ left) n ⊎ IsWaiting net marks (set waits gate.output.0 []) order (released + 1) n here)
     by_row n here waiting (inl kept) = by_why n here waiting kept waiting.why
     by_row n here waiting (inr same) = inr (inl (free n waiting.input.0 waiting.listed same))
+
     by : (n : ℕ) (here : Gate) → (get_or marks here.output.0 false ≡ true) ⊎ (IsAmong left n ⊎ IsWaiting net marks waits order released n here) →
-      (get_or marks here.output.0 false ≡ true) ⊎ (IsAmong (get_or waits gate.output.0 [] ++ left) n ⊎ IsWaiting net marks (set waits gate.output.0 []) order (released + 1) n here)
+        (get_or marks here.output.0 false ≡ true) ⊎ (IsAmong (get_or waits gate.output.0 [] ++ left) n ⊎ IsWaiting net marks (set waits gate.output.0 []) order (released + 1) n here)
     by n here (inl mark) = inl mark
     by n here (inr (inl rest)) = inr (inl (among_right (get_or waits gate.output.0 []) left n rest))
     by n here (inr (inr waiting)) = by_row n here waiting (row_taken waits gate.output.0 waiting.input.0 n waiting.listed)
@@ -294,10 +346,12 @@ end_marked net marks waits passed order released range done search (suc level) i
             let at : IsSettledAt net level waiting.input.0 = subst (λ (i : NodeId). IsSettledAt net level i.0) (place.2 waiting.input) (settled k d inside e place.0 waiting.input place.1) in
             true≢false (sym (below waiting.input.0 low at) ∙ closed)
         by_input waiting (inr due) = let late = due.late in let within = due.within in absurd (omega arith)
+
         waits_for : (get_or marks (get_or net.gates k d).output.0 false ≡ true) ⊎ (IsAmong [] k ⊎ IsWaiting net marks waits order released k (get_or net.gates k d)) → ⊥
         waits_for (inl mark) = true≢false (sym mark ∙ ap (λ (i : ℕ). get_or marks i false) e ∙ shut)
         waits_for (inr (inl none)) = none
         waits_for (inr (inr waiting)) = by_input waiting waiting.why
+
     by : (mark : Bool) → get_or marks id false ≡ mark → ((other : ℕ) → other < net.nets → IsSettledAt net level other → get_or marks other false ≡ true) → get_or marks id false ≡ true
     by true e below = e
     by false e below = absurd (true≢false (sym (search.sources id lt (drives_none e below)) ∙ e))
@@ -326,6 +380,7 @@ settled_order net marks waits passed order released range search none = record {
         not_false : (mark : Bool) → not mark ≡ false → mark ≡ true
         not_false true e = refl
         not_false false e = absurd cc
+
     here : (k : ℕ) (d : Gate) → k < length order → slice_get net.gates (get_or order k 0) ≡ Some (get_or net.gates (get_or order k 0) d)
     here k d lt = get_here net.gates (get_or order k 0) d (search.gates (get_or order k 0) (among_at order k 0 lt))
 
@@ -355,7 +410,7 @@ none_left net marks waits passed order released list left i le search = subst (�
 pub listed_within : (net : RawNet) (marks : List Bool) (waits : List (List ℕ)) (passed order : List ℕ) (released : ℕ) (left numbers : List ℕ) (gates : List Gate) → IsSearch net marks waits passed order released left → released < length order → numbers ≡ order → gates ≡ net.gates → get_or numbers released 0 < length gates
 listed_within net marks waits passed order released left numbers gates search lt numbers_are gates_are =
     subst (λ (ns : List ℕ). get_or ns released 0 < length gates) (sym numbers_are)
-      (subst (λ (gs : List Gate). get_or order released 0 < length gs) (sym gates_are) (search.gates (get_or order released 0) (among_at order released 0 lt)))
+    (subst (λ (gs : List Gate). get_or order released 0 < length gs) (sym gates_are) (search.gates (get_or order released 0) (among_at order released 0 lt)))
 
 -- the gate that releases next, as the code reads it
 module _ (net : RawNet) (marks : List Bool) (waits : List (List ℕ)) (passed order : List ℕ) (released : ℕ) (numbers : List ℕ) (gates : List Gate) (gate : Gate) (range : IsInRange net) (search : IsSearch net marks waits passed order released []) (lt : released < length order) (numbers_are : numbers ≡ order) (gates_are : gates ≡ net.gates) (gate_is : gate ≡ get_or gates (get_or numbers released 0) gate) where
@@ -377,8 +432,8 @@ module _ (net : RawNet) (marks : List Bool) (waits : List (List ℕ)) (passed or
   pub row_left : (row list empty : List ℕ) → row ≡ get_or waits gate.output.0 row → list ≡ row → empty ≡ [] → IsSearch net marks (set waits gate.output.0 empty) passed order (released + 1) (list ++ [])
   row_left row list empty row_is list_is empty_is =
       subst (λ (e : List ℕ). IsSearch net marks (set waits gate.output.0 e) passed order (released + 1) (list ++ [])) (sym empty_is)
-        (subst (λ (l : List ℕ). IsSearch net marks (set waits gate.output.0 []) passed order (released + 1) (l ++ [])) (sym (row_at row list row_is list_is))
-          (releases net marks waits passed order released [] gate lt gate_at search))
+      (subst (λ (l : List ℕ). IsSearch net marks (set waits gate.output.0 []) passed order (released + 1) (l ++ [])) (sym (row_at row list row_is list_is))
+      (releases net marks waits passed order released [] gate lt gate_at search))
 
 -- as many gates are listed as there are at most
 pub few_listed : (net : RawNet) (marks : List Bool) (waits : List (List ℕ)) (passed order : List ℕ) (released : ℕ) (left : List ℕ) → IsSearch net marks waits passed order released left → length order ≤ length net.gates
@@ -393,8 +448,8 @@ pub at_start : (net : RawNet) (marks : List Bool) (waits : List (List ℕ)) (pas
     length numbers ≡ gates → ((k : ℕ) → k < gates → get_or numbers k 0 ≡ k) → list ≡ numbers → IsSearch net marks waits passed order 0 (list ++ [])
 at_start net marks waits passed order numbers list gates gates_are undriven empty none first long each list_is =
     subst (λ (o : List ℕ). IsSearch net marks waits passed o 0 (list ++ [])) (sym first)
-      (subst (λ (l : List ℕ). IsSearch net marks waits passed [] 0 (l ++ [])) (sym list_is)
-        (starts net marks waits passed undriven empty (none ∙ ap (λ (n : ℕ). replicate n 0) gates_are) (numbers ++ []) (all_numbers numbers [] (length net.gates) (long ∙ gates_are) (λ k lt. each k (omega arith)))))
+    (subst (λ (l : List ℕ). IsSearch net marks waits passed [] 0 (l ++ [])) (sym list_is)
+    (starts net marks waits passed undriven empty (none ∙ ap (λ (n : ℕ). replicate n 0) gates_are) (numbers ++ []) (all_numbers numbers [] (length net.gates) (long ∙ gates_are) (λ k lt. each k (omega arith)))))
 
 -- the net that a fault names
 pub loop_net : (id : ℕ) (net : NodeId) (one other : Result Net OrderFault) → one ≡ Err (Loop (record { 0 = id })) → other ≡ Err (Loop net) → one ≡ other → id ≡ net.0

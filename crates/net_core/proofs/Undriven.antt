@@ -52,9 +52,9 @@ next_unmarked net marks n gate range one lt is below =
       outputs = λ k d l m. elim (ℕ_discrete (get_or net.gates k d).output.0 out) [
         | yes e ↦ ap (λ (i : ℕ). get_or (set marks out false) i false) e ∙ get_or-set_same marks out false false (omega arith)
         | no ne ↦ get_or-set_other marks out (get_or net.gates k d).output.0 false false ne ∙ below.outputs k d (elim (ℕ_discrete k n) [
-            | yes same ↦ absurd (ne (ap (λ (i : ℕ). (get_or net.gates i d).output.0) same ∙ ap (λ (g : Gate). g.output.0) (get_or_default net.gates n d gate lt ∙ sym is)))
-            | no other ↦ omega arith
-          ]) m
+          | yes same ↦ absurd (ne (ap (λ (i : ℕ). (get_or net.gates i d).output.0) same ∙ ap (λ (g : Gate). g.output.0) (get_or_default net.gates n d gate lt ∙ sym is)))
+          | no other ↦ omega arith
+        ]) m
       ];
       count = let more = unmarked marks out (omega arith) new in let count = below.count in omega arith;
     }

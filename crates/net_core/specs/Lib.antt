@@ -7,3 +7,4 @@ pub mod Loop
 pub mod Cases
 pub mod Asks
 pub mod Search
+pub mod Written

@@ -11,6 +11,7 @@ pub mod net;
 pub mod raw;
 mod search;
 pub mod source;
+mod sources;
 pub mod split;
 
 pub use bit_set::BitSet;

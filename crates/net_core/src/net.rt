@@ -1,7 +1,6 @@
-ghost use Rattle.std.specs.Prelude.{◌≡◌, ◌<◌, ◌==◌, Err, Some, length, not, position, IfOk, OnOk, slice_get};
-ghost use Rattle.std.specs.List.{list_any};
+ghost use Rattle.std.specs.Prelude.{◌≡◌, ◌<◌, Err, Some, length, not, position, IfOk, OnOk, slice_get};
 ghost use Rattle.net_core.specs.Run.{IsSettled};
-ghost use Rattle.net_core.specs.Source.{source_of};
+ghost use Rattle.net_core.specs.Source.{AreSources, source_of};
 ghost use Rattle.net_core.specs.Flat.{IsInRange, HasOneDriver, IsSettledOrder};
 ghost use Rattle.net_core.specs.Loop.{IsLeastUnsettled};
 ghost use Rattle.net_core.specs.declared.fault.OrderFault.TheVariants.{Loop};
@@ -12,17 +11,21 @@ use crate::fault::OrderFault;
 use crate::raw::{Gate, Latch, RawNet};
 use crate::search::run_search;
 use crate::source::Source;
+use crate::sources::sources_of;
 use std::alloc::Global;
 use ste_base::{Items, NodeId};
 
 /// A flat net in which every number is in range, each net has one driver at most, and the gates have a settled order.
+/// It keeps that order, and a table of what drives each net.
 #[derive(Debug, Drop)]
 pub struct Net {
     raw: RawNet,
     settled: Items<u32>,
+    sources: Items<Source>,
     ghost in_range: { IsInRange raw },
     ghost one_driver: { HasOneDriver raw },
     ghost in_order: { IsSettledOrder raw settled },
+    ghost sourced: { AreSources raw sources },
 }
 
 impl Net {
@@ -69,22 +72,12 @@ impl Net {
         &self.raw.covers.as_slice()[number as usize]
     }
 
-    /// What drives a net. The call goes through the inputs, the gates and the latches.
+    /// What drives a net.
     pub fn source(&self, id: NodeId) -> Source
         requires { id.0 < self.now.raw.nets }
         ensures { result ≡ source_of self.now.raw id.0 }
     {
-        let _nets = self.raw.nets;
-        if is_input(self.inputs(), id) {
-            return Source::Input;
-        }
-        match driving_gate(self.gates(), id) {
-            Some(gate) => Source::Gate(gate as u32),
-            None => match driving_latch(self.latches(), id) {
-                Some(latch) => Source::Latch(latch as u32),
-                None => Source::Free,
-            },
-        }
+        self.sources.as_slice()[id.0 as usize]
     }
 
     /// The gates' numbers in an order in which each gate follows those that drive its inputs.
@@ -95,27 +88,6 @@ impl Net {
     }
 }
 
-/// Whether a net is one of the inputs.
-fn is_input(inputs: &[NodeId], id: NodeId) -> bool
-    ensures { result ≡ list_any (λ input. input.0 == id.0) inputs.now }
-{
-    inputs.iter().any(|input| input.0 == id.0)
-}
-
-/// The number of the gate that drives a net.
-fn driving_gate(gates: &[Gate], id: NodeId) -> Option<usize>
-    ensures { result ≡ position (λ gate. gate.output.0 == id.0) gates.now }
-{
-    gates.iter().position(|gate| gate.output.0 == id.0)
-}
-
-/// The number of the latch that drives a net.
-fn driving_latch(latches: &[Latch], id: NodeId) -> Option<usize>
-    ensures { result ≡ position (λ latch. latch.output.0 == id.0) latches.now }
-{
-    latches.iter().position(|latch| latch.output.0 == id.0)
-}
-
 /// Law: in a `Net` there is no loop of gates.
 pub fn settles(net: &Net)
     ensures { IsSettled net.now.raw }
@@ -123,8 +95,8 @@ pub fn settles(net: &Net)
     let _ = net;
 }
 
-/// The place of the first net that is not marked.
-fn first_unmarked(marks: &[bool]) -> Option<usize>
+/// The first net that is not marked.
+fn first_unsettled(marks: &[bool]) -> Option<usize>
     ensures { result ≡ position not marks.now }
 {
     marks.iter().position(|mark| !*mark)
@@ -138,14 +110,16 @@ pub fn order(alloc: Global, raw: RawNet) -> Result<Net, OrderFault>
     ensures settles { OnOk result (IsSettled raw) }
     ensures looped { (net : NodeId) → result ≡ Err (Loop net) → IsLeastUnsettled raw net.0 }
 {
+    let sources = sources_of(alloc, &raw)?;
     let search = run_search(alloc, &raw)?;
-    match first_unmarked(search.marks.as_slice()) {
+    match first_unsettled(search.marks.as_slice()) {
         Some(net) => Err(OrderFault::Loop {
             net: NodeId(net as u32),
         }),
         None => Ok(Net {
             raw,
             settled: search.order,
+            sources,
         }),
     }
 }

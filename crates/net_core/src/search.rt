@@ -29,8 +29,8 @@ fn first_unmarked(nets: &[NodeId], from: usize, marks: &[bool]) -> Option<usize>
     ensures found { MatchOption result
         ((k : ℕ) (d : NodeId) → from ≤ k → k < length nets.now → slice_index_or marks.now (slice_index_or nets.now k d).0 false ≡ true)
         (λ place. (place < length nets.now)
-            × ((d : NodeId) → slice_index_or marks.now (slice_index_or nets.now place d).0 false ≡ false)
-            × ((k : ℕ) (d : NodeId) → from ≤ k → k < place → slice_index_or marks.now (slice_index_or nets.now k d).0 false ≡ true)) }
+        × ((d : NodeId) → slice_index_or marks.now (slice_index_or nets.now place d).0 false ≡ false)
+        × ((k : ℕ) (d : NodeId) → from ≤ k → k < place → slice_index_or marks.now (slice_index_or nets.now k d).0 false ≡ true)) }
 {
     for place in from..nets.len() {
         if !marks[nets[place].0 as usize] {

@@ -13,14 +13,22 @@ use ste_base::Items;
 const MOST_CASES: u32 = 65_537;
 
 /// The number of cases of rows from position `from` on, or `room` where there are more.
-fn count(alloc: Global, rows: &[&[Ask]], from: usize, inputs: usize, room: u32) -> Result<u32, AllocError>
+fn count(
+    alloc: Global,
+    rows: &[&[Ask]],
+    from: usize,
+    inputs: usize,
+    room: u32,
+) -> Result<u32, AllocError>
     requires room { 0 < room }
     requires from { from ≤ inputs }
     requires asked { (lits : List (List Lit)) × AreAsks from lits (map (λ row. row.now) rows.now) }
     ensures within { IfOk result (λ cases. cases ≤ room) }
     ensures counted { (lits : List (List Lit)) → AreAsks from lits (map (λ row. row.now) rows.now) → IfOk result (λ cases. cases ≡ min room (cases_of (inputs - from) lits)) }
 {
-    let Some(position) = first_position(rows, inputs) else { return Ok(1) };
+    let Some(position) = first_position(rows, inputs) else {
+        return Ok(1)
+    };
     if position == inputs {
         return Ok(1);
     }
@@ -46,7 +54,13 @@ pub fn cases(alloc: Global, cover: &Cover) -> Result<u32, AllocError>
 
 /// Adds the rows that rows from position `from` on leave out. `row` has what leads there, and then only `-`; it is
 /// left as it was.
-fn add_others(alloc: Global, rows: &[&[Ask]], from: usize, row: &mut [Lit], others: &mut Items<Row>) -> Result<(), AllocError>
+fn add_others(
+    alloc: Global,
+    rows: &[&[Ask]],
+    from: usize,
+    row: &mut [Lit],
+    others: &mut Items<Row>,
+) -> Result<(), AllocError>
     requires from { from ≤ length row.old }
     requires blank { (k : ℕ) → from ≤ k → slice_index_or row.old k Any ≡ Any }
     requires asked { (lits : List (List Lit)) × AreAsks from lits (map (λ row. row.now) rows.now) }
@@ -56,7 +70,9 @@ fn add_others(alloc: Global, rows: &[&[Ask]], from: usize, row: &mut [Lit], othe
     if rows.is_empty() {
         return others.push(Items::from(row.to_vec(alloc)?));
     }
-    let Some(position) = first_position(rows, row.len()) else { return Ok(()) };
+    let Some(position) = first_position(rows, row.len()) else {
+        return Ok(())
+    };
     if position == row.len() {
         return Ok(());
     }

@@ -1,7 +1,9 @@
 ghost use Rattle.std.specs.Prelude.{◌≡◌, ◌<◌, ◌≤◌, IfOk, length};
 ghost use Rattle.net_core.specs.Flat.{HasOneDriver, IsInRange};
 
-use crate::{Cover, Gate, Init, Latch, Lit, OrderFault, RawNet, Row, cases, eval, order, other_rows};
+use crate::{
+    Cover, Gate, Init, Latch, Lit, OrderFault, RawNet, Row, cases, eval, order, other_rows,
+};
 use std::alloc::{AllocError, Global};
 use std::test::Fail;
 use ste_base::{Items, NodeId};
@@ -136,7 +138,10 @@ fn cases_of_covers(rt: HostRuntime) -> Result<(), Fail> {
             for position in 0..cover.inputs {
                 bits.push((code >> position) & 1 == 1)?;
             }
-            assert!(rt; eval(&other, &bits) != eval(&cover, &bits), "at {rows:?} and {code}");
+            assert!(rt;
+                eval(&other, &bits) != eval(&cover, &bits),
+                "at {rows:?} and {code}"
+            );
         }
     }
     Ok(())

@@ -11,6 +11,7 @@ invariant_of-result c =
     record {
       in_range = c.requires.in_range;
       one_driver = c.requires.one_driver;
+      sourced = c.in_ok-sources.ensures;
       in_order = settled_order c.args.raw search.marks.items search.waits.items search.passed.items search.order search.released c.requires.in_range c.in_ok-search.ensures.stands (ap (position not) (sym c.as_slice.ensures.value) ∙ sym c.in-None.ensures);
     }
 
@@ -19,9 +20,9 @@ returns-in-Some-clause-looped c = λ net same.
     let search = c.in_ok-search.search in
     let id = loop_net c.in-Some.net net _ _ refl refl same in
     subst (IsLeastUnsettled c.args.raw) id
-      (least_unsettled c.args.raw search.marks.items search.waits.items search.passed.items search.order search.released c.in-Some.net c.requires.in_range c.in_ok-search.ensures.done c.in_ok-search.ensures.stands (ap (position not) (sym c.as_slice.ensures.value) ∙ sym c.in-Some.ensures))
+    (least_unsettled c.args.raw search.marks.items search.waits.items search.passed.items search.order search.released c.in-Some.net c.requires.in_range c.in_ok-search.ensures.done c.in_ok-search.ensures.stands (ap (position not) (sym c.as_slice.ensures.value) ∙ sym c.in-Some.ensures))
 
 pub returns-in-None-clause-settles : goal.returns-in-None-clause-settles
-returns-in-None-clause-settles c = 
+returns-in-None-clause-settles c =
     let search = c.in_ok-search.search in
     settled_by_order c.args.raw search.order (settled_order c.args.raw search.marks.items search.waits.items search.passed.items search.order search.released c.requires.in_range c.in_ok-search.ensures.stands (ap (position not) (sym c.as_slice.ensures.value) ∙ sym c.in-None.ensures))

@@ -64,4 +64,4 @@ returns-clause-added t c = λ lits are.
     let zeros : map (λ (row : Bor (List Ask)). row.now) c.as_slice.result.now ≡ half_at c.in-Some.position false (map (λ (row : Bor (List Ask)). row.now) c.args.rows.now) = ap (λ (rows : List (Bor (List Ask))). map (λ row. row.now) rows) c.as_slice.ensures.value ∙ c.in_ok-zeros.ensures in
     let ones : map (λ (row : Bor (List Ask)). row.now) c.as_slice-2.result.now ≡ half_at c.in-Some.position true (map (λ (row : Bor (List Ask)). row.now) c.args.rows.now) = ap (λ (rows : List (Bor (List Ask))). map (λ row. row.now) rows) c.as_slice-2.ensures.value ∙ c.in_ok-ones.ensures in
     halves_added c.args.row.now c.add_others.new.row c.args.from c.in-Some.position parts.2.zeros parts.2.ones _ c.args.others.now c.add_others.new.others c.add_others-2.new.others parts.0 parts.1 c.requires.blank c.in_ok-add_others.ensures.same
-      parts.2.others_are (c.in_ok-add_others.ensures.added parts.2.zeros (parts.2.zeros_asked ∙ sym zeros)) (c.in_ok-add_others-2.ensures.added parts.2.ones (parts.2.ones_asked ∙ sym ones))
+    parts.2.others_are (c.in_ok-add_others.ensures.added parts.2.zeros (parts.2.zeros_asked ∙ sym zeros)) (c.in_ok-add_others-2.ensures.added parts.2.ones (parts.2.ones_asked ∙ sym ones))
