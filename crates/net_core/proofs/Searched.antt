@@ -1,6 +1,6 @@
 -- How the search for a settled order goes on, and what it has found at its end.
-use Rattle.std.proofs.Common.{◌≡◌, ◌≢◌, ℕ, zero, suc, ◌+◌, ◌<◌, ◌≤◌, Bool, true, false, not, List, [], ◌∷◌, ◌++◌, drop, set, length, get_or, replicate, length-set, get_or-set_same, get_or-set_other, Option, None, Some, slice_get, arith, refl, sym, ap, ◌∙◌, subst, true≢false, inl, inr}
-use Rattle.std.specs.Prelude.{All, count_by, ◌⊎◌, IsTrue, OnOk, Result, Ok, Err, position}
+use Rattle.std.proofs.Common.{◌≡◌, ◌≢◌, ℕ, zero, suc, ◌+◌, ◌<◌, ◌≤◌, Bool, true, false, not, List, [], ◌∷◌, ◌++◌, drop, set, length, get_or, replicate, length-set, get_or-set_same, get_or-set_other, None, Some, slice_get, arith, refl, sym, ap, ◌∙◌, subst, true≢false, inl, inr}
+use Rattle.std.specs.Prelude.{All, ◌⊎◌, OnOk, Result, Ok, Err, position}
 use Rattle.std.proofs.Math.Decide.{ℕ_discrete}
 use Rattle.std.proofs.lemmas.Bool.{cases_lt}
 use Rattle.std.proofs.lemmas.List.Quantifiers.{position-Some}
@@ -14,7 +14,7 @@ use Rattle.net_core.specs.declared.fault.OrderFault.{OrderFault}
 use Rattle.net_core.specs.declared.fault.OrderFault.TheVariants.{Loop}
 use Rattle.net_core.specs.declared.net.Net.{Net}
 use Rattle.net_core.specs.declared.raw.RawNet.{RawNet}
-use Rattle.net_core.specs.Run.{IsSettledAt, Settles}
+use Rattle.net_core.specs.Run.{IsSettledAt}
 use Rattle.net_core.specs.Flat.{IsInRange, HasOneDriver, IsSettledOrder}
 use Rattle.net_core.specs.Loop.{IsLeastUnsettled}
 use Rattle.net_core.specs.Search.{IsAmong, AreUndriven, IsDue, IsWaiting, IsSearch}

@@ -1,5 +1,5 @@
 -- A table of what drives each net, written driver by driver.
-use Rattle.std.proofs.Common.{◌≡◌, ◌≢◌, ℕ, ◌+◌, ◌<◌, ◌≤◌, Bool, true, false, List, [], ◌∷◌, ◌++◌, take, drop, length, get_or, replicate, Option, None, Some, arith, refl, sym, ap, ◌∙◌, subst, inl, inr, eq-eqb, ne_eqb, lt-ltb, le-ltb}
+use Rattle.std.proofs.Common.{◌≡◌, ◌≢◌, ℕ, ◌<◌, ◌≤◌, Bool, true, false, List, [], ◌∷◌, ◌++◌, take, drop, length, get_or, replicate, Option, None, Some, arith, refl, sym, ap, ◌∙◌, subst, inl, inr, eq-eqb, ne_eqb, lt-ltb, le-ltb}
 use Rattle.std.specs.Prelude.{◌⊎◌, ◌==◌, AllPairs, position, if◌then◌else◌}
 use Rattle.std.specs.List.{list_any, position_or_len}
 use Rattle.std.proofs.lemmas.List.{length-replicate, get_or-replicate, take-append-le, take_all}
@@ -36,8 +36,12 @@ driver_at : {X : Type 0} (make : ℕ → Source) (place : X → ℕ) (xs : List 
     ((k : ℕ) × (position (λ x. place x == id) xs ≡ Some k) × (new ≡ make k)) ⊎ ((position (λ x. place x == id) xs ≡ None) × (new ≡ old))
 driver_at make place xs id old new apart (inl made) =
     let x = get_some xs made.0 made.1 in
-    inl (made.0, first_at (λ y. place y == id) xs made.0 x.0 made.1 (eq-eqb (place (get_or xs made.0 x.0)) id (made.2 x.0))
-      (λ j less. ne_eqb (place (get_or xs j x.0)) id (λ e. apart j made.0 x.0 less made.1 (e ∙ sym (made.2 x.0)))), made.3)
+    inl (
+      made.0,
+      first_at (λ y. place y == id) xs made.0 x.0 made.1 (eq-eqb (place (get_or xs made.0 x.0)) id (made.2 x.0))
+          (λ j less. ne_eqb (place (get_or xs j x.0)) id (λ e. apart j made.0 x.0 less made.1 (e ∙ sym (made.2 x.0)))),
+      made.3,
+    )
 driver_at make place xs id old new apart (inr none) = inr (no_first (λ y. place y == id) xs (λ k d lt. ne_eqb (place (get_or xs k d)) id (none.0 k d lt)), none.1)
 
 input_at : (inputs : List NodeId) (id : ℕ) (old new : Source) → IsWritten (λ _. Input) (λ input. input.0) inputs (length inputs) id old new → new ≡ (if list_any (λ input. input.0 == id) inputs then Input else old)

@@ -1,4 +1,3 @@
-use Rattle.std.proofs.Common.{◌≡◌}
 use Rattle.net_core.proofs.Searched.{waits_on, is_listed, on_ok}
 use Rattle.net_core.proofs.search.Search.place.Goals as goal
 
