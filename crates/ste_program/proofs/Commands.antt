@@ -56,3 +56,8 @@ memory_told out err err' before now result (inr h) e = absurd (cc h.0)
 pub memory_not_told : (holds : Option Store) (words : List (String Global)) (out err err' : Option (List ℕ)) (before now : ℕ) (result : Status) → ((result ≡ NoMemory) × (err' ≡ with_more err out_of_memory)) ⊎ ((result ≡ Faulted) × Rose before now × ((n : ℕ) × (err' ≡ with_more err (take n out_of_memory)))) → result ≡ Faulted → CannotTell holds words out out err err' before now
 memory_not_told holds words out err err' before now result (inl h) e = absurd (cc h.0)
 memory_not_told holds words out err err' before now result (inr h) e = record { failed = h.1; untouched = refl; message = out_of_memory; cause = inr refl; partly = h.2 }
+
+-- a message that was told, or could not be: a sink that did not fail took it
+pub told_whole : (err err' : Option (List ℕ)) (before now : ℕ) (message other : List ℕ) (status result : Status) → ((result ≡ status) × (err' ≡ with_more err message)) ⊎ ((result ≡ Faulted) × Rose before now × ((n : ℕ) × (err' ≡ with_more err (take n message)))) → ¬ Rose before now → message ≡ other → (result ≡ status) × (err' ≡ with_more err other)
+told_whole err err' before now message other status result (inl h) whole same = (h.0, h.1 ∙ ap (with_more err) same)
+told_whole err err' before now message other status result (inr h) whole same = absurd (whole h.1)

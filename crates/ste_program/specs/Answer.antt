@@ -15,7 +15,7 @@ use Rattle.flat_net.specs.Flat.{flat_of}
 use Rattle.flat_net.specs.Lines.{signals, top}
 use Rattle.flat_net.specs.Supported.{is_supported}
 use Rattle.ste_program.specs.declared.run.Status.{Status}
-use Rattle.ste_program.specs.declared.run.Status.TheVariants.{Passed, NotPassed, NoMemory}
+use Rattle.ste_program.specs.declared.run.Status.TheVariants.{Passed, NotPassed, Refused, NoMemory}
 use Rattle.ste_program.specs.declared.task.TaskText.{TaskText}
 use Rattle.ste_program.specs.Causes.{Rose}
 use Rattle.ste_program.specs.Netlist.{IsNetlist, net_lines, net_message, out_of_memory}
@@ -211,3 +211,8 @@ pub record IsReadable (store : Store) (words : List (String Global)) : Type 0 wh
 -- the answer of a run that nothing failed: a report, or want of memory
 abbrev pub IsAnswer : Status → Type 0
 IsAnswer status = (status ≡ Passed) ⊎ ((status ≡ NotPassed) ⊎ (status ≡ NoMemory))
+
+-- the answer of a run that nothing failed on a netlist that is refused with this message: the message was written, or
+-- memory was wanting
+abbrev pub IsToldOf : List ℕ → Status → Option (List ℕ) → Option (List ℕ) → Type 0
+IsToldOf message status err err' = ((status ≡ Refused) × (err' ≡ with_more err message)) ⊎ (status ≡ NoMemory)
