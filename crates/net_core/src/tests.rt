@@ -2,7 +2,7 @@ ghost use Rattle.std.specs.Prelude.{◌≡◌, ◌<◌, ◌≤◌, IfOk, length}
 ghost use Rattle.net_core.specs.Flat.{HasOneDriver, IsInRange};
 
 use crate::{
-    Cover, Gate, Init, Latch, Lit, OrderFault, RawNet, Row, cases, eval, order, other_rows,
+    Cover, Gate, Init, Latch, Lit, OrderFault, RawNet, Row, Source, cases, eval, order, other_rows,
 };
 use std::alloc::{AllocError, Global};
 use std::test::Fail;
@@ -230,6 +230,9 @@ fn orders_of_chains(rt: HostRuntime) -> Result<(), Fail> {
         Ok(net) => net,
         Err(_) => panic!(rt; "no order"),
     };
+    assert!(rt; net.nets() == 1_001);
+    assert!(rt; net.source(NodeId(7)) == Source::Gate(7));
+    assert!(rt; net.source(NodeId(1_000)) == Source::Latch(0));
     for (place, gate) in net.settled().iter().enumerate() {
         assert!(rt; place < 1_000);
         assert_eq!(rt; *gate as usize, 999 - place);
