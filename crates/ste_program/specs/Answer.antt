@@ -214,5 +214,5 @@ IsAnswer status = (status ≡ Passed) ⊎ ((status ≡ NotPassed) ⊎ (status �
 
 -- the answer of a run that nothing failed on a netlist that is refused with this message: the message was written, or
 -- memory was wanting
-abbrev pub IsToldOf : List ℕ → Status → Option (List ℕ) → Option (List ℕ) → Type 0
-IsToldOf message status err err' = ((status ≡ Refused) × (err' ≡ with_more err message)) ⊎ (status ≡ NoMemory)
+abbrev pub IsRefusedWith : List ℕ → Status → Option (List ℕ) → Option (List ℕ) → Type 0
+IsRefusedWith message status err err' = ((status ≡ Refused) × (err' ≡ with_more err message)) ⊎ (status ≡ NoMemory)

@@ -3,7 +3,7 @@ ghost use Rattle.blif_syntax.specs.declared.fault.BlifFault.{BlifFault as Fault}
 ghost use Rattle.blif_syntax.specs.declared.fault.BlifFault.TheVariants as fault;
 ghost use Rattle.ste_model.specs.declared.verdict.Verdict.{Verdict as V};
 ghost use Rattle.ste_model.specs.declared.verdict.Verdict.TheVariants as verdict;
-ghost use Rattle.ste_program.specs.Answer.{CannotRead as FailedRead, CannotTell, CannotWrite, IsAnswer, IsAsked, IsCheck, IsChecked, IsFaulty, IsNamed, IsNetRefusal, IsNotYet, IsOversized, IsReadable, IsTold, IsToldOf, Reported, WasRefused, cannot_read, cannot_write, greatest, passes};
+ghost use Rattle.ste_program.specs.Answer.{CannotRead as FailedRead, CannotTell, CannotWrite, IsAnswer, IsAsked, IsCheck, IsChecked, IsFaulty, IsNamed, IsNetRefusal, IsNotYet, IsOversized, IsReadable, IsRefusedWith, IsTold, Reported, WasRefused, cannot_read, cannot_write, greatest, passes};
 ghost use Rattle.ste_program.specs.Causes.{Rose};
 ghost use Rattle.ste_program.specs.Netlist.{net_message, out_of_memory};
 ghost use Rattle.ste_program.specs.Outside.{StandsAt, Store, with_more, with_names};
@@ -204,7 +204,7 @@ pub fn run<F: Files, O: Sink, E: Sink>(
     ensures refused { result ≡ Status.Refused → WasRefused (F.holds files.old) words.now (O.taken out.old) (O.taken out.new) (E.taken err.old) (E.taken err.new) }
     ensures faulted { result ≡ Status.Faulted → FailedRead words.now (F.faults files.old) (F.faults files.new) (O.taken out.old) (O.taken out.new) (E.taken err.old) (E.taken err.new) (E.faults err.old) (E.faults err.new) ⊎ (CannotWrite (F.holds files.old) words.now (O.taken out.old) (O.taken out.new) (O.faults out.old) (O.faults out.new) (E.taken err.old) (E.taken err.new) (E.faults err.old) (E.faults err.new) ⊎ CannotTell (F.holds files.old) words.now (O.taken out.old) (O.taken out.new) (E.taken err.old) (E.taken err.new) (E.faults err.old) (E.faults err.new)) }
     ensures complete { (store : Store) → F.holds files.old ≡ Some store → IsReadable store words.now → ¬ Rose (F.faults files.old) (F.faults files.new) → ¬ Rose (O.faults out.old) (O.faults out.new) → ¬ Rose (E.faults err.old) (E.faults err.new) → IsAnswer result }
-    ensures refuses { (store : Store) → F.holds files.old ≡ Some store → (found : Fault) → found ≢ fault.OutOfMemory → (faulty : IsFaulty store words.now found) → ¬ Rose (F.faults files.old) (F.faults files.new) → ¬ Rose (E.faults err.old) (E.faults err.new) → IsToldOf (net_message faulty.texts.net found) result (E.taken err.old) (E.taken err.new) }
+    ensures refuses { (store : Store) → F.holds files.old ≡ Some store → (found : Fault) → found ≢ fault.OutOfMemory → (faulty : IsFaulty store words.now found) → ¬ Rose (F.faults files.old) (F.faults files.new) → ¬ Rose (E.faults err.old) (E.faults err.new) → IsRefusedWith (net_message faulty.texts.net found) result (E.taken err.old) (E.taken err.new) }
     ensures no_memory { result ≡ Status.NoMemory → (O.taken out.new ≡ O.taken out.old) × (E.taken err.new ≡ with_more (E.taken err.old) out_of_memory) }
 {
     match report(alloc, words, files) {

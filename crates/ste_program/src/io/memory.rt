@@ -30,6 +30,7 @@ impl MemoryFiles {
         ensures asked { ⟦<MemoryFiles as Files>⟧.asked result ≡ Some [] }
         ensures fails { result.failing.items ≡ failing.items }
         ensures counts { result.fetches ≡ 0 }
+        ensures faults { ⟦<MemoryFiles as Files>⟧.faults result ≡ 0 }
     {
         MemoryFiles {
             files: Vec::new(alloc),
@@ -48,6 +49,7 @@ impl MemoryFiles {
         ensures asked { ⟦<MemoryFiles as Files>⟧.asked self.new ≡ ⟦<MemoryFiles as Files>⟧.asked self.old }
         ensures fails { self.new.failing.items ≡ self.old.failing.items }
         ensures counts { self.new.fetches ≡ self.old.fetches }
+        ensures faults { ⟦<MemoryFiles as Files>⟧.faults self.new ≡ ⟦<MemoryFiles as Files>⟧.faults self.old }
     {
         let name = Name::from_bytes(self.alloc, name.as_bytes())?;
         let bytes = Items::from(bytes.to_vec(self.alloc)?);
@@ -84,6 +86,7 @@ impl MemorySink {
         ensures limits { IfOk result (λ sink. (sink.room ≡ room) × (sink.most ≡ most)) }
         ensures fails { IfOk result (λ sink. sink.failing.items ≡ failing.items) }
         ensures counts { IfOk result (λ sink. sink.writes ≡ 0) }
+        ensures faults { IfOk result (λ sink. ⟦<MemorySink as Sink>⟧.faults sink ≡ 0) }
     {
         Ok(MemorySink {
             bytes: Vec::with_capacity(alloc, room)?,
