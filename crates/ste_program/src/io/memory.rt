@@ -1,4 +1,4 @@
-ghost use Rattle.std.specs.Prelude.{◌≡◌, ◌⊎◌, List, ℕ, Some, OnOk, OnErr, IfOk, length, take, vec_capacity, ◌≤◌, ◌<◌, []};
+ghost use Rattle.std.specs.Prelude.{◌≡◌, ◌≢◌, ◌⊎◌, List, ℕ, Some, OnOk, OnErr, IfOk, length, take, vec_capacity, ◌≤◌, ◌<◌, []};
 ghost use Rattle.ste_program.specs.Causes.{Rose};
 ghost use Rattle.ste_program.specs.InMemory.{FetchFails, WriteFails, next, taken_at_once};
 ghost use Rattle.ste_program.specs.Outside.{IsTooLarge, StandsAt, Store, with_more, with_name};
@@ -122,6 +122,7 @@ impl Sink for MemorySink {
         ensures fails { OnErr result (WriteFails self.old.failing.items self.old.writes self.old.room (length self.old.bytes.items)) }
         ensures takes { OnOk result (¬ WriteFails self.old.failing.items self.old.writes self.old.room (length self.old.bytes.items)) }
         ensures at_once { IfOk result (λ n. n ≡ taken_at_once self.old.most self.old.room (length self.old.bytes.items) (length piece.now)) }
+        ensures quiet { OnOk result (⟦<MemorySink as Sink>⟧.faults self.new ≡ ⟦<MemorySink as Sink>⟧.faults self.old) }
         ensures same { (self.new.failing.items ≡ self.old.failing.items) × (self.new.room ≡ self.old.room) × (self.new.most ≡ self.old.most) × (self.new.writes ≡ next self.old.writes) }
     {
         self.writes = self.writes.saturating_add(1);
@@ -158,6 +159,7 @@ impl Files for MemoryFiles {
         ensures fails { result ≡ Err FetchFault.Failed → (store : Store) → ⟦<MemoryFiles as Files>⟧.holds self.old ≡ Some store → FetchFails self.old.failing.items self.old.fetches store name.now }
         ensures reads { OnOk result ((store : Store) → ⟦<MemoryFiles as Files>⟧.holds self.old ≡ Some store → ¬ FetchFails self.old.failing.items self.old.fetches store name.now) }
         ensures sees { (seen : ℕ) → result ≡ Err (FetchFault.TooLarge seen) → (store : Store) → ⟦<MemoryFiles as Files>⟧.holds self.old ≡ Some store → ¬ FetchFails self.old.failing.items self.old.fetches store name.now }
+        ensures quiet { result ≢ Err FetchFault.Failed → ⟦<MemoryFiles as Files>⟧.faults self.new ≡ ⟦<MemoryFiles as Files>⟧.faults self.old }
         ensures same { self.new.failing.items ≡ self.old.failing.items }
         ensures counts { (self.new.fetches ≡ next self.old.fetches) ⊎ ((result ≡ Err FetchFault.OutOfMemory) × (self.new.fetches ≡ self.old.fetches)) }
     {
