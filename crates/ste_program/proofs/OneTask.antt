@@ -1,16 +1,18 @@
 -- No two tasks have the same lines.
 use Rattle.std.proofs.Common.{◌≡◌, ℕ, Bool, true, false, List, [], ◌∷◌, ◌++◌, map, get_or, refl, sym, ap, ◌∙◌, arith}
-use Rattle.std.specs.Prelude.{◌≢◌, ◌||◌, codes, if◌then◌else◌, IsTrue}
+use Rattle.std.specs.Prelude.{◌≢◌, ◌||◌, codes, IsTrue}
 use Rattle.std.specs.List.{list_all}
 use Rattle.std.specs.Str.{bytes_eq}
 use Rattle.std.proofs.lemmas.List.{same_from_push}
 use Rattle.std.proofs.lemmas.Slice.Eq.{bytes_eq-Decides}
+use Rattle.ste_program.specs.declared.task.Side.{Side}
+use Rattle.ste_program.specs.declared.task.Side.TheVariants.{Antecedent, Consequent}
 use Rattle.ste_program.specs.declared.task.Value.{Value}
 use Rattle.ste_program.specs.declared.task.Value.TheVariants.{Const, Variable, Negated}
 use Rattle.ste_program.specs.declared.task.Clause.{Clause}
 use Rattle.ste_program.specs.declared.task.TaskText.{TaskText}
 use Rattle.ste_program.specs.Words.{is_among}
-use Rattle.ste_program.specs.Task.{value_word, clause_line, vars_lines, task_lines, is_letter, is_variable, is_value, is_clause, is_task}
+use Rattle.ste_program.specs.Task.{value_word, side_word, clause_line, vars_lines, task_lines, is_letter, is_variable, is_value, is_clause, is_task}
 use Rattle.std.proofs.lemmas.Bool.{and_parts}
 use Rattle.ste_program.proofs.Quints.{task_parts}
 
@@ -62,29 +64,29 @@ value_same vars (Negated a) (Const b) h f g e = absurd (bit_no_sign b a (sym e))
 value_same vars (Negated a) (Variable b) h f g e = absurd (sign_no_variable b a (among_passes is_variable vars b h g) (sym e))
 value_same vars (Negated a) (Negated b) h f g e = cc
 
-keys_same : (a b : Bool) → (if a then codes ".ant" else codes ".con") ≡ (if b then codes ".ant" else codes ".con") → a ≡ b
-keys_same true true e = refl
-keys_same false false e = refl
-keys_same true false e = absurd (omega (arith, ap (byte_at 1) e))
-keys_same false true e = absurd (omega (arith, ap (byte_at 1) e))
+keys_same : (a b : Side) → side_word a ≡ side_word b → a ≡ b
+keys_same Antecedent Antecedent e = refl
+keys_same Consequent Consequent e = refl
+keys_same Antecedent Consequent e = absurd (omega (arith, ap (byte_at 1) e))
+keys_same Consequent Antecedent e = absurd (omega (arith, ap (byte_at 1) e))
 
 value_sound : (names vars : List (List ℕ)) (clause : Clause) → is_clause names vars clause ≡ true → is_value vars clause.value ≡ true
 value_sound names vars clause h = grind arith
 
-abbrev the_clause : Bool → List ℕ → Value → List ℕ → List ℕ → Clause
-the_clause given node value from to = record { given = given; node = node; value = value; from = from; to = to }
+abbrev the_clause : Side → List ℕ → Value → List ℕ → List ℕ → Clause
+the_clause side node value from to = record { side = side; node = node; value = value; from = from; to = to }
 
-same_clause : (g h : Bool) (n m : List ℕ) (v w : Value) (f e t u : List ℕ) → g ≡ h → n ≡ m → v ≡ w → f ≡ e → t ≡ u → the_clause g n v f t ≡ the_clause h m w e u
-same_clause g h n m v w f e t u given node value from to = cc
+same_clause : (g h : Side) (n m : List ℕ) (v w : Value) (f e t u : List ℕ) → g ≡ h → n ≡ m → v ≡ w → f ≡ e → t ≡ u → the_clause g n v f t ≡ the_clause h m w e u
+same_clause g h n m v w f e t u side node value from to = cc
 
 clause_same : (names vars : List (List ℕ)) (a b : Clause) → list_all is_variable vars ≡ true → is_clause names vars a ≡ true → is_clause names vars b ≡ true → clause_line a ≡ clause_line b → a ≡ b
 clause_same names vars a b h f g e =
-    let given = keys_same a.given b.given cc in
+    let side = keys_same a.side b.side cc in
     let node : a.node ≡ b.node = cc in
     let value = value_same vars a.value b.value h (value_sound names vars a f) (value_sound names vars b g) cc in
     let from : a.from ≡ b.from = cc in
     let to : a.to ≡ b.to = cc in
-    same_clause a.given b.given a.node b.node a.value b.value a.from b.from a.to b.to given node value from to
+    same_clause a.side b.side a.node b.node a.value b.value a.from b.from a.to b.to side node value from to
 
 clauses_same : (names vars : List (List ℕ)) (a b : List Clause) → list_all is_variable vars ≡ true → list_all (is_clause names vars) a ≡ true → list_all (is_clause names vars) b ≡ true → map clause_line a ≡ map clause_line b → a ≡ b
 clauses_same names vars [] [] h f g e = refl

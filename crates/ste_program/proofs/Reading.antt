@@ -6,7 +6,7 @@ use Rattle.std.proofs.lemmas.Bool.{and_parts, leb-true}
 use Rattle.blif_syntax.specs.declared.models.Model.{Model}
 use Rattle.flat_net.specs.Lines.{signals, top}
 use Rattle.ste_program.specs.declared.task.TaskText.{TaskText}
-use Rattle.ste_program.specs.Answer.{OneReading}
+use Rattle.ste_program.specs.Report.{OneReading}
 use Rattle.ste_program.specs.Task.{is_task, task_lines}
 use Rattle.ste_program.specs.Words.{are_plain, text_of}
 use Rattle.ste_program.proofs.OneTask.{one_task}

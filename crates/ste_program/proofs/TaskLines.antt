@@ -1,6 +1,6 @@
 -- The lines of clauses: what the words of a line say, and which lines are no clauses.
 use Rattle.std.proofs.Common.{◌≡◌, ℕ, true, false, ◌<◌, ◌≤◌, List, [], ◌∷◌, map, length, get_or, drop, refl, sym, ap, ◌∙◌, arith}
-use Rattle.std.specs.Prelude.{◌≢◌, ◌&&◌, codes, if◌then◌else◌, IsTrue, nat_le}
+use Rattle.std.specs.Prelude.{◌≢◌, ◌&&◌, codes, IsTrue, nat_le}
 use Rattle.std.specs.List.{list_all}
 use Rattle.std.specs.Str.{bytes_eq}
 use Rattle.std.specs.Char.{IsAsciiDigit}
@@ -10,10 +10,11 @@ use Rattle.std.proofs.lemmas.List.{drop_more, drop_all, get_or-map, length-map}
 use Rattle.std.proofs.lemmas.List.Recursion.{and_at}
 use Rattle.std.proofs.lemmas.Slice.Eq.{bytes_eq-Decides}
 use Rattle.ste_base.specs.Number.{IsNumber, number_of}
+use Rattle.ste_program.specs.declared.task.Side.TheVariants.{Consequent}
 use Rattle.ste_program.specs.declared.task.Value.TheVariants.{Const}
 use Rattle.ste_program.specs.declared.task.Clause.{Clause}
 use Rattle.ste_program.specs.Words.{is_among}
-use Rattle.ste_program.specs.Task.{clause_line, value_word, is_digit, is_value, is_number, is_clause}
+use Rattle.ste_program.specs.Task.{clause_line, side_word, value_word, is_digit, is_value, is_number, is_clause}
 
 digit_test : (byte : ℕ) → Decides (is_digit byte) (IsAsciiDigit byte)
 digit_test byte = (λ h. grind (arith, nat_tests), λ h. grind (arith, nat_tests))
@@ -46,7 +47,7 @@ eight_words line a b c d e f g h long short ea eb ec ed ee ef eg eh =
     cc
 
 -- the line of a clause, word by word
-pub line_is : (line : List (List ℕ)) (clause : Clause) (a b c d e f g h : List ℕ) → line ≡ a ∷ b ∷ c ∷ d ∷ e ∷ f ∷ g ∷ h ∷ [] → a ≡ (if clause.given then codes ".ant" else codes ".con")
+pub line_is : (line : List (List ℕ)) (clause : Clause) (a b c d e f g h : List ℕ) → line ≡ a ∷ b ∷ c ∷ d ∷ e ∷ f ∷ g ∷ h ∷ [] → a ≡ side_word clause.side
     → clause.node ≡ b → true ≡ bytes_eq c (codes "=") → d ≡ value_word clause.value → true ≡ bytes_eq e (codes "from") → clause.from ≡ f → true ≡ bytes_eq g (codes "to") → clause.to ≡ h → line ≡ clause_line clause
 line_is line clause a b c d e f g h words key node equals value after from before to =
     let first = (bytes_eq-Decides c (codes "=")).0 (sym equals) in
@@ -55,7 +56,7 @@ line_is line clause a b c d e f g h words key node equals value after from befor
     cc
 
 abbrev no_clause : Clause
-no_clause = record { given = false; node = []; value = Const false; from = []; to = [] }
+no_clause = record { side = Consequent; node = []; value = Const false; from = []; to = [] }
 
 -- lines of which one is no clause are no clauses
 pub no_clauses : (names vars : List (List ℕ)) (lines : List (List (List ℕ))) (i : ℕ) (d : List (List ℕ)) → i < length lines

@@ -1,7 +1,15 @@
 pub mod Causes
 pub mod Outside
 pub mod InMemory
-pub mod Words
+pub mod Command
+pub mod Refused
+pub mod Message
 pub mod Netlist
+pub mod Words
 pub mod Task
+pub mod Report
+pub mod Order
 pub mod Answer
+pub mod Texts
+pub mod Prepared
+pub mod Endings

@@ -1,12 +1,15 @@
 -- The task texts that are read so far: one assertion, whose values are bits, variables and turned variables, without
--- guards.
-use Rattle.std.specs.Prelude.{◌≡◌, ℕ, ◌==◌, ◌&&◌, ◌||◌, ◌++◌, ◌∷◌, [], Bool, true, false, not, List, length, map, filter, nat_le, nat_lt, codes, slice_index_or, if◌then◌else◌}
+-- guards. Meaning.
+use Rattle.std.specs.Prelude.{◌≡◌, ℕ, ◌==◌, ◌&&◌, ◌||◌, ◌++◌, ◌∷◌, [], Bool, true, false, not, List, length, map, filter, nat_le, nat_lt, codes, if◌then◌else◌}
 use Rattle.std.specs.List.{list_all, position_or_len, AllZip}
 use Rattle.std.specs.Str.{bytes_eq}
 use Rattle.ste_base.specs.Number.{number_of}
-use Rattle.bool_expr.specs.Value.{value_of}
+use Rattle.bool_expr.specs.Tree.{Tree, tree_of}
+use Rattle.bool_expr.specs.Tree as tree
 use Rattle.ste_model.specs.declared.task.Quint.{Quint}
 use Rattle.ste_model.specs.declared.task.Assertion.{Assertion}
+use Rattle.ste_program.specs.declared.task.Side.{Side}
+use Rattle.ste_program.specs.declared.task.Side.TheVariants.{Antecedent, Consequent}
 use Rattle.ste_program.specs.declared.task.Value.{Value}
 use Rattle.ste_program.specs.declared.task.Value.TheVariants.{Const, Variable, Negated}
 use Rattle.ste_program.specs.declared.task.Clause.{Clause}
@@ -20,10 +23,20 @@ value_word (Const bit) = if bit then codes "1" else codes "0"
 value_word (Variable name) = name
 value_word (Negated name) = 33 ∷ name
 
+-- the first word of a line, by its side
+abbrev pub side_word : Side → List ℕ
+side_word Antecedent = codes ".ant"
+side_word Consequent = codes ".con"
+
+-- the side is the antecedent
+abbrev pub is_antecedent : Side → Bool
+is_antecedent Antecedent = true
+is_antecedent Consequent = false
+
 -- the line of a clause
 abbrev pub clause_line : Clause → List (List ℕ)
 clause_line clause =
-    (if clause.given then codes ".ant" else codes ".con") ∷ clause.node ∷ codes "=" ∷ value_word clause.value
+    side_word clause.side ∷ clause.node ∷ codes "=" ∷ value_word clause.value
     ∷ codes "from" ∷ clause.from ∷ codes "to" ∷ clause.to ∷ []
 
 -- the line of the variables, where there are some
@@ -73,23 +86,27 @@ is_task names task =
     are_plain (task_lines task) && nat_le (length task.vars) 8 && list_all is_variable task.vars && are_distinct task.vars
     && list_all (is_clause names task.vars) task.clauses
 
--- the bit of a value under an assignment
-abbrev pub bit_of : List (List ℕ) → List Bool → Value → Bool
-bit_of vars bits (Const bit) = bit
-bit_of vars bits (Variable name) = slice_index_or bits (position_or_len (bytes_eq name) vars) false
-bit_of vars bits (Negated name) = not (slice_index_or bits (position_or_len (bytes_eq name) vars) false)
+-- the tree of a value: a bit, or the place of its variable among these
+abbrev pub value_tree : List (List ℕ) → Value → Tree
+value_tree vars (Const bit) = tree.bit bit
+value_tree vars (Variable name) = tree.place (position_or_len (bytes_eq name) vars)
+value_tree vars (Negated name) = tree.opposite (tree.place (position_or_len (bytes_eq name) vars))
 
--- the quintuple of a clause: no guard, the clause's net and times, and a value that is worth what the clause's value is
+-- the quintuple of a clause: the guard 1, the clause's net and times, and an expression with the tree of its value
 pub record IsQuintOf (names vars : List (List ℕ)) (clause : Clause) (quint : Quint) : Type 0 where
-  pub guard : (bits : List Bool) → value_of quint.guard bits ≡ true
+  pub guard : tree_of quint.guard ≡ tree.bit true
   pub node : quint.node ≡ net_of names clause.node
-  pub value : (bits : List Bool) → value_of quint.value bits ≡ bit_of vars bits clause.value
+  pub value : tree_of quint.value ≡ value_tree vars clause.value
   pub from : quint.from ≡ number_of clause.from
   pub to : quint.to ≡ number_of clause.to
+
+-- the line belongs to the antecedent
+abbrev pub is_given : Clause → Bool
+is_given clause = is_antecedent clause.side
 
 -- the assertion of a task, over a net with these signals
 pub record IsAssertionOf (names : List (List ℕ)) (task : TaskText) (assertion : Assertion) : Type 0 where
   pub name : assertion.name ≡ task.name
   pub reset : assertion.reset ≡ false
-  pub ant : AllZip (IsQuintOf names task.vars) (filter (λ clause. clause.given) task.clauses) assertion.ant
-  pub con : AllZip (IsQuintOf names task.vars) (filter (λ clause. not clause.given) task.clauses) assertion.con
+  pub ant : AllZip (IsQuintOf names task.vars) (filter is_given task.clauses) assertion.ant
+  pub con : AllZip (IsQuintOf names task.vars) (filter (λ clause. not (is_given clause)) task.clauses) assertion.con

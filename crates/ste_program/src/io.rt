@@ -4,6 +4,7 @@ pub mod files;
 pub mod host;
 pub mod memory;
 pub mod sink;
+pub mod steps;
 
 pub use files::{FetchFault, Files};
 pub use host::{HostFiles, HostSink};

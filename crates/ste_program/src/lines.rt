@@ -1,3 +1,4 @@
+//! Lines of words, as the reader of tasks looks at them: their keys, their ends, their copies.
 ghost use Rattle.std.specs.Prelude.{◌≡◌, ◌≢◌, ℕ, List, codes, IfOk, IfSome, IfNone, [], ◌∷◌, ◌++◌};
 ghost use Rattle.ste_program.specs.Words.{are_distinct, is_among};
 

@@ -1,13 +1,15 @@
-ghost use Rattle.std.specs.Prelude.{◌≡◌, ◌≢◌, ◌≤◌, ◌<◌, ◌&&◌, ◌||◌, ℕ, Bool, List, map, codes, IfOk, IfSome, IfNone, IsTrue, OnErr, All, [], ◌∷◌, ◌++◌, length, false, nat_le, slice_index_or, if◌then◌else◌};
+//! The task of one assertion, from lines of words to its assertion: `task_of`, then `assertion_of`.
+ghost use Rattle.std.specs.Prelude.{◌≡◌, ◌≢◌, ◌≤◌, ◌<◌, ◌^◌, ◌&&◌, ◌||◌, ℕ, Bool, List, map, codes, IfOk, IfSome, IfNone, IsTrue, OnErr, All, [], ◌∷◌, ◌++◌, length, false, nat_le, slice_index_or, if◌then◌else◌};
 ghost use Rattle.std.specs.List.{list_all, position, position_or_len};
 ghost use Rattle.std.specs.Str.{bytes_eq};
 ghost use Rattle.ste_base.specs.Number.{number_of};
-ghost use Rattle.bool_expr.specs.Value.{value_of};
+ghost use Rattle.bool_expr.specs.Tree.{place, tree_of};
 ghost use Rattle.ste_program.specs.declared.task.Value.{Value};
 ghost use Rattle.ste_program.specs.declared.task.Clause.{Clause};
+ghost use Rattle.ste_program.specs.declared.task.Side.{Side as SideOf};
 ghost use Rattle.ste_program.specs.declared.task.TaskText.{TaskText};
 ghost use Rattle.ste_program.specs.Words.{are_distinct, are_plain, is_among};
-ghost use Rattle.ste_program.specs.Task.{value_word, clause_line, vars_lines, task_lines, is_letter, is_digit, is_variable, is_value, is_number, is_clause, is_task, bit_of, IsQuintOf, IsAssertionOf};
+ghost use Rattle.ste_program.specs.Task.{value_word, side_word, clause_line, vars_lines, task_lines, is_letter, is_digit, is_variable, is_value, is_number, is_clause, is_task, value_tree, IsQuintOf, IsAssertionOf};
 
 use crate::lines::{are_distinct, before_end, copies, is_among, line_behind};
 use bool_expr::Expr;
@@ -23,11 +25,18 @@ pub enum Value {
     Negated(Name),
 }
 
-/// A line of an antecedent, where `given`, or of a consequent: the node has the value from one time up to another,
-/// which are decimal digits.
+/// Which part of an assertion a line belongs to.
+#[derive(Clone, Copy, Debug, PartialEq, Eq)]
+pub enum Side {
+    Antecedent,
+    Consequent,
+}
+
+/// A line of an antecedent or of a consequent: the node has the value from one time up to another, which are decimal
+/// digits.
 #[derive(Debug, Drop)]
 pub struct Clause {
-    pub given: bool,
+    pub side: Side,
     pub node: Name,
     pub value: Value,
     pub from: Name,
@@ -145,15 +154,15 @@ fn value_of(alloc: Global, word: &Name, vars: &[Name]) -> Result<Option<Value>, 
     Ok(turned_of(alloc, word, vars)?.map(Value::Negated))
 }
 
-/// Whether the line is one of an antecedent, where its first word is a key.
-fn given_of(key: &Name) -> Option<bool>
-    ensures some { IfSome result (λ given. key.now ≡ (if given then codes ".ant" else codes ".con")) }
-    ensures none { IfNone result ((given : Bool) → key.now ≢ (if given then codes ".ant" else codes ".con")) }
+/// The side of a line whose first word is a key.
+fn side_of(key: &Name) -> Option<Side>
+    ensures some { IfSome result (λ side. key.now ≡ side_word side) }
+    ensures none { IfNone result ((side : SideOf) → key.now ≢ side_word side) }
 {
     if is_key(key, b".ant") {
-        Some(true)
+        Some(Side::Antecedent)
     } else if is_key(key, b".con") {
-        Some(false)
+        Some(Side::Consequent)
     } else {
         None
     }
@@ -196,7 +205,7 @@ fn clause_of(
     let [key, node, equals, value, after, from, before, to] = line else {
         return Ok(None);
     };
-    let Some(given) = given_of(key) else {
+    let Some(side) = side_of(key) else {
         return Ok(None);
     };
     if !is_key(equals, b"=") || !is_key(after, b"from") || !is_key(before, b"to") {
@@ -209,7 +218,7 @@ fn clause_of(
         return Ok(None);
     };
     Ok(Some(Clause {
-        given,
+        side,
         node: node.clone()?,
         value,
         from: from.clone()?,
@@ -274,34 +283,36 @@ fn position_of(words: &[Name], word: &Name) -> Option<usize>
     words.iter().position(|other| word == other)
 }
 
-/// The first place of the word among these; an error where there are more of them than a number tells apart.
+/// The first place of the word among these.
 #[tactic(auto, using(crate::proofs::Quints::found_within))]
-fn place_of(words: &[Name], word: &Name) -> Result<u32, AllocError>
-    requires { IsTrue (is_among words.now word.now) }
-    ensures ok { IfOk result (λ place. (place ≡ position_or_len (bytes_eq word.now) words.now) × (place < length words.now)) }
-    ensures err { OnErr result (4294967295 < length words.now) }
+fn place_of(words: &[Name], word: &Name) -> u32
+    requires among { IsTrue (is_among words.now word.now) }
+    requires few { length words.now < 2 ^ 32 }
+    ensures place { result ≡ position_or_len (bytes_eq word.now) words.now }
+    ensures within { result < length words.now }
 {
-    let place = position_of(words, word).unwrap();
-    u32::try_from(place).map_err(|_| AllocError)
+    position_of(words, word).unwrap() as u32
 }
 
 /// The variable of this name.
-fn variable(vars: &[Name], name: &Name) -> Result<Expr, AllocError>
-    requires { IsTrue (is_among vars.now name.now) }
-    ensures { IfOk result (λ expr. (bits : List Bool) → value_of expr bits ≡ slice_index_or bits (position_or_len (bytes_eq name.now) vars.now) false) }
+fn variable(vars: &[Name], name: &Name) -> Expr
+    requires among { IsTrue (is_among vars.now name.now) }
+    requires few { length vars.now < 2 ^ 32 }
+    ensures { tree_of result ≡ place (position_or_len (bytes_eq name.now) vars.now) }
 {
-    Ok(Expr::Var(VarId(place_of(vars, name)?)))
+    Expr::Var(VarId(place_of(vars, name)))
 }
 
-/// The expression that is worth what the value is.
+/// The expression that a value is.
 fn expr_of(alloc: Global, value: &Value, vars: &[Name]) -> Result<Expr, AllocError>
-    requires { IsTrue (is_value vars.now value.now) }
-    ensures { IfOk result (λ expr. (bits : List Bool) → value_of expr bits ≡ bit_of vars.now bits value.now) }
+    requires value { IsTrue (is_value vars.now value.now) }
+    requires few { length vars.now < 2 ^ 32 }
+    ensures { IfOk result (λ expr. tree_of expr ≡ value_tree vars.now value.now) }
 {
     match value {
         Value::Const(bit) => Ok(Expr::Const(*bit)),
-        Value::Variable(name) => variable(vars, name),
-        Value::Negated(name) => Ok(Expr::Not(Box::new(alloc, variable(vars, name)?)?)),
+        Value::Variable(name) => Ok(variable(vars, name)),
+        Value::Negated(name) => Ok(Expr::Not(Box::new(alloc, variable(vars, name))?)),
     }
 }
 
@@ -320,13 +331,15 @@ fn quint_of(
     names: &[Name],
     vars: &[Name],
 ) -> Result<Quint, AllocError>
-    requires { IsTrue (is_clause names.now vars.now clause.now) }
+    requires clause { IsTrue (is_clause names.now vars.now clause.now) }
+    requires few_names { length names.now < 2 ^ 32 }
+    requires few_vars { length vars.now < 2 ^ 32 }
     ensures quint { IfOk result (λ quint. IsQuintOf names.now vars.now clause.now quint) }
     ensures net { IfOk result (λ quint. quint.node.0 < length names.now) }
 {
     Ok(Quint {
         guard: Expr::Const(true),
-        node: NodeId(place_of(names, &clause.node)?),
+        node: NodeId(place_of(names, &clause.node)),
         value: expr_of(alloc, &clause.value, vars)?,
         from: time(&clause.from),
         to: time(&clause.to),
@@ -335,7 +348,8 @@ fn quint_of(
 
 /// The assertion of a task over a net with these signals.
 pub fn assertion_of(alloc: Global, names: &[Name], task: &TaskText) -> Result<Assertion, AllocError>
-    requires { IsTrue (is_task names.now task.now) }
+    requires task { IsTrue (is_task names.now task.now) }
+    requires few { length names.now < 2 ^ 32 }
     ensures assertion { IfOk result (λ assertion. IsAssertionOf names.now task.now assertion) }
     ensures nets { IfOk result (λ assertion. All (λ quint. quint.node.0 < length names.now) assertion.ant) }
     ensures con_nets { IfOk result (λ assertion. All (λ quint. quint.node.0 < length names.now) assertion.con) }
@@ -344,10 +358,9 @@ pub fn assertion_of(alloc: Global, names: &[Name], task: &TaskText) -> Result<As
     let mut con = Items::new(alloc);
     for clause in task.clauses.as_slice() {
         let quint = quint_of(alloc, clause, names, task.vars.as_slice())?;
-        if clause.given {
-            ant.push(quint)?;
-        } else {
-            con.push(quint)?;
+        match clause.side {
+            Side::Antecedent => ant.push(quint)?,
+            Side::Consequent => con.push(quint)?,
         }
     }
     Ok(Assertion {

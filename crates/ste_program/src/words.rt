@@ -1,3 +1,4 @@
+//! Cuts a text into lines of plain words: `lines_of`.
 ghost use Rattle.std.specs.Prelude.{◌≡◌, ◌≢◌, ◌==◌, ◌<◌, ◌&&◌, nat_lt, ℕ, List, map, IfOk, IfSome, IfNone, IsTrue, [], ◌∷◌, ◌↔◌, length};
 ghost use Rattle.std.specs.List.{list_all, slice_split};
 ghost use Rattle.ste_program.specs.Words.{text_of, may_stand, is_word, are_plain};

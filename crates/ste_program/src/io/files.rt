@@ -1,6 +1,6 @@
-ghost use Rattle.std.specs.Prelude.{◌≡◌, ◌≤◌, ◌<◌, ◌⊎◌, List, ℕ, Option, length, IfOk};
-ghost use Rattle.ste_program.specs.Causes.{Rose};
-ghost use Rattle.ste_program.specs.Outside.{Store, StandsAt, IsTooLarge, with_name};
+//! Files that are fetched by name: the trait `Files`.
+ghost use Rattle.std.specs.Prelude.{◌≤◌, MatchResult};
+ghost use Rattle.ste_program.specs.Outside.{FilesState, IsFetched, WhyNotFetched};
 
 use std::alloc::Global;
 
@@ -14,25 +14,15 @@ pub enum FetchFault {
     OutOfMemory,
 }
 
-/// Files, by name. What they hold and what they were asked for may be told to contracts, or not.
+/// Files, by name.
 pub trait Files {
-    /// What they hold, where it is told.
-    ghost holds: { Self → Option Store };
-
-    /// The names that were asked for, in order, where it is told.
-    ghost asked: { Self → Option (List (List ℕ)) };
-
-    /// How often reading has failed. The count stands still at its type's end.
-    ghost faults: { Self → ℕ };
+    /// What they hold and were asked for, told or not, and how often reading has failed.
+    ghost state: { Self → FilesState };
 
     /// All the bytes of a file, at most `max`. With want of memory the name may not count as asked for.
     fn fetch(&mut self, alloc: Global, name: &str, max: u64) -> Result<Vec<u8>, FetchFault>
         requires { max ≤ 67108864 }
-        ensures bytes { IfOk result (λ bytes. StandsAt (holds self.old) name.now bytes.items) }
-        ensures size { IfOk result (λ bytes. length bytes.items ≤ max) }
-        ensures failed { result ≡ Err FetchFault.Failed → Rose (faults self.old) (faults self.new) }
-        ensures too_large { (seen : ℕ) → result ≡ Err (FetchFault.TooLarge seen) → (max < seen) × IsTooLarge (holds self.old) name.now max }
-        ensures later { faults self.old ≤ faults self.new }
-        ensures holds { holds self.new ≡ holds self.old }
-        ensures asked { (asked self.new ≡ with_name (asked self.old) name.now) ⊎ ((result ≡ Err FetchFault.OutOfMemory) × (asked self.new ≡ asked self.old)) };
+        ensures { MatchResult result
+            (λ bytes. IsFetched (state self.old) (state self.new) name.now max bytes.items)
+            (λ fault. WhyNotFetched (state self.old) (state self.new) name.now max fault) };
 }

@@ -1,9 +1,12 @@
+//! Files and sinks of the host, of which nothing is told: `HostFiles` and `HostSink`.
 ghost use Rattle.std.specs.Prelude.{None};
 
-use super::{FetchFault, Files, Sink, SinkFailed};
+use super::files::{FetchFault, Files};
+use super::sink::{Sink, SinkFailed};
+use super::steps::{read_up_to, write_some};
 use std::alloc::Global;
 use std::fs;
-use std::io::{Read, Write};
+use std::io::Write;
 
 /// The host's files, of which nothing is told.
 #[derive(Drop)]
@@ -20,37 +23,20 @@ impl<'a, R: std::rt::Files> HostFiles<'a, R> {
 }
 
 impl<'a, R: std::rt::Files> Files for HostFiles<'a, R> {
-    ghost holds = { λ _. None };
-
-    ghost asked = { λ _. None };
-
-    ghost faults = { λ f. f.faults };
+    ghost state = { λ f. record { holds = None; asked = None; faults = f.faults } };
 
     fn fetch(&mut self, alloc: Global, name: &str, max: u64) -> Result<Vec<u8>, FetchFault> {
-        let Ok(mut file) = fs::open(self.rt, name) else {
+        let Ok(file) = fs::open(self.rt, name) else {
             self.faults = self.faults.saturating_add(1);
             return Err(FetchFault::Failed);
         };
-        let mut bytes = Vec::new(alloc);
-        let mut buf = [0u8; 4096];
-        for _ in 0..u64::MAX {
-            let wanted = (max + 1 - bytes.len() as u64).min(4096) as usize;
-            match file.read(&mut buf[..wanted]) {
-                Ok(0) => return Ok(bytes),
-                Ok(count) => {
-                    if bytes.extend_from_slice(&buf[..count]).is_err() {
-                        return Err(FetchFault::OutOfMemory);
-                    }
-                    let seen = bytes.len() as u64;
-                    if seen > max {
-                        return Err(FetchFault::TooLarge { seen });
-                    }
-                }
-                Err(_) => break,
+        match read_up_to(alloc, file, max) {
+            Err(FetchFault::Failed) => {
+                self.faults = self.faults.saturating_add(1);
+                Err(FetchFault::Failed)
             }
+            answer => answer,
         }
-        self.faults = self.faults.saturating_add(1);
-        Err(FetchFault::Failed)
     }
 }
 
@@ -69,17 +55,14 @@ impl<W: Write + Drop> HostSink<W> {
 }
 
 impl<W: Write + Drop> Sink for HostSink<W> {
-    ghost taken = { λ _. None };
+    ghost state = { λ s. record { taken = None; faults = s.faults } };
 
-    ghost faults = { λ s. s.faults };
-
-    #[tactic(auto, unfolding(crate::specs::Outside::with_more))]
     fn write(&mut self, piece: &[u8]) -> Result<usize, SinkFailed> {
-        match self.writer.write(piece) {
-            Ok(count) if count > 0 => Ok(count),
-            _ => {
+        match write_some(&mut self.writer, piece) {
+            Ok(count) => Ok(count),
+            Err(failed) => {
                 self.faults = self.faults.saturating_add(1);
-                Err(SinkFailed)
+                Err(failed)
             }
         }
     }

@@ -1,14 +1,16 @@
-ghost use Rattle.std.specs.Prelude.{◌≡◌, ◌≢◌, ◌⊎◌, List, ℕ, Some, OnOk, OnErr, IfOk, length, take, vec_capacity, ◌≤◌, ◌<◌, []};
+//! Files and sinks in memory, which tell what they hold and take: `MemoryFiles` and `MemorySink`.
+ghost use Rattle.std.specs.Prelude.{◌≡◌, ◌⊎◌, ℕ, MatchResult, Some, OnOk, OnErr, IfOk, length, take, vec_capacity, ◌≤◌, ◌<◌, []};
 ghost use Rattle.ste_program.specs.Causes.{Rose};
 ghost use Rattle.ste_program.specs.InMemory.{FetchFails, WriteFails, next, taken_at_once};
-ghost use Rattle.ste_program.specs.Outside.{IsTooLarge, StandsAt, Store, with_more, with_name};
+ghost use Rattle.ste_program.specs.Outside.{HasFile, IsFetched, Store, WhyNotFetched, WriteFailed, took};
 ghost use Rattle.std.specs.FinMap.{from_entries, get};
 ghost use Rattle.std.specs.FinMap as map;
 ghost use Rattle.std.specs.Option.{option_copied};
 ghost use Rattle.std.specs.Ordering.{nat_cmp};
 ghost use Rattle.std.specs.Cmp.Lexicographic.{slice_cmp};
 
-use super::{FetchFault, Files, Sink, SinkFailed};
+use super::files::{FetchFault, Files};
+use super::sink::{Sink, SinkFailed};
 use std::alloc::{AllocError, Global};
 use ste_base::{Items, Name};
 
@@ -26,11 +28,11 @@ pub struct MemoryFiles {
 impl MemoryFiles {
     /// No files, and nothing asked for.
     pub fn new(alloc: Global, failing: Vec<u64>) -> Self
-        ensures holds { ⟦<MemoryFiles as Files>⟧.holds result ≡ Some map.empty }
-        ensures asked { ⟦<MemoryFiles as Files>⟧.asked result ≡ Some [] }
+        ensures holds { (⟦<MemoryFiles as Files>⟧.state result).holds ≡ Some map.empty }
+        ensures asked { (⟦<MemoryFiles as Files>⟧.state result).asked ≡ Some [] }
         ensures fails { result.failing.items ≡ failing.items }
         ensures counts { result.fetches ≡ 0 }
-        ensures faults { ⟦<MemoryFiles as Files>⟧.faults result ≡ 0 }
+        ensures faults { (⟦<MemoryFiles as Files>⟧.state result).faults ≡ 0 }
     {
         MemoryFiles {
             files: Vec::new(alloc),
@@ -44,12 +46,12 @@ impl MemoryFiles {
 
     /// Puts a file, or replaces it. Where memory is wanting nothing changes.
     pub fn add(&mut self, name: &str, bytes: &[u8]) -> Result<(), AllocError>
-        ensures ok { OnOk result ((store : Store) → ⟦<MemoryFiles as Files>⟧.holds self.old ≡ Some store → ⟦<MemoryFiles as Files>⟧.holds self.new ≡ Some (map.insert store name.now bytes.now)) }
-        ensures err { OnErr result (⟦<MemoryFiles as Files>⟧.holds self.new ≡ ⟦<MemoryFiles as Files>⟧.holds self.old) }
-        ensures asked { ⟦<MemoryFiles as Files>⟧.asked self.new ≡ ⟦<MemoryFiles as Files>⟧.asked self.old }
+        ensures ok { OnOk result (HasFile name.now bytes.now
+            (⟦<MemoryFiles as Files>⟧.state self.old) (⟦<MemoryFiles as Files>⟧.state self.new)) }
+        ensures err { OnErr result
+            (⟦<MemoryFiles as Files>⟧.state self.new ≡ ⟦<MemoryFiles as Files>⟧.state self.old) }
         ensures fails { self.new.failing.items ≡ self.old.failing.items }
         ensures counts { self.new.fetches ≡ self.old.fetches }
-        ensures faults { ⟦<MemoryFiles as Files>⟧.faults self.new ≡ ⟦<MemoryFiles as Files>⟧.faults self.old }
     {
         let name = Name::from_bytes(self.alloc, name.as_bytes())?;
         let bytes = Items::from(bytes.to_vec(self.alloc)?);
@@ -82,11 +84,11 @@ impl MemorySink {
         failing: Vec<u64>,
     ) -> Result<MemorySink, AllocError>
         requires { 0 < most }
-        ensures taken { IfOk result (λ sink. ⟦<MemorySink as Sink>⟧.taken sink ≡ Some []) }
+        ensures taken { IfOk result (λ sink. (⟦<MemorySink as Sink>⟧.state sink).taken ≡ Some []) }
         ensures limits { IfOk result (λ sink. (sink.room ≡ room) × (sink.most ≡ most)) }
         ensures fails { IfOk result (λ sink. sink.failing.items ≡ failing.items) }
         ensures counts { IfOk result (λ sink. sink.writes ≡ 0) }
-        ensures faults { IfOk result (λ sink. ⟦<MemorySink as Sink>⟧.faults sink ≡ 0) }
+        ensures faults { IfOk result (λ sink. (⟦<MemorySink as Sink>⟧.state sink).faults ≡ 0) }
     {
         Ok(MemorySink {
             bytes: Vec::with_capacity(alloc, room)?,
@@ -100,30 +102,32 @@ impl MemorySink {
 
     /// What was taken.
     pub fn bytes(&self) -> &[u8]
-        ensures { ⟦<MemorySink as Sink>⟧.taken self.now ≡ Some result.now }
+        ensures { (⟦<MemorySink as Sink>⟧.state self.now).taken ≡ Some result.now }
     {
         &self.bytes
     }
 }
 
 impl Sink for MemorySink {
-    ghost taken = { λ s. Some s.bytes.items };
+    ghost state = { λ s. record { taken = Some s.bytes.items; faults = s.faults } };
 
-    ghost faults = { λ s. s.faults };
-
-    #[tactic(auto, unfolding(crate::specs::Outside::with_more))]
+    #[tactic(auto, using(crate::proofs::Taken::told_nothing))]
     fn write(&mut self, piece: &[u8]) -> Result<usize, SinkFailed>
         requires { 0 < length piece.now }
-        ensures count { IfOk result (λ n. (0 < n) × (n ≤ length piece.now)) }
-        ensures ok { IfOk result (λ n. ⟦<MemorySink as Sink>⟧.taken self.new ≡ with_more (⟦<MemorySink as Sink>⟧.taken self.old) (take n piece.now)) }
-        ensures err { OnErr result (⟦<MemorySink as Sink>⟧.taken self.new ≡ ⟦<MemorySink as Sink>⟧.taken self.old) }
-        ensures failed { OnErr result (Rose (⟦<MemorySink as Sink>⟧.faults self.old) (⟦<MemorySink as Sink>⟧.faults self.new)) }
-        ensures later { ⟦<MemorySink as Sink>⟧.faults self.old ≤ ⟦<MemorySink as Sink>⟧.faults self.new }
-        ensures fails { OnErr result (WriteFails self.old.failing.items self.old.writes self.old.room (length self.old.bytes.items)) }
-        ensures takes { OnOk result (¬ WriteFails self.old.failing.items self.old.writes self.old.room (length self.old.bytes.items)) }
-        ensures at_once { IfOk result (λ n. n ≡ taken_at_once self.old.most self.old.room (length self.old.bytes.items) (length piece.now)) }
-        ensures quiet { OnOk result (⟦<MemorySink as Sink>⟧.faults self.new ≡ ⟦<MemorySink as Sink>⟧.faults self.old) }
-        ensures same { (self.new.failing.items ≡ self.old.failing.items) × (self.new.room ≡ self.old.room) × (self.new.most ≡ self.old.most) × (self.new.writes ≡ next self.old.writes) }
+        ensures ok { IfOk result (λ n. (0 < n) × (n ≤ length piece.now) × (⟦<MemorySink as Sink>⟧.state self.new
+            ≡ took (⟦<MemorySink as Sink>⟧.state self.old) (take n piece.now))) }
+        ensures failed { OnErr result
+            (WriteFailed (⟦<MemorySink as Sink>⟧.state self.old) (⟦<MemorySink as Sink>⟧.state self.new) []) }
+        // It fails exactly where its number is listed or no room is left, and takes else as much as it can.
+        ensures fails { OnErr result
+            (WriteFails self.old.failing.items self.old.writes self.old.room (length self.old.bytes.items)) }
+        ensures takes { OnOk result
+            (¬ WriteFails self.old.failing.items self.old.writes self.old.room (length self.old.bytes.items)) }
+        ensures at_once { IfOk result (λ n. n
+            ≡ taken_at_once self.old.most self.old.room (length self.old.bytes.items) (length piece.now)) }
+        ensures lists { self.new.failing.items ≡ self.old.failing.items }
+        ensures limits { (self.new.room ≡ self.old.room) × (self.new.most ≡ self.old.most) }
+        ensures counts { self.new.writes ≡ next self.old.writes }
     {
         self.writes = self.writes.saturating_add(1);
         if self.room <= self.bytes.len() {
@@ -141,27 +145,28 @@ impl Sink for MemorySink {
 }
 
 impl Files for MemoryFiles {
-    ghost holds = { λ f. Some (from_entries f.files.items) };
-
-    ghost asked = { λ f. Some f.asked.items };
-
-    ghost faults = { λ f. f.faults };
+    ghost state = { λ f. record { holds = Some (from_entries f.files.items); asked = Some f.asked.items; faults = f.faults } };
 
     fn fetch(&mut self, alloc: Global, name: &str, max: u64) -> Result<Vec<u8>, FetchFault>
         requires { max ≤ 67108864 }
-        ensures bytes { IfOk result (λ bytes. StandsAt (⟦<MemoryFiles as Files>⟧.holds self.old) name.now bytes.items) }
-        ensures size { IfOk result (λ bytes. length bytes.items ≤ max) }
-        ensures failed { result ≡ Err FetchFault.Failed → Rose (⟦<MemoryFiles as Files>⟧.faults self.old) (⟦<MemoryFiles as Files>⟧.faults self.new) }
-        ensures too_large { (seen : ℕ) → result ≡ Err (FetchFault.TooLarge seen) → (max < seen) × IsTooLarge (⟦<MemoryFiles as Files>⟧.holds self.old) name.now max }
-        ensures later { ⟦<MemoryFiles as Files>⟧.faults self.old ≤ ⟦<MemoryFiles as Files>⟧.faults self.new }
-        ensures holds { ⟦<MemoryFiles as Files>⟧.holds self.new ≡ ⟦<MemoryFiles as Files>⟧.holds self.old }
-        ensures asked { (⟦<MemoryFiles as Files>⟧.asked self.new ≡ with_name (⟦<MemoryFiles as Files>⟧.asked self.old) name.now) ⊎ ((result ≡ Err FetchFault.OutOfMemory) × (⟦<MemoryFiles as Files>⟧.asked self.new ≡ ⟦<MemoryFiles as Files>⟧.asked self.old)) }
-        ensures fails { result ≡ Err FetchFault.Failed → (store : Store) → ⟦<MemoryFiles as Files>⟧.holds self.old ≡ Some store → FetchFails self.old.failing.items self.old.fetches store name.now }
-        ensures reads { OnOk result ((store : Store) → ⟦<MemoryFiles as Files>⟧.holds self.old ≡ Some store → ¬ FetchFails self.old.failing.items self.old.fetches store name.now) }
-        ensures sees { (seen : ℕ) → result ≡ Err (FetchFault.TooLarge seen) → (store : Store) → ⟦<MemoryFiles as Files>⟧.holds self.old ≡ Some store → ¬ FetchFails self.old.failing.items self.old.fetches store name.now }
-        ensures quiet { result ≢ Err FetchFault.Failed → ⟦<MemoryFiles as Files>⟧.faults self.new ≡ ⟦<MemoryFiles as Files>⟧.faults self.old }
-        ensures same { self.new.failing.items ≡ self.old.failing.items }
-        ensures counts { (self.new.fetches ≡ next self.old.fetches) ⊎ ((result ≡ Err FetchFault.OutOfMemory) × (self.new.fetches ≡ self.old.fetches)) }
+        ensures fetch { MatchResult result
+            (λ bytes. IsFetched (⟦<MemoryFiles as Files>⟧.state self.old) (⟦<MemoryFiles as Files>⟧.state self.new)
+            name.now max bytes.items)
+            (λ fault. WhyNotFetched (⟦<MemoryFiles as Files>⟧.state self.old)
+            (⟦<MemoryFiles as Files>⟧.state self.new) name.now max fault) }
+        // It fails exactly where its number is listed or no file has the name.
+        ensures fails { result ≡ Err FetchFault.Failed → (store : Store) →
+            (⟦<MemoryFiles as Files>⟧.state self.old).holds ≡ Some store →
+            FetchFails self.old.failing.items self.old.fetches store name.now }
+        ensures reads { OnOk result ((store : Store) →
+            (⟦<MemoryFiles as Files>⟧.state self.old).holds ≡ Some store →
+            ¬ FetchFails self.old.failing.items self.old.fetches store name.now) }
+        ensures sees { (seen : ℕ) → result ≡ Err (FetchFault.TooLarge seen) → (store : Store) →
+            (⟦<MemoryFiles as Files>⟧.state self.old).holds ≡ Some store →
+            ¬ FetchFails self.old.failing.items self.old.fetches store name.now }
+        ensures lists { self.new.failing.items ≡ self.old.failing.items }
+        ensures counts { (self.new.fetches ≡ next self.old.fetches)
+            ⊎ ((result ≡ Err FetchFault.OutOfMemory) × (self.new.fetches ≡ self.old.fetches)) }
     {
         let Ok(wanted) = Name::from_bytes(alloc, name.as_bytes()) else {
             return Err(FetchFault::OutOfMemory);

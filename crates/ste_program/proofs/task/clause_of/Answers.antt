@@ -11,7 +11,7 @@ returns-clause-some c =
     let node : is_among c.args.names.now c.in_ok-clone.field-0 ≡ true = search rules in
     let value : is_value c.args.vars.now c.in-Some-2.value ≡ true = search rules in
     let times : (is_number c.in_ok-clone-2.field-0 && is_number c.in_ok-clone-3.field-0 && nat_le (number_of c.in_ok-clone-2.field-0) (number_of c.in_ok-clone-3.field-0) && nat_le (number_of c.in_ok-clone-3.field-0) 20) ≡ true = search rules in
-    let clause : Clause = record { given = c.in-Some.given; node = c.in_ok-clone.field-0; value = c.in-Some-2.value; from = c.in_ok-clone-2.field-0; to = c.in_ok-clone-3.field-0 } in
+    let clause : Clause = record { side = c.in-Some.side; node = c.in_ok-clone.field-0; value = c.in-Some-2.value; from = c.in_ok-clone-2.field-0; to = c.in_ok-clone-3.field-0 } in
     let read = rw c.in-Some-2.is at c.in_ok-value.ensures.some in
     let words = eight_words c.args.line.now c.key-item.result c.node-item.result c.equals-item.result c.value-item.result c.after-item.result c.from-item.result c.before-item.result c.to-item.result
     c.in-len8.len_at_least c.in-len8.len_below c.key-item.is c.node-item.is c.equals-item.is c.value-item.is c.after-item.is c.from-item.is c.before-item.is c.to-item.is in (

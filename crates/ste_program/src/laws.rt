@@ -1,0 +1,18 @@
+//! Laws over the definitions alone, each the contract of a function that does nothing.
+ghost use Rattle.ste_program.specs.Order.{OneRefusal, PreparedIsNotRefused};
+ghost use Rattle.ste_program.specs.Report.{OneReading};
+
+/// Two texts have one reading at most.
+pub fn one_reading()
+    ensures { OneReading }
+{}
+
+/// At most one refusal is the first.
+pub fn one_refusal()
+    ensures { OneRefusal }
+{}
+
+/// What is prepared is not refused.
+pub fn prepared_is_not_refused()
+    ensures { PreparedIsNotRefused }
+{}

@@ -1,0 +1,6 @@
+//! Tests of the top call over files and sinks in memory: they compare what it writes and answers with answers from
+//! outside. Nothing else is here, so that `ste_program` itself is proved once.
+#![tactic(auto)]
+
+#[cfg(test)]
+mod tests;

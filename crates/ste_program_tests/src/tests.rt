@@ -1,0 +1,547 @@
+//! What `run` writes and answers, on worked examples, faulty texts and failing files and sinks.
+
+use ste_program::io::{MemoryFiles, MemorySink};
+use ste_program::run::{Status, run};
+use std::alloc::{AllocError, Global};
+use std::process::Abort;
+use std::test::Fail;
+use ste_base::{NumberFault, read_number};
+
+const INVERTER: &str = ".model inv\n.inputs a\n.outputs y\n.names a y\n0 1\n.end\n";
+
+const INVERTS: &str = ".vars p\n.ste t1\n.ant a = p from 0 to 1\n.con y = !p from 0 to 1\n.end\n";
+
+const LATCH: &str = ".model l\n.inputs d\n.outputs q\n.latch d q\n.end\n";
+
+const MUX: &str = ".model mux\n.inputs s a b\n.outputs y\n.names s a b y\n01- 1\n1-1 1\n.end\n";
+
+const AND_NOT: &str =
+    ".model an\n.inputs a b\n.outputs y\n.names b n\n0 1\n.names a n y\n11 1\n.end\n";
+
+const BOTH: &str =
+    ".model both\n.inputs a\n.outputs y\n.names a n\n0 1\n.names a n y\n11 1\n.end\n";
+
+const SHIFT: &str =
+    ".model shift\n.inputs d\n.outputs c\n.latch d a\n.latch a b\n.latch b c\n.end\n";
+
+const TOGGLE: &str = ".model toggle\n.inputs\n.outputs q\n.names q n\n0 1\n.latch n q\n.end\n";
+
+const NOT_YET: &str = "stework: not yet\n";
+
+/// The words of a check of the files `n` and `t`.
+fn check_words(alloc: Global) -> Result<Vec<String>, AllocError> {
+    let mut words = Vec::new(alloc);
+    for word in ["stework", "check", "n", "t"] {
+        words.push(String::from_str(alloc, word)?)?;
+    }
+    Ok(words)
+}
+
+/// The files `n` and `t`, of which these fetches fail.
+fn files(alloc: Global, net: &str, task: &str, failing: &[u64]) -> Result<MemoryFiles, AllocError> {
+    let mut files = MemoryFiles::new(alloc, failing.to_vec(alloc)?);
+    files.add("n", net.as_bytes())?;
+    files.add("t", task.as_bytes())?;
+    Ok(files)
+}
+
+/// Runs a check, and compares what it answers and writes.
+fn expect(
+    rt: &impl Abort,
+    alloc: Global,
+    net: &str,
+    task: &str,
+    status: Status,
+    out: &str,
+    err: &str,
+) -> Result<(), AllocError> {
+    let words = check_words(alloc)?;
+    let mut files = files(alloc, net, task, &[])?;
+    let mut output = MemorySink::new(alloc, 200, 3, Vec::new(alloc))?;
+    let mut errors = MemorySink::new(alloc, 200, 200, Vec::new(alloc))?;
+    let found = run(alloc, &words, &mut files, &mut output, &mut errors);
+    assert_eq!(rt; output.bytes(), out.as_bytes(), "{task}");
+    assert_eq!(rt; errors.bytes(), err.as_bytes(), "{task}");
+    assert_eq!(rt; found, status, "{task}");
+    Ok(())
+}
+
+#[test]
+fn examples_of_one_gate(rt: HostRuntime) -> Result<(), Fail> {
+    let alloc = rt.alloc();
+    for (net, task, status, out) in [
+        (INVERTER, INVERTS, Status::Passed, "t1: pass\n"),
+        (
+            INVERTER,
+            ".vars p\n.ste t1\n.ant a = p from 0 to 1\n.con y = p from 0 to 1\n.end\n",
+            Status::NotPassed,
+            "t1: strong failure\n",
+        ),
+        (
+            INVERTER,
+            ".vars p\n.ste t1\n.con y = !p from 0 to 1\n.end\n",
+            Status::NotPassed,
+            "t1: weak failure\n",
+        ),
+        (
+            INVERTER,
+            ".vars p\n.ste t1\n.ant a = p from 0 to 1\n.ant a = !p from 0 to 1\n.con y = !p from 0 to 1\n.end\n",
+            Status::NotPassed,
+            "t1: contradictory antecedent\n",
+        ),
+        (
+            INVERTER,
+            ".vars p q\n.ste t1\n.ant a = p from 0 to 1\n.ant a = q from 0 to 1\n.con y = !p from 0 to 1\n.end\n",
+            Status::Passed,
+            "t1: pass\n",
+        ),
+        (
+            INVERTER,
+            ".vars p\n.ste t1\n.ant a = p from 0 to 1\n.con y = !p from 0 to 2\n.end\n",
+            Status::NotPassed,
+            "t1: weak failure\n",
+        ),
+        (
+            INVERTER,
+            ".ste empty\n.end\n",
+            Status::Passed,
+            "empty: pass\n",
+        ),
+    ] {
+        expect(&rt, alloc, net, task, status, out, "")?;
+    }
+    Ok(())
+}
+
+#[test]
+fn examples_of_gates_and_latches(rt: HostRuntime) -> Result<(), Fail> {
+    let alloc = rt.alloc();
+    for (net, task, status, out) in [
+        (
+            MUX,
+            ".ste m\n.ant a = 1 from 0 to 1\n.ant b = 1 from 0 to 1\n.con y = 1 from 0 to 1\n.end\n",
+            Status::Passed,
+            "m: pass\n",
+        ),
+        (
+            BOTH,
+            ".ste g\n.con y = 0 from 0 to 1\n.end\n",
+            Status::NotPassed,
+            "g: weak failure\n",
+        ),
+        (
+            SHIFT,
+            ".vars p\n.ste s\n.ant d = p from 0 to 1\n.con c = p from 3 to 4\n.end\n",
+            Status::Passed,
+            "s: pass\n",
+        ),
+        (
+            SHIFT,
+            ".vars p\n.ste s\n.ant d = p from 0 to 1\n.con c = p from 2 to 3\n.end\n",
+            Status::NotPassed,
+            "s: weak failure\n",
+        ),
+        (
+            TOGGLE,
+            ".vars p\n.ste f\n.ant q = p from 0 to 1\n.con q = !p from 1 to 2\n.con q = p from 2 to 3\n.end\n",
+            Status::Passed,
+            "f: pass\n",
+        ),
+        (
+            TOGGLE,
+            ".vars p\n.ste f\n.ant q = p from 0 to 1\n.con q = p from 1 to 2\n.end\n",
+            Status::NotPassed,
+            "f: strong failure\n",
+        ),
+        (
+            LATCH,
+            ".ste l\n.con q = 1 from 0 to 1\n.end\n",
+            Status::NotPassed,
+            "l: weak failure\n",
+        ),
+        (
+            LATCH,
+            ".vars p\n.ste l\n.ant d = p from 0 to 20\n.con q = p from 1 to 20\n.end\n",
+            Status::Passed,
+            "l: pass\n",
+        ),
+    ] {
+        expect(&rt, alloc, net, task, status, out, "")?;
+    }
+    Ok(())
+}
+
+#[test]
+fn tasks_that_are_not_read_yet(rt: HostRuntime) -> Result<(), Fail> {
+    let alloc = rt.alloc();
+    for task in [
+        ".ste w\n.con y = 0 from 0 to 21\n.end\n",
+        ".ste w\n.con y = 0 from 2 to 1\n.end\n",
+        ".ste w\n.con z = 0 from 0 to 1\n.end\n",
+        ".ste w\n.con y = p from 0 to 1\n.end\n",
+        ".ste w\n.end",
+        "",
+    ] {
+        expect(&rt, alloc, INVERTER, task, Status::Refused, "", NOT_YET)?;
+    }
+    Ok(())
+}
+
+/// A netlist of so many nets, all of them outputs.
+fn wide_net(alloc: Global, nets: u32) -> Result<String, AllocError> {
+    let mut text = String::new(alloc);
+    text.push_str(".model wide\n.outputs")?;
+    for number in 0..nets {
+        text.push_str(format!(in alloc; " n{number}")?.as_str())?;
+    }
+    text.push_str("\n.end\n")?;
+    Ok(text)
+}
+
+#[test]
+fn netlists_that_are_not_checked_yet(rt: HostRuntime) -> Result<(), Fail> {
+    let alloc = rt.alloc();
+    for net in [
+        ".model m\n.inputs a\n.outputs y\n.names a y\n0 1\n.end\n.model n\n.end\n",
+        ".model m\n.inputs a\n.outputs y\n.names a y\n0 1\n.subckt m a=a\n.end\n",
+        ".model m\n.inputs a\n.outputs y\n.names a y\n0 1\n.names y\n.end\n",
+        ".model m\n.inputs a\n.outputs y\n.names a y\n0 1\n.latch a y\n.end\n",
+        ".model m\n.inputs a y\n.outputs y\n.names a y\n0 1\n.end\n",
+        ".model m\n.inputs a\n.clock y\n.names a y\n0 1\n.end\n",
+        ".model m\n.inputs a\n.latch a y re a 0\n.latch a z fe a 0\n.end\n",
+        ".model m\n.inputs a\n.latch a y re a 0\n.latch a z re y 0\n.end\n",
+        ".model nine\n.inputs a b c d e f g h i\n.outputs y\n.names a b c d e f g h i y\n111111111 1\n.end\n",
+        ".model loops\n.inputs a\n.outputs y\n.names y a y\n11 1\n.end\n",
+        ".model late\n.inputs a\n.outputs y\n.names n y\n1 1\n.names a n\n0 1\n.end\n",
+    ] {
+        let task = ".ste w\n.con y = 0 from 0 to 1\n.end\n";
+        expect(&rt, alloc, net, task, Status::Refused, "", NOT_YET)?;
+    }
+    let task = ".ste w\n.con n0 = 0 from 0 to 1\n.end\n";
+    let few = wide_net(alloc, 200)?;
+    expect(
+        &rt,
+        alloc,
+        few.as_str(),
+        task,
+        Status::NotPassed,
+        "w: weak failure\n",
+        "",
+    )?;
+    let many = wide_net(alloc, 201)?;
+    expect(
+        &rt,
+        alloc,
+        many.as_str(),
+        task,
+        Status::Refused,
+        "",
+        NOT_YET,
+    )?;
+    Ok(())
+}
+
+#[test]
+fn netlists_that_are_refused(rt: HostRuntime) -> Result<(), Fail> {
+    let alloc = rt.alloc();
+    for (net, message) in [
+        ("", "stework: n: no model\n"),
+        ("# nothing\n\n.attr a b\n", "stework: n: no model\n"),
+        (
+            ".model m\n.inputs a b\n.outputs y\n.names a b y\n1\\\n 1\n",
+            "stework: n:5: bad line\n",
+        ),
+        (".model m\n.names a b y\n1\n", "stework: n:3: bad line\n"),
+        (".inputs a\n.model m\n", "stework: n:1: bad line\n"),
+        (
+            ".model m\n.end\n.inputs a\n.foo\n",
+            "stework: n:3: bad line\n",
+        ),
+        (
+            ".model m\n.names a y\n0 1\n1 0\n",
+            "stework: n:4: bad line\n",
+        ),
+        (
+            ".model m\n.gate nand2 A=a O=y\n",
+            "stework: n:2: left out: .gate\n",
+        ),
+        (
+            ".model m\n.latch a b as c 2\n",
+            "stework: n:2: left out: as\n",
+        ),
+        (".model m\n\n.foo\n", "stework: n:3: unknown word .foo\n"),
+    ] {
+        // the netlist is refused before the task's text is looked at
+        for task in [INVERTS, "no task"] {
+            expect(&rt, alloc, net, task, Status::Refused, "", message)?;
+        }
+    }
+    Ok(())
+}
+
+#[test]
+fn netlists_of_every_form(rt: HostRuntime) -> Result<(), Fail> {
+    let alloc = rt.alloc();
+    for (net, task, status, out) in [
+        // a cover without rows, covers without inputs, an off-row, and a free net
+        (
+            ".model covers\n.outputs z o n c\n.names z\n.names o\n1\n.names c\n0\n.names a n\n1 0\n.end\n",
+            ".vars p\n.ste k\n.ant a = p from 0 to 1\n.con z = 0 from 0 to 1\n.con o = 1 from 0 to 1\n.con c = 0 from 0 to 1\n.con n = !p from 0 to 1\n.end\n",
+            Status::Passed,
+            "k: pass\n",
+        ),
+        (
+            "# Generated by Yosys\n.model top\n.inputs clk d\n.outputs q\n.names $false\n.names $true\n1\n.names $undef\n.latch d q re clk 2\n.end\n",
+            ".vars p\n.ste s\n.ant d = p from 0 to 1\n.con q = p from 1 to 2\n.end\n",
+            Status::Passed,
+            "s: pass\n",
+        ),
+        (
+            "# Benchmark \"top\"\n.model top\n.inputs d \\\n e\n.outputs q\n\n.latch          n1          q  0\n\n.names d e n1\n11 1\n.end\n",
+            ".vars p\n.ste s\n.ant d = p from 0 to 1\n.ant e = 1 from 0 to 1\n.con q = p from 1 to 2\n.end\n",
+            Status::Passed,
+            "s: pass\n",
+        ),
+        (
+            ".model inv\n.inputs a\n.outputs y\n.names a y\n0 1\n",
+            INVERTS,
+            Status::Passed,
+            "t1: pass\n",
+        ),
+        (
+            ".model and2\n.inputs a\n.inputs b a\n.outputs y\n.names a b y\n11 1\n.end\n",
+            ".vars p\n.ste t1\n.ant a = p from 0 to 1\n.ant b = 1 from 0 to 1\n.con y = p from 0 to 1\n.end\n",
+            Status::Passed,
+            "t1: pass\n",
+        ),
+        // a latch that begins with 1 begins with either bit, since the task asks for no reset
+        (
+            ".model l\n.inputs d\n.outputs q\n.latch d q 1\n.end\n",
+            ".ste f\n.con q = 1 from 0 to 1\n.end\n",
+            Status::NotPassed,
+            "f: weak failure\n",
+        ),
+    ] {
+        expect(&rt, alloc, net, task, status, out, "")?;
+    }
+    Ok(())
+}
+
+/// The set of net `y` as the verdict on `y = 1` tells it: 1, 0 or X.
+fn set_of_output(rt: &impl Abort, alloc: Global, net: &str, given: &str) -> Result<u8, AllocError> {
+    let task = format!(in alloc; ".ste t\n{given}.con y = 1 from 0 to 1\n.end\n")?;
+    let words = check_words(alloc)?;
+    let mut files = files(alloc, net, task.as_str(), &[])?;
+    let mut output = MemorySink::new(alloc, 100, 100, Vec::new(alloc))?;
+    let mut errors = MemorySink::new(alloc, 100, 100, Vec::new(alloc))?;
+    let _ = run(alloc, &words, &mut files, &mut output, &mut errors);
+    if output.bytes() == "t: pass\n".as_bytes() {
+        Ok(b'1')
+    } else if output.bytes() == "t: strong failure\n".as_bytes() {
+        Ok(b'0')
+    } else {
+        assert_eq!(rt; output.bytes(), "t: weak failure\n".as_bytes());
+        Ok(b'X')
+    }
+}
+
+/// The antecedent that gives these inputs their values, where they are not X.
+fn given(alloc: Global, inputs: &[&str], values: &[u8]) -> Result<String, AllocError> {
+    let mut lines = String::new(alloc);
+    for (input, value) in inputs.iter().zip(values) {
+        let name = *input;
+        let line = match *value {
+            b'0' => format!(in alloc; ".ant {name} = 0 from 0 to 1\n")?,
+            b'1' => format!(in alloc; ".ant {name} = 1 from 0 to 1\n")?,
+            _ => String::new(alloc),
+        };
+        lines.push_str(line.as_str())?;
+    }
+    Ok(lines)
+}
+
+/// Compares the sets of net `y` with a table that was made by hand: the values of the inputs, and the set.
+fn compare(
+    rt: &impl Abort,
+    alloc: Global,
+    net: &str,
+    inputs: &[&str],
+    table: &[(&str, u8)],
+) -> Result<(), AllocError> {
+    for (values, set) in table {
+        let lines = given(alloc, inputs, values.as_bytes())?;
+        assert_eq!(rt;
+            set_of_output(rt, alloc, net, lines.as_str())?,
+            *set,
+            "at {values}"
+        );
+    }
+    Ok(())
+}
+
+#[test]
+fn sets_of_a_multiplexer(rt: HostRuntime) -> Result<(), Fail> {
+    let alloc = rt.alloc();
+    compare(
+        &rt,
+        alloc,
+        MUX,
+        &["s", "a", "b"],
+        &[
+            ("000", b'0'),
+            ("001", b'0'),
+            ("00X", b'0'),
+            ("010", b'1'),
+            ("011", b'1'),
+            ("01X", b'1'),
+            ("0X0", b'X'),
+            ("0X1", b'X'),
+            ("0XX", b'X'),
+            ("100", b'0'),
+            ("101", b'1'),
+            ("10X", b'X'),
+            ("110", b'0'),
+            ("111", b'1'),
+            ("11X", b'X'),
+            ("1X0", b'0'),
+            ("1X1", b'1'),
+            ("1XX", b'X'),
+            ("X00", b'0'),
+            ("X01", b'X'),
+            ("X0X", b'X'),
+            ("X10", b'X'),
+            ("X11", b'1'),
+            ("X1X", b'X'),
+            ("XX0", b'X'),
+            ("XX1", b'X'),
+            ("XXX", b'X'),
+        ],
+    )?;
+    Ok(())
+}
+
+#[test]
+fn sets_of_two_gates(rt: HostRuntime) -> Result<(), Fail> {
+    let alloc = rt.alloc();
+    compare(
+        &rt,
+        alloc,
+        AND_NOT,
+        &["a", "b"],
+        &[
+            ("00", b'0'),
+            ("01", b'0'),
+            ("0X", b'0'),
+            ("10", b'1'),
+            ("11", b'0'),
+            ("1X", b'X'),
+            ("X0", b'X'),
+            ("X1", b'0'),
+            ("XX", b'X'),
+        ],
+    )?;
+    compare(
+        &rt,
+        alloc,
+        BOTH,
+        &["a"],
+        &[("0", b'0'), ("1", b'0'), ("X", b'X')],
+    )?;
+    Ok(())
+}
+
+#[test]
+fn what_fails(rt: HostRuntime) -> Result<(), Fail> {
+    let alloc = rt.alloc();
+    let words = check_words(alloc)?;
+    let cannot_write = "stework: cannot write the report\n";
+    // which fetches fail, the output's room and its failing writes, the error sink's failing writes; and what is taken
+    for (fetches, room, writes, tells, status, out, err) in [
+        (
+            &[1u64] as &[u64],
+            100,
+            &[] as &[u64],
+            &[] as &[u64],
+            Status::Faulted,
+            "",
+            "stework: cannot read n\n",
+        ),
+        (
+            &[2],
+            100,
+            &[],
+            &[],
+            Status::Faulted,
+            "",
+            "stework: cannot read t\n",
+        ),
+        (&[], 100, &[1], &[], Status::Faulted, "", cannot_write),
+        (&[], 100, &[2], &[], Status::Faulted, "t1: ", cannot_write),
+        (&[], 5, &[], &[], Status::Faulted, "t1: p", cannot_write),
+        (&[], 100, &[1], &[1], Status::Faulted, "", ""),
+        (&[1], 100, &[], &[1], Status::Faulted, "", ""),
+        (&[], 100, &[], &[1], Status::Passed, "t1: pass\n", ""),
+    ] {
+        let mut files = files(alloc, INVERTER, INVERTS, fetches)?;
+        let mut output = MemorySink::new(alloc, room, 4, writes.to_vec(alloc)?)?;
+        let mut errors = MemorySink::new(alloc, 100, 100, tells.to_vec(alloc)?)?;
+        let found = run(alloc, &words, &mut files, &mut output, &mut errors);
+        assert_eq!(&rt; found, status, "{err}");
+        assert_eq!(&rt; output.bytes(), out.as_bytes(), "{err}");
+        assert_eq!(&rt; errors.bytes(), err.as_bytes(), "{err}");
+    }
+    Ok(())
+}
+
+/// A text of 65,537 bytes, one more than a file may have.
+fn large_text(alloc: Global) -> Result<Vec<u8>, AllocError> {
+    let mut text = Vec::new(alloc);
+    text.push(b'.')?;
+    for _ in 0..16 {
+        let half = text.as_slice().to_vec(alloc)?;
+        text.extend_from_slice(&half)?;
+    }
+    text.push(b'.')?;
+    Ok(text)
+}
+
+#[test]
+fn words_and_sizes(rt: HostRuntime) -> Result<(), Fail> {
+    let alloc = rt.alloc();
+    let large = large_text(alloc)?;
+    for (texts, large_file) in [
+        (&["stework", "check", "n"] as &[&str], false),
+        (&["stework", "check", "n", "t", "t"], false),
+        (&["stework", "Check", "n", "t"], false),
+        (&[], false),
+        (&["stework", "check", "n", "t"], true),
+    ] {
+        let mut words = Vec::new(alloc);
+        for text in texts {
+            words.push(String::from_str(alloc, text)?)?;
+        }
+        let mut files = files(alloc, INVERTER, INVERTS, &[])?;
+        if large_file {
+            files.add("t", &large)?;
+        }
+        let mut output = MemorySink::new(alloc, 100, 100, Vec::new(alloc))?;
+        let mut errors = MemorySink::new(alloc, 100, 100, Vec::new(alloc))?;
+        let found = run(alloc, &words, &mut files, &mut output, &mut errors);
+        assert_eq!(&rt; found, Status::Refused);
+        assert_eq!(&rt; output.bytes().len(), 0);
+        assert_eq!(&rt; errors.bytes(), NOT_YET.as_bytes());
+    }
+    Ok(())
+}
+
+#[test]
+fn numbers(rt: HostRuntime) {
+    assert_eq!(&rt; read_number(b"", 100), Err(NumberFault::NotANumber));
+    assert_eq!(&rt; read_number(b"12a", 100), Err(NumberFault::NotANumber));
+    assert_eq!(&rt; read_number(b"0100", 100), Ok(100));
+    assert_eq!(&rt; read_number(b"101", 100), Err(NumberFault::TooLarge));
+    assert_eq!(&rt;
+        read_number(b"18446744073709551616", u64::MAX),
+        Err(NumberFault::TooLarge)
+    );
+}
