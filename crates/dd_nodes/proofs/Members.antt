@@ -1,9 +1,9 @@
 -- Members of lists, and how many different ones there may be.
-use Rattle.std.proofs.Common.{◌≡◌, ◌≢◌, zero, suc, ◌≤◌, Bool, true, false, List, [], ◌∷◌, length, map, get_or, ◌⊎◌, inl, inr, ⊎_elim, refl, sym, ◌∙◌, ap, subst, arith, cond, Contains, Decides}
+use Rattle.std.proofs.Common.{◌≡◌, ◌≢◌, zero, suc, ◌≤◌, Bool, true, false, List, [], ◌∷◌, ◌++◌, length, map, get_or, ◌⊎◌, inl, inr, ⊎_elim, refl, sym, ◌∙◌, ap, subst, arith, cond, Contains, Decides}
 use Rattle.std.specs.Cmp.{decided}
 use Rattle.std.specs.List.{AllPairs, filter}
 use Rattle.std.specs.Set.{unique_keys, is_member}
-use Rattle.std.proofs.lemmas.List.Elements.{Contains-get_or}
+use Rattle.std.proofs.lemmas.List.Elements.{Contains-get_or, Contains-append_cases}
 use Rattle.std.proofs.lemmas.List.Kept.{AllPairs-cons}
 use Rattle.std.proofs.lemmas.Map.Made.{length-le_from_is_member, is_member-Decides, IsDistinct-from_AllPairs}
 
@@ -76,6 +76,24 @@ unique_of_by eq y ys x false has again = ⊎_elim
 pub Contains-unique_of : {K : Type 0} (eq : K → K → Bool) (xs : List K) (x : K) → Contains (unique_keys eq xs) x → Contains xs x
 Contains-unique_of eq [] x has = has
 Contains-unique_of eq (y ∷ ys) x has = unique_of_by eq y ys x (is_member eq ys y) has (Contains-unique_of eq ys x)
+
+pub apart-cons : {X : Type 0} (x : X) (xs : List X) → ((y : X) → Contains xs y → x ≢ y) → AllPairs (λ a b. a ≢ b) xs → AllPairs (λ a b. a ≢ b) (x ∷ xs)
+apart-cons x xs differ apart = AllPairs-cons (λ a b. a ≢ b) x xs (λ k d lt. differ (get_or xs k d) (Contains-get_or xs k d lt)) apart
+
+apart-head : {X : Type 0} (x : X) (xs : List X) (y : X) → AllPairs (λ a b. a ≢ b) (x ∷ xs) → Contains xs y → x ≢ y
+apart-head x xs y h (k, lt, at) e = h zero (suc k) y (omega arith) (omega arith) (e ∙ sym at)
+
+apart-tail : {X : Type 0} (x : X) (xs : List X) → AllPairs (λ a b. a ≢ b) (x ∷ xs) → AllPairs (λ a b. a ≢ b) xs
+apart-tail x xs h i j d lt inside = h (suc i) (suc j) d (omega arith) (omega arith)
+
+pub apart-append : {X : Type 0} (xs ys : List X) → AllPairs (λ a b. a ≢ b) xs → AllPairs (λ a b. a ≢ b) ys → ((x : X) → Contains xs x → Contains ys x → ⊥)
+    → AllPairs (λ a b. a ≢ b) (xs ++ ys)
+apart-append [] ys h k differ = k
+apart-append (x ∷ xs) ys h k differ = apart-cons x (xs ++ ys)
+    (λ y has. ⊎_elim (λ (left : Contains xs y). apart-head x xs y h left)
+    (λ (right : Contains ys y). λ (e : x ≡ y). differ y (subst (λ z. Contains (x ∷ xs) z) e (Contains-head x xs)) right)
+    (Contains-append_cases xs ys y has))
+    (apart-append xs ys (apart-tail x xs h) k (λ z left right. differ z (Contains-tail x xs z left) right))
 
 apart_by : {K : Type 0} {eq : K → K → Bool} (same : (a b : K) → Decides (eq a b) (a ≡ b)) (y : K) (ys : List K) (test : Bool) → is_member eq ys y ≡ test
     → AllPairs (λ a b. a ≢ b) (unique_keys eq ys) → AllPairs (λ a b. a ≢ b) (cond test (unique_keys eq ys) (y ∷ unique_keys eq ys))

@@ -10,8 +10,8 @@ use Rattle.dd_nodes.specs.declared.node.Ref.{Ref}
 use Rattle.dd_nodes.specs.declared.node.Node.{Node}
 use Rattle.dd_nodes.specs.Diagram.{Held, IsFrom, IsDiagram, IsCofactor, Grows, child, same_ref}
 use Rattle.dd_nodes.specs.Stores.{Store, function, IsRef, Keeps}
-use Rattle.dd_nodes.specs.Functions.{on_walks, node_refs, size, node_count, IsNodeRef}
-use Rattle.dd_nodes.proofs.Walks.{same_numbers, IsAt, from_held, from_cases, Cases, child-above, child-from, child-grows, at_or_above, IsFrom-less, value-of_child, up_to, length-up_to, IsCofactor-refl, IsCofactor-trans}
+use Rattle.dd_nodes.specs.Functions.{on_walks, node_refs, size, node_count, IsNodeRef, Reaches}
+use Rattle.dd_nodes.proofs.Walks.{same_numbers, from_constant, child-constant, IsAt, from_held, from_cases, Cases, child-above, child-from, child-grows, at_or_above, IsFrom-less, value-of_child, up_to, length-up_to, IsCofactor-refl, IsCofactor-trans}
 use Rattle.dd_nodes.proofs.Stores.{IsGood, IsGood-at}
 use Rattle.dd_nodes.proofs.Members.{Contains-head, Contains-tail, Contains-cons_cases, Contains-none, Contains-filter, Contains-filter_of, Contains-unique, Contains-unique_of, unique-apart}
 use Rattle.dd_nodes.proofs.Counts.{same_ref-tells, count_nodes}
@@ -84,10 +84,6 @@ pub walks-child : (h : Held) (v n i j : ℕ) (b : Bool) (r x : Ref) → IsDiagra
     → Contains (on_walks h i n r) (child h j b x)
 walks-child h v n i j b r x d e f g has = walks-child_by h v n i j b r x d e f has (at_or_above h j x g)
 
--- x is on the walks from r
-abbrev pub Reaches : Store → Ref → Ref → Type 0
-Reaches s r x = Contains (on_walks s.held 0 s.vars r) x
-
 pub Reaches-self : (s : Store) (r : Ref) → Reaches s r r
 Reaches-self s r = walks-self s.held 0 s.vars r
 
@@ -151,6 +147,14 @@ under_next s r j b x d lt f u =
 is_under : (s : Store) (r x : Ref) → IsGood s → IsRef s r → Reaches s r x → IsUnder s r x
 is_under s r x d f has = walks_all s.held s.vars s.vars 0 r (IsUnder s r) d (omega arith) f
     (record { ref = f; cofactor = IsCofactor-refl s.vars (function s r) }) (λ j b y lt from u. under_next s r j b y d lt from u) x has
+
+pub Reaches-ref : (s : Store) (r x : Ref) → IsGood s → IsRef s r → Reaches s r x → IsRef s x
+Reaches-ref s r x d f has = (is_under s r x d f has).ref
+
+-- a constant reaches itself alone
+pub Reaches-constant : (s : Store) (r x : Ref) → IsGood s → r.0 < 2 → Reaches s r x → x ≡ r
+Reaches-constant s r x d c has = walks_all s.held s.vars s.vars 0 r (λ y. y ≡ r) d (omega arith) (from_constant s.held 0 r c) refl
+    (λ j b y lt from same. ap (child s.held j b) same ∙ child-constant s.held s.vars j b r d c) x has
 
 held_by : (h : Held) (x : Ref) → Cases h 0 x → 2 ≤ x.0 → IsSome (h x)
 held_by h x (inl c) le = absurd (omega arith)

@@ -57,6 +57,10 @@ abbrev pub on_walks : Held → ℕ → ℕ → Ref → List Ref
 on_walks h i zero r = r ∷ []
 on_walks h i (suc left) r = r ∷ (on_walks h (i + 1) left (child h i false r) ++ on_walks h (i + 1) left (child h i true r))
 
+-- x is on the walks from r
+abbrev pub Reaches : Store → Ref → Ref → Type 0
+Reaches s r x = Contains (on_walks s.held 0 s.vars r) x
+
 -- the references of the diagram of r that are no constants, each once
 abbrev pub node_refs : Store → Ref → List Ref
 node_refs s r = unique_keys same_ref (filter (λ x. nat_lt 1 x.0) (on_walks s.held 0 s.vars r))
