@@ -1,11 +1,16 @@
+//! Why an operation has no result.
+
 use dd_nodes::MkFault;
+use thiserror::Error;
 
 /// Why an operation has no result.
-#[derive(Clone, Copy, Debug, PartialEq, Eq, Drop)]
+#[derive(Clone, Copy, Debug, PartialEq, Eq, Drop, Error)]
 pub enum OpFault {
     /// A node of the result is new, and the store may make no more.
+    #[error("no step is left for a new node")]
     StepsOut,
     /// There is no memory for a node, or for what the call remembers.
+    #[error("out of memory")]
     OutOfMemory,
 }
 

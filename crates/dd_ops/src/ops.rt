@@ -1,13 +1,30 @@
-ghost use Rattle.std.specs.Prelude.{◌≡◌, ◌<◌, ◌↔◌, ◌&&◌, ◌||◌, not, Bool, true, false, List, length, IsTrue, if◌then◌else◌, slice_index_or};
-ghost use Rattle.dd_nodes.specs.Stores.{IsRef, HaveOneFunction, function};
-ghost use Rattle.dd_ops.specs.Answer.{Answer, xor_bit};
+//! The operations; begin with `Ops`.
 
-use crate::combine::combine;
+ghost use Rattle.std.specs.Prelude.{◌≡◌, ◌<◌, ◌≤◌, ◌+◌, ◌*◌, ◌↔◌, ◌&&◌, ◌||◌, not, Bool, true, false, List, length, IsTrue, if◌then◌else◌, slice_index_or};
+ghost use Rattle.dd_nodes.specs.Functions.{size};
+ghost use Rattle.dd_nodes.specs.Stores.{IsRef, HaveOneFunction, function};
+ghost use Rattle.dd_ops.specs.Answer.{Answer, xor_bit, op_bit};
+ghost use Rattle.dd_ops.specs.Recursion.{AreRefs, named, choice_rule};
+
+use crate::combine::answer;
+use crate::connective::{And, Choice, Or, Xor};
 use crate::fault::OpFault;
-use crate::operands::{Connective, Operands};
-use dd_nodes::{Nodes, Ref};
+use crate::operands::{Operands, pair};
+use dd_nodes::{Nodes, Ref, Steps};
 use std::alloc::Global;
-use std::collections::HashMap;
+use std::marker::Brand;
+use std::sync::ledger::{Blank, Ledger};
+
+/// The operations of two functions that `apply` knows.
+#[derive(Clone, Copy, Debug, PartialEq, Eq, Drop)]
+pub enum Op {
+    /// 1 where both are 1.
+    And,
+    /// 1 where at least one of them is 1.
+    Or,
+    /// 1 where they differ.
+    Xor,
+}
 
 /// The operations. They take references that are constant or held. Each node that a call makes has a cofactor of the
 /// call's result as its function, and what was held stays held with the same node, after an error too. `StepsOut` comes
@@ -37,7 +54,7 @@ impl Ops {
         requires { IsRef (N.store nodes.old) a }
         ensures { Answer (λ bits. not (function (N.store nodes.old) a bits)) (N.store nodes.old) (N.store nodes.new) result }
     {
-        self.ite(nodes, a, Ref::FALSE, Ref::TRUE)
+        self.xor(nodes, a, Ref::TRUE)
     }
 
     /// 1 where both are 1.
@@ -46,7 +63,7 @@ impl Ops {
         requires right { IsRef (N.store nodes.old) b }
         ensures { Answer (λ bits. function (N.store nodes.old) a bits && function (N.store nodes.old) b bits) (N.store nodes.old) (N.store nodes.new) result }
     {
-        self.ite(nodes, a, b, Ref::FALSE)
+        uncounted::<N, Brand>(self, nodes, Op::And, a, b, Blank::new(1))
     }
 
     /// 1 where at least one of them is 1.
@@ -55,7 +72,7 @@ impl Ops {
         requires right { IsRef (N.store nodes.old) b }
         ensures { Answer (λ bits. function (N.store nodes.old) a bits || function (N.store nodes.old) b bits) (N.store nodes.old) (N.store nodes.new) result }
     {
-        self.ite(nodes, a, Ref::TRUE, b)
+        uncounted::<N, Brand>(self, nodes, Op::Or, a, b, Blank::new(1))
     }
 
     /// 1 where they differ.
@@ -64,12 +81,7 @@ impl Ops {
         requires right { IsRef (N.store nodes.old) b }
         ensures { Answer (λ bits. xor_bit (function (N.store nodes.old) a bits) (function (N.store nodes.old) b bits)) (N.store nodes.old) (N.store nodes.new) result }
     {
-        let x = Operands {
-            first: a,
-            second: b,
-            third: Ref::FALSE,
-        };
-        combine(nodes, &mut HashMap::new(self.alloc), Connective::Xor, x)
+        uncounted::<N, Brand>(self, nodes, Op::Xor, a, b, Blank::new(1))
     }
 
     /// `a` where `c` is 1, and `b` where it is 0.
@@ -84,7 +96,32 @@ impl Ops {
             second: a,
             third: b,
         };
-        combine(nodes, &mut HashMap::new(self.alloc), Connective::Ite, x)
+        chosen::<N, Brand>(self.alloc, nodes, x, Blank::new(1))
+    }
+
+    /// The operation `op`, with a counter of its steps. A step is one pair of references that is expanded; no pair is
+    /// expanded twice, so that diagrams of m and n nodes take at most (m + 2) * (n + 2) steps. A step makes at most one
+    /// node.
+    pub fn apply<N: Nodes, L: Ledger>(
+        &self,
+        nodes: &mut N,
+        op: Op,
+        a: Ref,
+        b: Ref,
+        steps: &mut Steps<L>,
+    ) -> Result<Ref, OpFault>
+        requires left { IsRef (N.store nodes.old) a }
+        requires right { IsRef (N.store nodes.old) b }
+        ensures answer { Answer (λ bits. op_bit op (function (N.store nodes.old) a bits) (function (N.store nodes.old) b bits)) (N.store nodes.old) (N.store nodes.new) result }
+        ensures bound { steps.new ≤ steps.old + (size (N.store nodes.old) a + 2) * (size (N.store nodes.old) b + 2) }
+        ensures counted { length (N.store nodes.new).made + steps.old ≤ length (N.store nodes.old).made + steps.new }
+    {
+        let x = pair(a, b);
+        match op {
+            Op::And => answer::<And, N, L>(self.alloc, nodes, x, steps),
+            Op::Or => answer::<Or, N, L>(self.alloc, nodes, x, steps),
+            Op::Xor => answer::<Xor, N, L>(self.alloc, nodes, x, steps),
+        }
     }
 
     /// Whether the function is 0 at every assignment. It takes no memory.
@@ -111,4 +148,39 @@ impl Ops {
     {
         a == b
     }
+}
+
+/// `apply` with a counter that is thrown away.
+fn uncounted<N: Nodes, L: Ledger>(
+    ops: &Ops,
+    nodes: &mut N,
+    op: Op,
+    a: Ref,
+    b: Ref,
+    blank: Blank,
+) -> Result<Ref, OpFault>
+    requires name { blank.name ≡ L.name }
+    requires all { blank.parts ≡ L.parts }
+    requires some { 0 < blank.parts }
+    requires left { IsRef (N.store nodes.old) a }
+    requires right { IsRef (N.store nodes.old) b }
+    ensures { Answer (λ bits. op_bit op (function (N.store nodes.old) a bits) (function (N.store nodes.old) b bits)) (N.store nodes.old) (N.store nodes.new) result }
+{
+    ops.apply::<N, L>(nodes, op, a, b, &mut Steps::new(blank))
+}
+
+/// A choice, with a counter that is thrown away.
+fn chosen<N: Nodes, L: Ledger>(
+    alloc: Global,
+    nodes: &mut N,
+    x: Operands,
+    blank: Blank,
+) -> Result<Ref, OpFault>
+    requires name { blank.name ≡ L.name }
+    requires all { blank.parts ≡ L.parts }
+    requires some { 0 < blank.parts }
+    requires refs { AreRefs (N.store nodes.old) x }
+    ensures { Answer (named choice_rule (N.store nodes.old) x) (N.store nodes.old) (N.store nodes.new) result }
+{
+    answer::<Choice, N, L>(alloc, nodes, x, &mut Steps::new(blank))
 }

@@ -1,0 +1,71 @@
+//! A few results in place; begin with `Few`.
+
+use crate::operands::Operands;
+use dd_nodes::Ref;
+use std::marker::Model;
+
+/// Operands, and what was made of them.
+#[derive(Clone, Copy, Drop)]
+pub struct Entry {
+    pub operands: Operands,
+    pub result: Ref,
+}
+
+/// What stands at a place that is not used yet.
+const BLANK: Entry = Entry {
+    operands: Operands {
+        first: Ref::FALSE,
+        second: Ref::FALSE,
+        third: Ref::FALSE,
+    },
+    result: Ref::FALSE,
+};
+
+/// At most twelve results, which contracts see as a list. They take no memory.
+#[derive(Drop)]
+pub struct Few {
+    entries: [Entry; 12],
+    count: usize,
+}
+
+impl Model for Few {
+    ghost use Rattle.std.specs.Prelude.{List, take, ◌≤◌};
+    ghost use Rattle.dd_ops.specs.declared.few.Entry.{Entry};
+
+    ghost Value = { List Entry };
+
+    ghost view = { λ f. take f.count f.entries };
+
+    ghost invariant = { λ f. f.count ≤ 12 };
+}
+
+impl Few {
+    ghost use Rattle.std.specs.Prelude.{◌≡◌, ◌++◌, ◌∷◌, [], if◌then◌else◌};
+
+    pub fn new() -> Few
+        ensures { result ≡ [] }
+    {
+        Few {
+            entries: [BLANK; 12],
+            count: 0,
+        }
+    }
+
+    pub fn as_slice(&self) -> &[Entry]
+        ensures { result.now ≡ self.now }
+    {
+        &self.entries[..self.count]
+    }
+
+    /// Whether there is a place for the entry, which is then put behind the others.
+    pub fn push(&mut self, entry: Entry) -> bool
+        ensures { self.new ≡ (if result then self.old ++ entry ∷ [] else self.old) }
+    {
+        if self.count == 12 {
+            return false;
+        }
+        self.entries[self.count] = entry;
+        self.count += 1;
+        true
+    }
+}
