@@ -1,0 +1,91 @@
+-- Meaning and laws: steps of any seats as data, what a list of them makes of a table, and what holds after each list.
+use Rattle.std.specs.Prelude.{◌≡◌, ◌≢◌, ℕ, ◌+◌, ◌<◌, ◌≤◌, List, [], ◌∷◌, ◌++◌, length, slice_index, slice_set, replicate, Some, ◌⊎◌}
+use mathlib.Core.Option.{some}
+use lib.ListN.{get_elem?}
+use Rattle.std.specs.FinMap.{get}
+use Rattle.dd_nodes.specs.declared.node.Node.{Node}
+use Rattle.dd_table.specs.declared.views.View.{View}
+use Rattle.dd_table.specs.declared.rule.Sizes.{Sizes}
+use Rattle.dd_table.specs.Layout.{walk_slot}
+use Rattle.dd_table.specs.Views.{made_view, found_view, met_view, giving_view, given_view, joined_view, spent_view, first_view}
+use Rattle.dd_table.specs.Rules.{KeepsRules}
+use Rattle.dd_table.specs.Tells.{MayMake, HasWalked}
+
+-- one step of one seat, which comes first: it writes a word at the n-th slot of its walk, finds it there, meets some
+-- word at a slot, looks without learning, splits off a quota, or joins another seat
+pub data Move : Type 0 where
+  writes : ℕ → ℕ → ℕ → Move
+  finds : ℕ → ℕ → ℕ → Move
+  meets : ℕ → ℕ → Move
+  looks : ℕ → Move
+  splits : ℕ → ℕ → Move
+  joins : ℕ → ℕ → Move
+
+-- the words, and the views of all seats
+abbrev pub TableState : Type 0
+TableState = List ℕ × List View
+
+-- the seat has the view v, which is not spent
+abbrev pub Sees : TableState → ℕ → View → Type 0
+Sees s id v = (get_elem? s.1 id ≡ some v) × (0 < v.slots)
+
+-- the seat may seek w, and comes to the n-th slot of its walk
+abbrev pub Seeks : View → ℕ → ℕ → Type 0
+Seeks v w n = MayMake v w × HasWalked v w n
+
+-- the move may be made in the state s, and makes t of it
+abbrev pub MoveMakes : Move → TableState → TableState → Type 0
+MoveMakes (writes id w n) s t =
+    (v : View) × Sees s id v × Seeks v w n × (length v.made < v.limit) × (slice_index s.0 (walk_slot v.slots w n) ≡ 0)
+    × (t ≡ (slice_set s.0 (walk_slot v.slots w n) w, slice_set s.1 id (made_view v (walk_slot v.slots w n) w)))
+MoveMakes (finds id w n) s t =
+    (v : View) × Sees s id v × Seeks v w n × (slice_index s.0 (walk_slot v.slots w n) ≡ w)
+    × (t ≡ (s.0, slice_set s.1 id (found_view v (walk_slot v.slots w n) w)))
+MoveMakes (meets id i) s t =
+    (v : View) × Sees s id v × (i < v.slots) × (slice_index s.0 i ≢ 0)
+    × (t ≡ (s.0, slice_set s.1 id (met_view v i (slice_index s.0 i))))
+MoveMakes (looks id) s t = t ≡ s
+MoveMakes (splits id q) s t =
+    (v : View) × Sees s id v × (q + length v.made ≤ v.limit)
+    × (t ≡ (s.0, slice_set s.1 id (giving_view q v) ++ given_view q v ∷ []))
+MoveMakes (joins id other) s t =
+    (v : View) × (u : View) × Sees s id v × Sees s other u × (¬ (other ≡ id))
+    × (t ≡ (s.0, slice_set (slice_set s.1 id (joined_view v u)) other spent_view))
+
+-- the list of moves, in turn, makes t of s
+abbrev pub MovesMake : List Move → TableState → TableState → Type 0
+MovesMake [] s t = t ≡ s
+MovesMake (m ∷ ms) s t = (r : TableState) × MoveMakes m s r × MovesMake ms r t
+
+-- a table that was just opened: all slots are empty, and there is one seat
+abbrev pub open_state : Sizes → TableState
+open_state k = (replicate k.slots 0, first_view k ∷ [])
+
+-- t is reached from a table that was just opened, by some list of steps of any seats
+abbrev pub IsReached : Sizes → TableState → Type 0
+IsReached k t = (moves : List Move) × MovesMake moves (open_state k) t
+
+-- law: after every list of steps of any seats the rules hold
+abbrev pub SchedulesKeepRules : Type 0
+SchedulesKeepRules =
+    (k : Sizes) (t : TableState) → 2 ≤ k.slots → IsReached k t → KeepsRules k.vars k.slots t.0 t.1
+
+-- at most one word changes, and that from 0
+abbrev pub AddsOneWord : List ℕ → List ℕ → Type 0
+AddsOneWord ws xs =
+    (xs ≡ ws) ⊎ ((i : ℕ) × (slice_index ws i ≡ 0) × ((j : ℕ) → j ≢ i → slice_index xs j ≡ slice_index ws j))
+
+-- law, the append-only rule: a step changes at most one word, and that from 0
+abbrev pub MovesAddWords : Type 0
+MovesAddWords = (m : Move) (s t : TableState) → MoveMakes m s t → AddsOneWord s.0 t.0
+
+-- two seats never hold one node under two references, or two nodes under one
+pub record Agree (v u : View) : Type 0 where
+  pub one_reference : (r q : ℕ) (n : Node) → get v.held r ≡ Some n → get u.held q ≡ Some n → r ≡ q
+  pub one_node : (r : ℕ) (m n : Node) → get v.held r ≡ Some m → get u.held r ≡ Some n → m ≡ n
+
+-- law: after every list of steps any two seats agree
+abbrev pub SeatsAgree : Type 0
+SeatsAgree =
+    (k : Sizes) (t : TableState) → 2 ≤ k.slots → IsReached k t
+    → (i j : ℕ) (v u : View) → Sees t i v → Sees t j u → Agree v u

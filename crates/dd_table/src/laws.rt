@@ -1,0 +1,19 @@
+//! What holds of the table in every schedule. The bodies are empty: each contract is a law over lists of steps.
+
+ghost use Rattle.dd_table.specs.Schedules.{SchedulesKeepRules, MovesAddWords, SeatsAgree};
+
+/// After every list of steps of any seats the table keeps its rules: the node-word rule, the walk rule, the view rule
+/// and the quota rule.
+pub fn schedules_keep_the_rules()
+    ensures { SchedulesKeepRules }
+{}
+
+/// A step changes at most one word, and that from 0.
+pub fn words_are_only_added()
+    ensures { MovesAddWords }
+{}
+
+/// After every list of steps of any seats, two of them never hold one node under two references, or two nodes under one.
+pub fn seats_agree()
+    ensures { SeatsAgree }
+{}

@@ -1,0 +1,18 @@
+//! An append-only table of diagram nodes that any number of threads share without a lock. `SharedTable::open` makes
+//! one, with its first session; `TableNodes::on` puts a session on its table, and is a store of nodes that can be split.
+#![tactic(auto)]
+
+pub mod calls;
+pub mod laws;
+pub mod nodes;
+pub mod rule;
+pub mod search;
+pub mod session;
+pub mod steps;
+pub mod table;
+pub mod views;
+pub mod word;
+
+pub use nodes::TableNodes;
+pub use session::Session;
+pub use table::SharedTable;
