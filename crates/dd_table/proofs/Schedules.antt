@@ -10,11 +10,12 @@ use Rattle.dd_table.specs.declared.rule.Sizes.{Sizes}
 use Rattle.dd_table.specs.Layout.{walk_slot}
 use Rattle.dd_table.specs.Views.{made_view, first_view, joined_view}
 use Rattle.dd_table.specs.Rules.{one_if_taken, taken_slots, IsView, KeepsRules}
-use Rattle.dd_table.specs.Schedules.{Move, writes, finds, meets, looks, splits, joins, TableState, MoveMakes, MovesMake, open_state, SchedulesKeepRules, MovesAddWords, SeatsAgree}
+use Rattle.dd_table.specs.Schedules.{Move, writes, finds, meets, looks, splits, joins, TableState, MoveMakes, MovesMake, open_state, SchedulesKeepRules, NodesStandOnce, MovesAddWords, SeatsAgree}
+use Rattle.dd_table.proofs.Layouts.{word_once}
 use Rattle.dd_table.proofs.Walks.{walk_lt}
 use Rattle.dd_table.proofs.OneView.{sizes_of, view_met, view_found, view_first, one_node}
 use Rattle.dd_table.proofs.StepsKeep as steps
-use Rattle.dd_table.proofs.Tellings.{one_reference}
+use Rattle.dd_table.proofs.Tellings.{stands_once, one_reference}
 
 zeros_at : (n i : ℕ) → slice_index (replicate n 0) i ≡ 0
 zeros_at zero i = refl
@@ -84,6 +85,20 @@ all_moves k (m ∷ ms) s t h r = all_moves k ms r.0 t (one_move k m s r.0 h r.1)
 
 pub always : SchedulesKeepRules
 always k t two r = all_moves k r.0 (open_state k) t (opens k (open_state k).0 two refl) r.1
+
+-- a slot behind the last one has no word
+beyond : (ws : List ℕ) (i : ℕ) → slice_index ws i ≢ 0 → i < length ws
+beyond [] i ne = absurd (ne refl)
+beyond (w ∷ ws) zero ne = omega arith
+beyond (w ∷ ws) (suc i) ne = let lt = beyond ws i ne in omega arith
+
+pub stand_once : NodesStandOnce
+stand_once k t two r i j some_i some_j same =
+    let h = always k t two r in
+    let size = h.size in
+    let in_i = beyond t.0 i some_i in
+    let in_j = beyond t.0 j some_j in
+    stands_once k.vars k.slots t.0 t.1 i j h (omega arith) (omega arith) some_i (word_once (slice_index t.0 i) (slice_index t.0 j) same)
 
 pub appends : MovesAddWords
 appends (writes id w n) s t (v, sees, seeks, left, empty', is) =

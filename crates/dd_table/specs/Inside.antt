@@ -3,6 +3,7 @@ use Rattle.std.specs.Prelude.{◌≡◌, ◌≢◌, ◌≤◌, [], length, Some}
 use Rattle.std.specs.FinMap.{get}
 use Rattle.dd_nodes.specs.declared.node.Node.{Node}
 use Rattle.dd_table.specs.declared.session.Session.TheInside.{Inside}
+use Rattle.dd_table.specs.Layout.{most_vars, most_slots}
 use Rattle.dd_table.specs.Sessions.{SessionValue}
 use Rattle.dd_table.specs.Tells.{IsSound, HoldsNothing}
 
@@ -26,8 +27,8 @@ pub record IsSession (s : Inside) : Type 0 where
   pub limit : s.seat.me.0.limit ≡ s.limit
   pub words : s.seat.table_id.words ≡ s.slots
   pub two : 2 ≤ s.slots
-  pub most : s.slots ≤ 32000000
-  pub few : s.vars ≤ 1000
+  pub most : s.slots ≤ most_slots
+  pub few : s.vars ≤ most_vars
   pub sound : IsSound s.seat.me.0
   -- one reference that is held, or 0 where none is
   pub none : s.some ≡ 0 → HoldsNothing s.seat.me.0

@@ -4,6 +4,14 @@ use Rattle.std.specs.Prelude.{ℕ, ◌+◌, ◌*◌, ◌/◌, ◌%◌, ◌^◌}
 use Rattle.dd_nodes.specs.declared.node.Node.{Node}
 use Rattle.dd_table.specs.Codes.{ref}
 
+-- the most variables that a table has: the variable of a node has 10 bits of its word
+abbrev pub most_vars : ℕ
+most_vars = 1000
+
+-- the most slots that a table has: a child of a node has 27 bits of its word
+abbrev pub most_slots : ℕ
+most_slots = 32000000
+
 -- the node in a word: the variable in the upper 10 bits, then each child in 27 bits
 unfoldable pub node_in_word : ℕ → Node
 node_in_word w = record { var = w / 2 ^ 54; lo = ref (w / 2 ^ 27 % 2 ^ 27); hi = ref (w % 2 ^ 27) }

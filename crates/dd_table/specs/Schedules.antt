@@ -6,7 +6,7 @@ use Rattle.std.specs.FinMap.{get}
 use Rattle.dd_nodes.specs.declared.node.Node.{Node}
 use Rattle.dd_table.specs.declared.views.View.{View}
 use Rattle.dd_table.specs.declared.rule.Sizes.{Sizes}
-use Rattle.dd_table.specs.Layout.{walk_slot}
+use Rattle.dd_table.specs.Layout.{node_in_word, walk_slot}
 use Rattle.dd_table.specs.Views.{made_view, found_view, met_view, giving_view, given_view, joined_view, spent_view, first_view}
 use Rattle.dd_table.specs.Rules.{KeepsRules}
 use Rattle.dd_table.specs.Tells.{MayMake, HasWalked}
@@ -69,6 +69,13 @@ IsReached k t = (moves : List Move) × MovesMake moves (open_state k) t
 abbrev pub SchedulesKeepRules : Type 0
 SchedulesKeepRules =
     (k : Sizes) (t : TableState) → 2 ≤ k.slots → IsReached k t → KeepsRules k.vars k.slots t.0 t.1
+
+-- law: after every list of steps no node stands in two slots
+abbrev pub NodesStandOnce : Type 0
+NodesStandOnce =
+    (k : Sizes) (t : TableState) → 2 ≤ k.slots → IsReached k t
+    → (i j : ℕ) → slice_index t.0 i ≢ 0 → slice_index t.0 j ≢ 0
+    → node_in_word (slice_index t.0 i) ≡ node_in_word (slice_index t.0 j) → i ≡ j
 
 -- at most one word changes, and that from 0
 abbrev pub AddsOneWord : List ℕ → List ℕ → Type 0

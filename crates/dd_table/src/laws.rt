@@ -1,11 +1,12 @@
 //! What holds of the table in every schedule. The bodies are empty: each contract is a law over lists of steps.
 
-ghost use Rattle.dd_table.specs.Schedules.{SchedulesKeepRules, MovesAddWords, SeatsAgree};
+ghost use Rattle.dd_table.specs.Schedules.{SchedulesKeepRules, NodesStandOnce, MovesAddWords, SeatsAgree};
 
 /// After every list of steps of any seats the table keeps its rules: the node-word rule, the walk rule, the view rule
-/// and the quota rule.
+/// and the quota rule. So no node stands in two slots.
 pub fn schedules_keep_the_rules()
-    ensures { SchedulesKeepRules }
+    ensures rules { SchedulesKeepRules }
+    ensures once { NodesStandOnce }
 {}
 
 /// A step changes at most one word, and that from 0.

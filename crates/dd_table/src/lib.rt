@@ -2,16 +2,16 @@
 //! one, with its first session; `TableNodes::on` puts a session on its table, and is a store of nodes that can be split.
 #![tactic(auto)]
 
-pub mod calls;
+mod calls;
 pub mod laws;
 pub mod nodes;
 pub mod rule;
-pub mod search;
+mod search;
 pub mod session;
-pub mod steps;
+mod steps;
 pub mod table;
 pub mod views;
-pub mod word;
+mod word;
 
 pub use nodes::TableNodes;
 pub use session::Session;

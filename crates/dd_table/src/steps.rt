@@ -3,6 +3,7 @@
 ghost use Rattle.std.specs.Prelude.{◌≡◌, ◌≢◌, ℕ, ◌<◌, ◌≤◌, ◌+◌, ◌/◌, [], length};
 ghost use Rattle.std.specs.FinMap.{get};
 ghost use Rattle.dd_nodes.specs.declared.node.Node.{Node};
+ghost use Rattle.dd_table.specs.Layout.{most_slots};
 ghost use Rattle.dd_table.specs.Views.{giving_view, given_view, joined_view, union};
 ghost use Rattle.dd_table.specs.Tells.{MayMake, ComesNext, TryTells, LookTells, ReadTells};
 ghost use Rattle.dd_table.specs.Tells.{IsSound, HoldsNothing, IsHeldByOne};
@@ -152,7 +153,7 @@ pub(crate) fn unite(words: &TableWords, seat: &mut TableSeat, other: TableSeat, 
 pub(crate) fn add_limits(words: &TableWords, seat: &mut TableSeat, one: u32, two: u32) -> u32
     requires table { seat.old.table_id ≡ words.now.table_id }
     requires size { words.now.table_id.words ≡ seat.old.me.0.slots }
-    requires live { (0 < seat.old.me.0.slots) × (seat.old.me.0.slots ≤ 32000000) }
+    requires live { (0 < seat.old.me.0.slots) × (seat.old.me.0.slots ≤ most_slots) }
     requires both { seat.old.me.0.limit ≡ one + two }
     ensures sum { result ≡ one + two }
     ensures table { seat.new.table_id ≡ seat.old.table_id }

@@ -3,6 +3,7 @@
 ghost use Rattle.std.specs.Prelude.{◌≡◌, ℕ, ◌<◌, ◌≤◌, ◌/◌, [], length, IfOk};
 ghost use Rattle.std.specs.Mem.Slots.{slots_len, slots_items, IsFull};
 ghost use Rattle.std.specs.FinMap as map;
+ghost use Rattle.dd_table.specs.Layout.{most_vars, most_slots};
 ghost use Rattle.dd_table.specs.Rules.{taken_slots};
 
 use crate::rule::{NodeTable, Sizes};
@@ -34,12 +35,12 @@ impl Model for SharedTable {
 }
 
 impl SharedTable {
-    /// A table of `slots` words, all empty, over `vars` variables, and its first session, which holds nothing, made
-    /// nothing, and may make half as many nodes as there are slots, rounded down. A table takes 8 bytes a slot, and
+    /// A table of `slots` words, all empty, over `vars` variables (at most 1,000), and its first session, which holds
+    /// nothing, made nothing, and may make half as many nodes as there are slots (2 to 32,000,000), rounded down. A table takes 8 bytes a slot, and
     /// twice as many while it is opened.
     pub fn open(alloc: Global, vars: u32, slots: u32) -> Result<(SharedTable, Session), AllocError>
-        requires vars { vars ≤ 1000 }
-        requires slots { (2 ≤ slots) × (slots ≤ 32000000) }
+        requires vars { vars ≤ most_vars }
+        requires slots { (2 ≤ slots) × (slots ≤ most_slots) }
         ensures table { IfOk result (λ r. r.1.table ≡ r.0) }
         ensures sizes { IfOk result (λ r. (r.1.vars ≡ vars) × (r.1.slots ≡ slots)) }
         ensures limit { IfOk result (λ r. r.1.limit ≡ slots / 2) }

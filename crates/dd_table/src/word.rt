@@ -1,13 +1,13 @@
 //! How a node lies in a word, and where the search for a word begins: all that depends on the word's layout.
 
 ghost use Rattle.std.specs.Prelude.{◌≡◌, ◌≢◌, ◌<◌, ◌^◌};
-ghost use Rattle.dd_table.specs.Layout.{node_in_word, walk_slot};
+ghost use Rattle.dd_table.specs.Layout.{most_vars, node_in_word, walk_slot};
 
 use dd_nodes::{Node, Ref};
 
 /// The word of a node. It is not 0 where the children differ.
 pub(crate) fn word_of_node(node: Node) -> u64
-    requires var { node.var < 1000 }
+    requires var { node.var < most_vars }
     requires lo { node.lo.0 < 2 ^ 27 }
     requires hi { node.hi.0 < 2 ^ 27 }
     ensures node { node_in_word result ≡ node }
