@@ -10,6 +10,8 @@ mod search;
 pub mod session;
 mod steps;
 pub mod table;
+#[cfg(test)]
+mod tests;
 pub mod views;
 mod word;
 
