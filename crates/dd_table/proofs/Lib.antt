@@ -8,6 +8,7 @@ pub mod Tellings
 pub mod Tries
 pub mod Looks
 pub mod Schedules
+pub mod Moves
 pub mod Searches
 pub mod SessionSteps
 pub mod Unions

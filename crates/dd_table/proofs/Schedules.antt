@@ -10,7 +10,7 @@ use Rattle.dd_table.specs.declared.rule.Sizes.{Sizes}
 use Rattle.dd_table.specs.Layout.{walk_slot}
 use Rattle.dd_table.specs.Views.{made_view, first_view, joined_view}
 use Rattle.dd_table.specs.Rules.{one_if_taken, taken_slots, IsView, KeepsRules}
-use Rattle.dd_table.specs.Schedules.{Move, writes, finds, meets, looks, splits, joins, TableState, MoveMakes, MovesMake, open_state, SchedulesKeepRules, NodesStandOnce, MovesAddWords, SeatsAgree}
+use Rattle.dd_table.specs.Schedules.{Move, writes, finds, passes, reads, splits, joins, TableState, MoveMakes, MovesMake, open_state, SchedulesKeepRules, NodesStandOnce, MovesAddWords, SeatsAgree}
 use Rattle.dd_table.proofs.Layouts.{word_once}
 use Rattle.dd_table.proofs.Walks.{walk_lt}
 use Rattle.dd_table.proofs.OneView.{sizes_of, view_met, view_found, view_first, one_node}
@@ -67,12 +67,12 @@ one_move k (finds id w n) s t h (v, (at, live), (may, walked), found, is) =
     let in' : walk_slot v.slots w n < k.slots = subst (λ (y : ℕ). walk_slot v.slots w n < y) sizes.1 (walk_lt v.slots w n live) in
     let view' = view_found k.vars k.slots s.0 v (walk_slot v.slots w n) w view sizes in' found may in
     subst (Good k) (sym is) (steps.no_word k.vars k.slots s.0 s.1 id v _ h at view' refl refl)
-one_move k (meets id i) s t h (v, (at, live), in', ne, is) =
+one_move k (passes id i) s t h (v, (at, live), in', ne, is) =
     let view = h.views id v at in
     let sizes = sizes_of k.vars k.slots s.0 v view live in
     let view' = view_met k.vars k.slots s.0 v i view sizes (subst (λ (y : ℕ). i < y) sizes.1 in') ne in
     subst (Good k) (sym is) (steps.no_word k.vars k.slots s.0 s.1 id v _ h at view' refl refl)
-one_move k (looks id) s t h is = subst (Good k) (sym is) h
+one_move k (reads id) s t h is = subst (Good k) (sym is) h
 one_move k (splits id q) s t h (v, (at, live), room, is) =
     subst (Good k) (sym is) (steps.splits k id v q live room record { words = s.0; homes = []; views = s.1 } h at)
 one_move k (joins id other) s t h (v, u, (at, live), (there, _), apart, is) =
@@ -104,8 +104,8 @@ pub appends : MovesAddWords
 appends (writes id w n) s t (v, sees, seeks, left, empty', is) =
     inr (walk_slot v.slots w n, empty', λ j ne. ap (λ (x : TableState). slice_index x.0 j) is ∙ get_or-set_other s.0 (walk_slot v.slots w n) j w 0 ne)
 appends (finds id w n) s t (v, sees, seeks, found, is) = inl (ap (λ (x : TableState). x.0) is)
-appends (meets id i) s t (v, sees, in', ne, is) = inl (ap (λ (x : TableState). x.0) is)
-appends (looks id) s t is = inl (ap (λ (x : TableState). x.0) is)
+appends (passes id i) s t (v, sees, in', ne, is) = inl (ap (λ (x : TableState). x.0) is)
+appends (reads id) s t is = inl (ap (λ (x : TableState). x.0) is)
 appends (splits id q) s t (v, sees, room, is) = inl (ap (λ (x : TableState). x.0) is)
 appends (joins id other) s t (v, u, sees, there, apart, is) = inl (ap (λ (x : TableState). x.0) is)
 

@@ -1,5 +1,5 @@
 -- Meaning and laws: steps of any seats as data, what a list of them makes of a table, and what holds after each list.
-use Rattle.std.specs.Prelude.{◌≡◌, ◌≢◌, ℕ, ◌+◌, ◌<◌, ◌≤◌, List, [], ◌∷◌, ◌++◌, length, slice_index, slice_set, replicate, Some, ◌⊎◌}
+use Rattle.std.specs.Prelude.{◌≡◌, ◌≢◌, ℕ, ◌+◌, ◌<◌, ◌≤◌, ◌==◌, if◌then◌else◌, List, [], ◌∷◌, ◌++◌, length, slice_index, slice_set, replicate, Some, ◌⊎◌}
 use mathlib.Core.Option.{some}
 use lib.ListN.{get_elem?}
 use Rattle.std.specs.FinMap.{get}
@@ -9,15 +9,15 @@ use Rattle.dd_table.specs.declared.rule.Sizes.{Sizes}
 use Rattle.dd_table.specs.Layout.{node_in_word, walk_slot}
 use Rattle.dd_table.specs.Views.{made_view, found_view, met_view, giving_view, given_view, joined_view, spent_view, first_view}
 use Rattle.dd_table.specs.Rules.{KeepsRules}
-use Rattle.dd_table.specs.Tells.{MayMake, HasWalked}
+use Rattle.dd_table.specs.Tells.{MayMake, HasWalked, TryTells, LookTells, ReadTells}
 
--- one step of one seat, which comes first: it writes a word at the n-th slot of its walk, finds it there, meets some
--- word at a slot, looks without learning, splits off a quota, or joins another seat
+-- one step of one seat, which comes first: it writes a word to the n-th slot of its walk, finds it there, passes a slot
+-- with some word, reads without learning, splits off a seat with a quota, or joins another seat
 pub data Move : Type 0 where
   writes : ℕ → ℕ → ℕ → Move
   finds : ℕ → ℕ → ℕ → Move
-  meets : ℕ → ℕ → Move
-  looks : ℕ → Move
+  passes : ℕ → ℕ → Move
+  reads : ℕ → Move
   splits : ℕ → ℕ → Move
   joins : ℕ → ℕ → Move
 
@@ -41,16 +41,20 @@ MoveMakes (writes id w n) s t =
 MoveMakes (finds id w n) s t =
     (v : View) × Sees s id v × Seeks v w n × (slice_index s.0 (walk_slot v.slots w n) ≡ w)
     × (t ≡ (s.0, slice_set s.1 id (found_view v (walk_slot v.slots w n) w)))
-MoveMakes (meets id i) s t =
+MoveMakes (passes id i) s t =
     (v : View) × Sees s id v × (i < v.slots) × (slice_index s.0 i ≢ 0)
     × (t ≡ (s.0, slice_set s.1 id (met_view v i (slice_index s.0 i))))
-MoveMakes (looks id) s t = t ≡ s
+MoveMakes (reads id) s t = t ≡ s
 MoveMakes (splits id q) s t =
     (v : View) × Sees s id v × (q + length v.made ≤ v.limit)
     × (t ≡ (s.0, slice_set s.1 id (giving_view q v) ++ given_view q v ∷ []))
 MoveMakes (joins id other) s t =
     (v : View) × (u : View) × Sees s id v × Sees s other u × (¬ (other ≡ id))
     × (t ≡ (s.0, slice_set (slice_set s.1 id (joined_view v u)) other spent_view))
+
+-- some move makes t of s
+abbrev pub IsMove : TableState → TableState → Type 0
+IsMove s t = (m : Move) × MoveMakes m s t
 
 -- the list of moves, in turn, makes t of s
 abbrev pub MovesMake : List Move → TableState → TableState → Type 0
@@ -96,3 +100,25 @@ abbrev pub SeatsAgree : Type 0
 SeatsAgree =
     (k : Sizes) (t : TableState) → 2 ≤ k.slots → IsReached k t
     → (i j : ℕ) (v u : View) → Sees t i v → Sees t j u → Agree v u
+
+-- the words after a compare-exchange at a slot from 0 to w, and the views after it, where that of its seat is v
+abbrev pub exchanged_state : TableState → ℕ → ℕ → ℕ → View → TableState
+exchanged_state s id slot w v =
+    let x = slice_index s.0 slot in
+    (slice_set s.0 slot (if x == 0 then w else x), slice_set s.1 id v)
+
+-- the state after a load, where the view of its seat is v
+abbrev pub loaded_state : TableState → ℕ → View → TableState
+loaded_state s id v = (s.0, slice_set s.1 id v)
+
+-- law: an operation of the code, under its conditions, is one of the moves, whatever it is told
+pub record OperationsAreMoves : Type 0 where
+  pub try : (s : TableState) (id w n : ℕ) (v u : View) → Sees s id v → Seeks v w n → length v.made < v.limit
+      → TryTells (walk_slot v.slots w n) w (v, []) (slice_index s.0 (walk_slot v.slots w n)) (u, [])
+      → IsMove s (exchanged_state s id (walk_slot v.slots w n) w u)
+  pub look : (s : TableState) (id w n : ℕ) (v u : View) → Sees s id v → Seeks v w n
+      → LookTells (walk_slot v.slots w n) w (v, []) (slice_index s.0 (walk_slot v.slots w n)) (u, [])
+      → IsMove s (loaded_state s id u)
+  pub read : (s : TableState) (id slot : ℕ) (v u : View) → Sees s id v
+      → ReadTells slot (v, []) (slice_index s.0 slot) (u, [])
+      → IsMove s (loaded_state s id u)
