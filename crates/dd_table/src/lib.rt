@@ -5,14 +5,14 @@
 mod calls;
 pub mod laws;
 pub mod nodes;
-pub mod rule;
+mod rule;
 mod search;
 pub mod session;
 mod steps;
 pub mod table;
 #[cfg(test)]
 mod tests;
-pub mod views;
+mod views;
 mod word;
 
 pub use nodes::TableNodes;
