@@ -12,7 +12,7 @@ use Rattle.dd_nodes.specs.Plain.{var_or}
 use Rattle.dd_table.specs.Codes.{ref, ref_code, node_code}
 use Rattle.dd_table.specs.Layout.{node_in_word, walk_slot}
 use Rattle.dd_table.specs.Views.{union}
-use Rattle.dd_table.specs.Rules.{count_of}
+use Rattle.dd_table.specs.Rules.{count_of, IsHeldChild}
 
 -- a session: its table, the numbers of variables and slots, the nodes that it holds by the numbers of their references,
 -- the references that it made, and how many it may make
@@ -58,6 +58,13 @@ gets_quota q k = record k { made = []; limit = q }
 -- two sessions of one table in one
 abbrev pub session_union : SessionValue → SessionValue → SessionValue
 session_union k j = record k { held = union k.held j.held; made = k.made ++ j.made; limit = k.limit + j.limit }
+
+-- the node may be made: its children differ, and each is a constant, or held with a greater variable
+pub record IsMakeable (k : SessionValue) (n : Node) : Type 0 where
+  pub var : n.var < k.vars
+  pub apart : n.lo.0 ≢ n.hi.0
+  pub lo : IsHeldChild k.held n.var n.lo.0
+  pub hi : IsHeldChild k.held n.var n.hi.0
 
 -- the node is held under no reference
 abbrev pub IsNewTo : SessionValue → Node → Type 0

@@ -1,4 +1,5 @@
--- For private functions: what each step on the table asks for, and what it tells of the seat's view.
+-- What each step on the table asks for, which is meaning (`MayMake`, `HasWalked`), and what it tells of the seat's view,
+-- which is for private functions and for the law that each operation of the code is one of the moves.
 use Rattle.std.specs.Prelude.{◌≡◌, ◌≢◌, ℕ, ◌+◌, ◌-◌, ◌/◌, ◌<◌, ◌≤◌, [], ◌∷◌, ◌++◌, length, Option, Some, None, Bool, true, false}
 use Rattle.std.specs.FinMap.{get, insert}
 use Rattle.atomic_table.specs.Table.{Me}

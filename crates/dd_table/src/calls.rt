@@ -3,9 +3,8 @@
 ghost use Rattle.std.specs.Prelude.{◌≡◌, ◌≢◌, ℕ, ◌<◌, ◌≤◌, ◌+◌, length, IfSome, IfNone};
 ghost use Rattle.std.specs.FinMap as map;
 ghost use Rattle.dd_nodes.specs.declared.node.Node.{Node};
-ghost use Rattle.dd_table.specs.Rules.{IsHeldChild};
-ghost use Rattle.dd_table.specs.Sessions.{MkGives, IsGoodSession, IsOutFor, CountsWalk, HeldStays};
-ghost use Rattle.dd_table.specs.Sessions.{gives_quota, gets_quota, session_union};
+ghost use Rattle.dd_table.specs.Sessions.{IsMakeable, MkGives, IsGoodSession, IsOutFor, CountsWalk};
+ghost use Rattle.dd_table.specs.Sessions.{gives_quota, gets_quota, session_union, HeldStays};
 
 use crate::search::search;
 use crate::session::Session;
@@ -24,10 +23,7 @@ fn make<L: Ledger>(
     steps: &mut Steps<L>,
 ) -> Option<Ref>
     requires table { session.old.table ≡ table.now }
-    requires var { node.var < session.old.vars }
-    requires apart { node.lo.0 ≢ node.hi.0 }
-    requires lo { IsHeldChild session.old.held node.var node.lo.0 }
-    requires hi { IsHeldChild session.old.held node.var node.hi.0 }
+    requires may { IsMakeable session.old node }
     ensures some { IfSome result (λ r. MkGives session.old session.new node r.0) }
     ensures none { IfNone result ((session.new ≡ session.old) × IsOutFor session.old node) }
     ensures found { IfSome result (λ r. CountsWalk session.old.slots node r.0 steps.old steps.new) }
@@ -58,10 +54,7 @@ pub(crate) fn make_node<L: Ledger>(
     steps: &mut Steps<L>,
 ) -> Option<Ref>
     requires table { session.old.table ≡ table.now }
-    requires var { node.var < session.old.vars }
-    requires apart { node.lo.0 ≢ node.hi.0 }
-    requires lo { IsHeldChild session.old.held node.var node.lo.0 }
-    requires hi { IsHeldChild session.old.held node.var node.hi.0 }
+    requires may { IsMakeable session.old node }
     ensures some { IfSome result (λ r. MkGives session.old session.new node r.0) }
     ensures none { IfNone result ((session.new ≡ session.old) × IsOutFor session.old node) }
     ensures good { IsGoodSession session.new }
@@ -84,10 +77,7 @@ fn make_from<L: Ledger>(
     requires all { blank.parts ≡ L.parts }
     requires some { 0 < blank.parts }
     requires table { session.old.table ≡ table.now }
-    requires var { node.var < session.old.vars }
-    requires apart { node.lo.0 ≢ node.hi.0 }
-    requires lo { IsHeldChild session.old.held node.var node.lo.0 }
-    requires hi { IsHeldChild session.old.held node.var node.hi.0 }
+    requires may { IsMakeable session.old node }
     ensures some { IfSome result (λ r. MkGives session.old session.new node r.0) }
     ensures none { IfNone result ((session.new ≡ session.old) × IsOutFor session.old node) }
     ensures good { IsGoodSession session.new }
@@ -98,10 +88,7 @@ fn make_from<L: Ledger>(
 /// The same for a caller that counts nothing.
 pub(crate) fn make_uncounted(table: &SharedTable, session: &mut Session, node: Node) -> Option<Ref>
     requires table { session.old.table ≡ table.now }
-    requires var { node.var < session.old.vars }
-    requires apart { node.lo.0 ≢ node.hi.0 }
-    requires lo { IsHeldChild session.old.held node.var node.lo.0 }
-    requires hi { IsHeldChild session.old.held node.var node.hi.0 }
+    requires may { IsMakeable session.old node }
     ensures some { IfSome result (λ r. MkGives session.old session.new node r.0) }
     ensures none { IfNone result ((session.new ≡ session.old) × IsOutFor session.old node) }
     ensures good { IsGoodSession session.new }
