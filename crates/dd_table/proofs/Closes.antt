@@ -1,0 +1,36 @@
+-- What a table has at its end.
+use Rattle.std.proofs.Common.{◌≡◌, ℕ, ◌/◌, ◌<◌, ◌≤◌, List, length, ap, arith}
+use mathlib.Core.Option.{some}
+use lib.ListN.{get_elem?}
+use Rattle.std.specs.FinMap.{len}
+use Rattle.atomic_table.specs.Table.{Final, Seen}
+use Rattle.dd_table.specs.declared.views.View.{View}
+use Rattle.dd_table.specs.declared.rule.Sizes.{Sizes}
+use Rattle.dd_table.specs.Rules.{taken_slots, RulesHold}
+use Rattle.dd_table.proofs.Sums.{at_most_sum, sum_le, sum_rest_le}
+use Rattle.dd_table.proofs.OneView.{sizes_of}
+use Rattle.dd_table.proofs.Counts.{held_at_most}
+
+-- how many slots are taken at the end, by the view of one seat
+pub record IsEnd (v : View) (n : ℕ) : Type 0 where
+  pub half : n ≤ v.slots / 2
+  pub used : length v.made ≤ n
+  pub held : len v.held ≤ n
+  pub whole : v.limit ≡ v.slots / 2 → n ≡ length v.made
+
+pub closes : (k : Sizes) (id : ℕ) (v : View) (ws : List ℕ) (xs : List Unit) → 0 < v.slots → Final (Seen (RulesHold k) id v) ws xs → IsEnd v (taken_slots ws)
+closes k id v ws xs live f =
+    let s = f.0 in
+    let h = f.1.0 in
+    let at = f.1.1 in
+    let view = h.views id v at in
+    let same : v.slots / 2 ≡ k.slots / 2 = ap (λ (y : ℕ). y / 2) (sizes_of k.vars k.slots s.words v view live).1 in
+    let words : taken_slots s.words ≡ taken_slots ws = ap taken_slots f.2 in
+    let each : (j : ℕ) (u : View) → get_elem? s.views j ≡ some u → length u.made ≤ u.limit = λ j u e. (h.views j u e).used in
+    let a = sum_le (λ (u : View). length u.made) (λ (u : View). u.limit) s.views each in
+    let b = at_most_sum (λ (u : View). length u.made) s.views id v at in
+    let c = sum_rest_le (λ (u : View). length u.made) (λ (u : View). u.limit) s.views id v each at in
+    let p = h.limits in
+    let q = h.used in
+    let d = held_at_most k.vars k.slots s.words v view in
+    record { half = omega arith; used = omega arith; held = omega arith; whole = λ e. omega arith }

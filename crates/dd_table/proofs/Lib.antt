@@ -1,0 +1,17 @@
+pub mod Maps
+pub mod Sums
+pub mod Layouts
+pub mod Walks
+pub mod OneView
+pub mod StepsKeep
+pub mod Tellings
+pub mod Tries
+pub mod Looks
+pub mod Schedules
+pub mod Moves
+pub mod Searches
+pub mod SessionSteps
+pub mod Unions
+pub mod Stores
+pub mod Counts
+pub mod Closes

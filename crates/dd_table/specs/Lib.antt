@@ -1,0 +1,9 @@
+pub mod Codes
+pub mod Layout
+pub mod Views
+pub mod Rules
+pub mod Tells
+pub mod Sessions
+pub mod Inside
+pub mod StoreLaws
+pub mod Schedules
