@@ -19,7 +19,8 @@ use Rattle.blif_syntax.specs.Answer.{entry_of, entries_of}
 use Rattle.blif_syntax.specs.Forms.{form_of}
 use Rattle.blif_syntax.specs.Places.{first_or, row_fits}
 use Rattle.blif_syntax.specs.Spelled.{rows_of, on_of, items_of, models_of}
-use Rattle.blif_syntax.specs.Written.{row_words, item_words, item_lines, numbered, head_words, model_lines, written, IsCover, IsSayable, AreSayable, WrittenIsRead}
+use Rattle.net_core.specs.Cover.{IsCover}
+use Rattle.blif_syntax.specs.Written.{row_words, item_words, item_lines, numbered, head_words, model_lines, written, IsSayable, AreSayable, WrittenIsRead}
 use Rattle.blif_syntax.proofs.Faults.{fault_from, whole}
 use Rattle.blif_syntax.proofs.Spelling.{row_form, names_form, plain_form, rising_form, falling_form, use_form}
 
@@ -105,11 +106,11 @@ abbrev pub made : ℕ → Bool → List (List Lit) → Cover
 made inputs on rows = record { inputs = inputs; on = on; rows = rows }
 
 -- a cover by its rows
-cover_back : (width : ℕ) (cover : Cover) (rows : List (List Lit × Bool)) → IsCover width cover → rows ≡ map (λ row. (row, cover.on)) cover.rows → made width (on_of rows) (map (λ (row : List Lit × Bool). row.0) rows) ≡ cover
+cover_back : (width : ℕ) (cover : Cover) (rows : List (List Lit × Bool)) → (cover.inputs ≡ width) × IsCover cover → rows ≡ map (λ row. (row, cover.on)) cover.rows → made width (on_of rows) (map (λ (row : List Lit × Bool). row.0) rows) ≡ cover
 cover_back width cover rows is e =
-    let same : on_of rows ≡ cover.on = ap on_of e ∙ on_back cover.on cover.rows is.on in
+    let same : on_of rows ≡ cover.on = ap on_of e ∙ on_back cover.on cover.rows is.1.on in
     let firsts : map (λ (row : List Lit × Bool). row.0) rows ≡ cover.rows = ap (map (λ (row : List Lit × Bool). row.0)) e ∙ firsts_back cover.on cover.rows in
-    ap (λ n. made n (on_of rows) (map (λ (row : List Lit × Bool). row.0) rows)) (sym is.inputs)
+    ap (λ n. made n (on_of rows) (map (λ (row : List Lit × Bool). row.0) rows)) (sym is.0)
     ∙ ap (λ on. made cover.inputs on (map (λ (row : List Lit × Bool). row.0) rows)) same
     ∙ ap (made cover.inputs cover.on) firsts
 
@@ -120,7 +121,7 @@ line_more n said rest items models is = record { fault = λ cover. is.fault None
 -- an item more
 item_more : (n : ℕ) (said : What) (rest : List Entry) (items : List Item) (models : List Model) → IsSayable said → IsInside rest items models → IsInside (item_entries n said ++ rest) (record { line = n; what = said } ∷ items) models
 item_more n (what.Names inputs output cover) rest items models say is = record {
-  fault = λ place. rows_stand n (length inputs) cover.on cover.rows None rest say.rows refl is.fault;
+  fault = λ place. rows_stand n (length inputs) cover.on cover.rows None rest (subst (λ (n : ℕ). All (λ row. length row ≡ n) cover.rows) say.0 say.1.wide) refl is.fault;
   rows = refl;
   own =
       ap (λ c. record { line = n; what = what.Names inputs output c } ∷ items_of (map (row_entry n cover.on) cover.rows ++ rest)) (cover_back (length inputs) cover (rows_of (map (row_entry n cover.on) cover.rows ++ rest)) say (rows_read n cover.on cover.rows rest is.rows))

@@ -1,5 +1,5 @@
 -- What is read can be written out: covers have rows of their width, and so on.
-use Rattle.std.proofs.Common.{ℕ, suc, ◌≡◌, ◌≢◌, refl, subst, ◌∙◌, List, [], ◌∷◌, length, map, All, arith, Bool, true, false, ◌&&◌, not, nat_eq, IsTrue, if◌then◌else◌, Option, Some, None, codes}
+use Rattle.std.proofs.Common.{ℕ, suc, ◌≡◌, ◌≢◌, refl, subst, ◌∙◌, List, [], ◌∷◌, length, map, All, arith, Bool, true, false, ◌&&◌, not, nat_eq, get_or, IsTrue, if◌then◌else◌, Option, Some, None, codes}
 use Rattle.std.specs.Str.{bytes_eq}
 use Rattle.std.specs.List.{list_all, list_any}
 use Rattle.std.proofs.lemmas.List.Elements.{All-cons}
@@ -19,11 +19,15 @@ use Rattle.blif_syntax.specs.declared.models.Model.{Model}
 use Rattle.blif_syntax.specs.declared.place.Place.{Place}
 use Rattle.blif_syntax.specs.Answer.{entry_of, entries_of}
 use Rattle.blif_syntax.specs.Forms.{form_of, bad, row_of, row_with, names_with, model_of, end_of, latch_of, latch_typed, latch_with, is_equals, binding_with, binding_of, with_binding, bindings_of, use_of, use_with}
-use Rattle.blif_syntax.specs.Places.{row_fits, first_or, is_same}
+use Rattle.blif_syntax.specs.Places.{first_fault, row_fits, first_or, is_same}
 use Rattle.blif_syntax.specs.Sayable.{ReadIsSayable}
 use Rattle.blif_syntax.specs.Spelled.{rows_of, rows_with, on_of, items_of, models_of}
 use Rattle.blif_syntax.specs.Words.{begins_with_dot, control_of, init_of, is_bit, is_literal, is_one_of, literal_of, kind_named, left_out_types, left_out_words, passed_words}
-use Rattle.blif_syntax.specs.Written.{IsBinding, IsCover, IsSayable, AreSayable}
+use Rattle.net_core.specs.Cover.{IsCover}
+use Rattle.blif_syntax.specs.declared.models.What.{What}
+use Rattle.blif_syntax.specs.declared.models.What.TheVariants as what
+use Rattle.blif_syntax.specs.Covered.{IsCovered, AreCovered}
+use Rattle.blif_syntax.specs.Written.{IsBinding, IsSayable, AreSayable}
 use Rattle.blif_syntax.proofs.Faults.{fault_from, whole}
 
 -- what the words of a line can spell
@@ -192,8 +196,8 @@ no_row_on : (rows : List (List Lit × Bool)) → map (λ (row : List Lit × Bool
 no_row_on [] e = refl
 no_row_on (row ∷ rows) e = absurd (cc e)
 
-cover_sound : (width : ℕ) (inputs : List (List ℕ)) (rows : List (List Lit × Bool)) → width ≡ length inputs → HaveWidth width rows → IsCover (length inputs) (record { inputs = width; on = on_of rows; rows = map (λ row. row.0) rows })
-cover_sound width inputs rows e h = record { inputs = e; rows = subst (λ n. All (λ row. length row ≡ n) (map (λ (row : List Lit × Bool). row.0) rows)) e (first_rows width rows h); on = no_row_on rows }
+cover_sound : (width : ℕ) (inputs : List (List ℕ)) (rows : List (List Lit × Bool)) → width ≡ length inputs → HaveWidth width rows → (width ≡ length inputs) × IsCover (record { inputs = width; on = on_of rows; rows = map (λ row. row.0) rows })
+cover_sound width inputs rows e h = (e, record { wide = first_rows width rows h; on = no_row_on rows })
 
 abbrev pub AllSaid : List Item → Type 0
 AllSaid items = All (λ item. IsSayable item.what) items
@@ -246,5 +250,23 @@ entries_spelled [] = λ k d below. absurd (omega (arith, below))
 entries_spelled (line ∷ lines) = All-cons (λ (entry : Entry). IsSpelled entry.form) (entry_of line) (entries_of lines) (form_sound line.words) (entries_spelled lines)
 
 -- models that are read can be written out
+said_is_covered : (said : What) → IsSayable said → IsCovered said
+said_is_covered (what.Inputs names) h = tt
+said_is_covered (what.Outputs names) h = tt
+said_is_covered (what.Clock names) h = tt
+said_is_covered (what.Names inputs output cover) h = h
+said_is_covered (what.Latch input output kind control init) h = tt
+said_is_covered (what.Subckt model formals) h = tt
+
+-- models that can be written out have sound covers
+pub sayable_is_covered : (models : List Model) → AreSayable models → AreCovered models
+sayable_is_covered models h = λ k d l j e m. said_is_covered (get_or (get_or models k d).items j e).what (h k d l j e m)
+
+sayable : (lines : List Line) → first_fault [] (entries_of lines) ≡ None → AreSayable (models_of (entries_of lines))
+sayable lines e = models_sound (entries_of lines) false None (entries_spelled lines) (whole (entries_of lines) ∙ e)
+
 pub read_is_sayable : ReadIsSayable
-read_is_sayable lines e = models_sound (entries_of lines) false None (entries_spelled lines) (whole (entries_of lines) ∙ e)
+read_is_sayable = record {
+  said = sayable;
+  covered = λ lines e. sayable_is_covered (models_of (entries_of lines)) (sayable lines e);
+}

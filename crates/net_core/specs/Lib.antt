@@ -1,6 +1,8 @@
 pub mod Cover
 pub mod Run
+pub mod Sets
 pub mod Possible
+pub mod OneRun
 pub mod Flat
 pub mod Source
 pub mod Loop

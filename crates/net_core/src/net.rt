@@ -82,7 +82,8 @@ impl Net {
 
     /// The gates' numbers in an order in which each gate follows those that drive its inputs.
     pub fn settled(&self) -> &[u32]
-        ensures { result.now ≡ self.now.settled }
+        ensures same { result.now ≡ self.now.settled }
+        ensures order { IsSettledOrder self.now.raw result.now }
     {
         self.settled.as_slice()
     }

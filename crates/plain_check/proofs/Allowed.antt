@@ -5,7 +5,8 @@ use Rattle.std.proofs.lemmas.List.{get_or_default, get_or-set_same, get_or-set_o
 use Rattle.std.proofs.lemmas.List.Elements.{All-push, All-contains, Contains-append_left, Contains-get_or, Contains-push}
 use Rattle.std.proofs.lemmas.Bool.{cases_eq}
 use Rattle.net_core.specs.declared.bit_set.BitSet.{BitSet}
-use Rattle.net_core.specs.Possible.{Cut, IsIn, both, only}
+use Rattle.net_core.specs.Run.{Cut}
+use Rattle.net_core.specs.Sets.{IsIn, both, only}
 use Rattle.net_core.proofs.Possible.{is_only, in_only}
 use Rattle.plain_check.specs.Sets.{set_at, Allows}
 

@@ -7,7 +7,8 @@ use Rattle.std.proofs.lemmas.List.Folds.{list_any-append}
 use Rattle.net_core.specs.declared.bit_set.BitSet.{BitSet}
 use Rattle.net_core.specs.declared.cover.Cover.{Cover}
 use Rattle.net_core.specs.Cover.{cover_bit}
-use Rattle.net_core.specs.Possible.{IsIn, MayGive, has}
+use Rattle.net_core.specs.Sets.{IsIn, has}
+use Rattle.net_core.specs.Possible.{MayGive}
 use Rattle.plain_check.specs.Choices.{lists_of}
 use Rattle.plain_check.specs.Sets.{fits, may_give_one, may_give_zero}
 

@@ -7,8 +7,8 @@ use Rattle.std.proofs.lemmas.List.Folds.{Any-from_list_any, list_any_at}
 use Rattle.std.proofs.lemmas.List.{get_or_default}
 use Rattle.net_core.specs.declared.bit_set.BitSet.{BitSet}
 use Rattle.net_core.specs.declared.raw.RawNet.{RawNet}
-use Rattle.net_core.specs.Run.{IsSettled}
-use Rattle.net_core.specs.Possible.{Cut, both, neither, only}
+use Rattle.net_core.specs.Run.{IsSettled, Cut}
+use Rattle.net_core.specs.Sets.{both, neither, only}
 use Rattle.net_core.proofs.Possible.{same_fields}
 use Rattle.ste_model.specs.declared.task.Assertion.{Assertion}
 use Rattle.ste_model.specs.declared.task.Quint.{Quint}
@@ -33,13 +33,13 @@ empty_found net task rows long wide h =
     let row : get_or rows any.0 [] ≡ any.1 = get_or_default rows any.0 [] any.1 any.2 ∙ any.3 in
     let size : length any.1 ≡ net.nets = ap length (sym any.3) ∙ wide any.0 any.1 any.2 in
     let set : table_of rows any.0 inner.0 ≡ inner.1 = ap (λ (r : List BitSet). set_at r inner.0) row ∙ (get_or_default any.1 inner.0 both inner.1 inner.2 ∙ inner.3) in
-    (any.0, inner.0, omega (arith, any.2, long), omega (arith, inner.2, size), set ∙ (empty_is inner.1).0 inner.4)
+    (any.0, omega (arith, any.2, long), (inner.0, omega (arith, inner.2, size), set ∙ (empty_is inner.1).0 inner.4))
 
 pub empty_found_not : (net : RawNet) (task : Assertion) (rows : List (List BitSet)) → length rows ≡ depth task → All (λ row. length row ≡ net.nets) rows → has_empty rows ≡ false → ¬ IsEmptySomewhere net task (table_of rows)
 empty_found_not net task rows long wide none empty =
-    let inside : empty.0 < length rows = omega (arith, empty.2, long) in
+    let inside : empty.0 < length rows = omega (arith, empty.1, long) in
     let size = wide empty.0 [] inside in
-    let here = list_any_at is_empty (get_or rows empty.0 []) empty.1 both (omega (arith, empty.3, size)) ((empty_is (table_of rows empty.0 empty.1)).1 empty.4) in
+    let here = list_any_at is_empty (get_or rows empty.0 []) empty.2.0 both (omega (arith, empty.2.1, size)) ((empty_is (table_of rows empty.0 empty.2.0)).1 empty.2.2) in
     both_ways (has_empty rows) none (list_any_at (λ row. list_any is_empty row) rows empty.0 [] inside here)
 
 opposite : (zero one value : Bool) → IsTrue ((if (not value) then one else zero) && not (if value then one else zero)) ↔ ((zero ≡ not (not value)) × (one ≡ not value))
@@ -101,8 +101,8 @@ module _ (net : RawNet) (task : Assertion) (bits : List Bool) (settled : IsSettl
   pub contradictory_is_not : has_empty rows ≡ false → ¬ IsContradictory net task bits
   contradictory_is_not none found =
       let empty = found.2 in
-      let same = same_table net task.reset (asked_at task.ant bits) (depth task) settled found.0 (table_of rows) found.1 is empty.0 empty.1 empty.2 in
-      empty_found_not net task rows long wide none (empty.0, empty.1, empty.2, empty.3, sym same ∙ empty.4)
+      let same = same_table net task.reset (asked_at task bits) (depth task) settled found.0 (table_of rows) found.1 is empty.0 empty.2.0 empty.1 in
+      empty_found_not net task rows long wide none (empty.0, empty.1, (empty.2.0, empty.2.1, sym same ∙ empty.2.2))
 
   found_is : (strongly : Bool) → has_empty rows ≡ false → (t : ℕ) × (t < depth task) × IsTrue (fails_at strongly (get_or rows t []) task.con bits t) → IsFound (λ sets cut. says strongly (sets cut.node) cut) net task bits
   found_is strongly none h =

@@ -3,7 +3,8 @@ use Rattle.std.specs.Prelude.{◌&&◌, ℕ, Bool, true, false, not, List, [], s
 use Rattle.std.specs.List.{list_all, list_any}
 use Rattle.net_core.specs.declared.bit_set.BitSet.{BitSet}
 use Rattle.net_core.specs.declared.raw.RawNet.{RawNet}
-use Rattle.net_core.specs.Possible.{Cut, has}
+use Rattle.net_core.specs.Run.{Cut}
+use Rattle.net_core.specs.Sets.{has}
 use Rattle.ste_model.specs.declared.task.Assertion.{Assertion}
 use Rattle.ste_model.specs.declared.task.Quint.{Quint}
 use Rattle.ste_model.specs.Asked.{quint_at}

@@ -7,7 +7,8 @@ use Rattle.net_core.specs.declared.raw.Gate.{Gate}
 use Rattle.net_core.specs.declared.raw.Latch.{Latch}
 use Rattle.net_core.specs.declared.raw.RawNet.{RawNet}
 use Rattle.net_core.specs.Cover.{cover_bit}
-use Rattle.net_core.specs.Possible.{Cut, IsIn, both, has}
+use Rattle.net_core.specs.Run.{Cut}
+use Rattle.net_core.specs.Sets.{IsIn, both, has}
 
 -- the set of a net in a list of sets, one for each net; what stands behind the list is both bits
 abbrev pub set_at : List BitSet → ℕ → BitSet

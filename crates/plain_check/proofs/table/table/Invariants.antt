@@ -12,5 +12,5 @@ invariant-loop-t l = record {
   wide : All (λ row. length row ≡ l.net.raw.nets) l.rows.items;
   count : length l.held.items ≡ length l.net.raw.latches;
   held : l.held.items ≡ latch_sets l.net.raw l.task.reset (table_of l.rows.items) l.t;
-  possible : IsPossible l.net.raw l.task.reset (asked_at l.task.ant l.bits) l.t (table_of l.rows.items);
+  possible : IsPossible l.net.raw l.task.reset (asked_at l.task l.bits) l.t (table_of l.rows.items);
 }
