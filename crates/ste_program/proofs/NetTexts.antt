@@ -4,7 +4,7 @@ use Rattle.std.specs.Prelude.{◌≢◌, IfOk, String}
 use Rattle.std.specs.declared.alloc.Global.{Global}
 use Rattle.blif_lines.specs.declared.lines.Line.{Line}
 use Rattle.blif_syntax.specs.Answer.{IsAnswer, entries_of}
-use Rattle.blif_syntax.specs.Written.{AreSayable}
+use Rattle.blif_syntax.specs.Covered.{AreCovered}
 use Rattle.blif_syntax.specs.declared.fault.BlifFault.{BlifFault}
 use Rattle.blif_syntax.specs.declared.fault.BlifFault.TheVariants.{OutOfMemory}
 use Rattle.blif_syntax.specs.declared.models.Model.{Model}
@@ -14,10 +14,10 @@ use Rattle.ste_program.specs.Answer.{IsCheck, IsNetRefusal, greatest}
 use Rattle.ste_program.specs.Netlist.{net_lines, net_message}
 use Rattle.ste_program.specs.Outside.{StandsAt, Store}
 
--- models that are read can be written out
-pub read_sayable : (lines : List Line) (result : Result Models BlifFault) → IsAnswer (entries_of lines) result → IfOk result (λ models. AreSayable models.models)
-read_sayable lines (Ok models) h = subst (λ (ms : List Model). AreSayable ms) (sym h.1) (read_is_sayable lines h.0)
-read_sayable lines (Err e) h = tt
+-- models that are read have sound covers
+pub read_covered : (lines : List Line) (result : Result Models BlifFault) → IsAnswer (entries_of lines) result → IfOk result (λ models. AreCovered models.models)
+read_covered lines (Ok models) h = subst (λ (ms : List Model). AreCovered ms) (sym h.1) (read_is_sayable.covered lines h.0)
+read_covered lines (Err e) h = tt
 
 -- a message on a faulty netlist is a refusal of it
 pub refusal_of : (holds : Option Store) (words : List (String Global)) (net task message net_text task_text : List ℕ) (found : BlifFault) → IsCheck words net task → StandsAt holds net net_text × (length net_text ≤ greatest) → StandsAt holds task task_text × (length task_text ≤ greatest) → (found ≢ OutOfMemory) × IsAnswer (net_lines net_text) (Err found) → message ≡ net_message net found → IsNetRefusal holds words message

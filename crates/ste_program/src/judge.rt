@@ -1,6 +1,6 @@
 ghost use Rattle.std.specs.Prelude.{◌≡◌, ◌≢◌, ◌≤◌, ◌++◌, List, ℕ, codes, length, IfOk, IfSome, IfNone, IsTrue, All};
 ghost use Rattle.blif_syntax.specs.Answer.{IsAnswer};
-ghost use Rattle.blif_syntax.specs.Written.{AreSayable};
+ghost use Rattle.blif_syntax.specs.Covered.{AreCovered};
 ghost use Rattle.blif_syntax.specs.declared.fault.BlifFault.{BlifFault as Fault};
 ghost use Rattle.blif_syntax.specs.declared.fault.BlifFault.TheVariants as fault;
 ghost use Rattle.flat_net.specs.Flat.{flat_of};
@@ -67,7 +67,7 @@ fn read_netlist(alloc: Global, text: &[u8]) -> Result<Models, BlifFault>
     requires { length text.now ≤ greatest }
     ensures answer { IsAnswer (net_lines text.now) result }
     ensures netlist { IfOk result (λ models. IsNetlist text.now models.models) }
-    ensures sayable { IfOk result (λ models. AreSayable models.models) }
+    ensures covered { IfOk result (λ models. AreCovered models.models) }
 {
     let lines = logical_lines(alloc, text)?;
     read_models(alloc, lines.as_slice())
@@ -109,7 +109,7 @@ fn report_on(
 
 /// The report on a netlist and the text of a task; None where they are not of the forms that are checked so far.
 fn report_of(alloc: Global, models: &Models, task_text: &[u8]) -> Result<Option<Report>, AllocError>
-    requires { AreSayable models.now.models }
+    requires { AreCovered models.now.models }
     ensures some { IfOk result (λ found. IfSome found (λ report. (task : Task) × (verdict : V) × IsTrue (is_supported models.now.models) × IsTrue (is_task (signals (top models.now.models)) task) × (task_text.now ≡ text_of (task_lines task)) × IsJudged (top models.now.models) task verdict report.line × (report.passes ≡ passes verdict))) }
     ensures none { IfOk result (λ found. IfNone found ((task : Task) → IsTrue (is_supported models.now.models) → IsTrue (is_task (signals (top models.now.models)) task) → task_text.now ≢ text_of (task_lines task))) }
 {
