@@ -1,4 +1,4 @@
--- The logical lines of a text, as netlists, task files and input files are read by. The rules are this project's own
+-- Meaning. The logical lines of a text, as netlists, task files and input files are read by. The rules are this project's own
 -- choice, after the Berkeley description of BLIF.
 use Rattle.std.specs.Prelude.{ℕ, suc, ◌-◌, List, [], ◌∷◌, ◌++◌, length, map, filter, take, get_or, Bool, true, false, if◌then◌else◌, nat_eq, ◌||◌, not}
 use Rattle.blif_lines.specs.declared.lines.Line.{Line}

@@ -1,3 +1,5 @@
+//! What is read so far of a netlist; begin with `line_added`.
+
 ghost use Rattle.std.specs.Prelude.{◌≡◌, [], None, IfOk};
 ghost use Rattle.blif_syntax.specs.Places.{first_or};
 ghost use Rattle.blif_syntax.specs.Drafts.{place_of, row_added, cover_item, closed_items, closed, item_added, model_added, line_behind, line_added};
@@ -134,7 +136,8 @@ fn model_added(models: Items<Model>, model: Option<Model>) -> Result<Items<Model
 
 /// The models, when the last line is read.
 pub fn models_of(draft: Draft) -> Result<Items<Model>, AllocError>
-    ensures { IfOk result (λ models. models ≡ model_added draft.models (closed draft.model draft.cover)) }
+    ensures { IfOk result (λ models. models
+        ≡ model_added draft.models (closed draft.model draft.cover)) }
 {
     let Draft {
         models,

@@ -1,3 +1,5 @@
+//! The forms of lines; begin with `Form`.
+
 use crate::models::What;
 use net_core::Row;
 use ste_base::{Items, Name};

@@ -1,3 +1,5 @@
+//! The form of a line by its words; begin with `entry_of`.
+
 ghost use Rattle.std.specs.Prelude.{◌≡◌, ◌<◌, ◌^◌, IfOk, length};
 ghost use Rattle.blif_syntax.specs.Forms.{model_of, names_of, end_of, form_of};
 ghost use Rattle.blif_syntax.specs.Answer.{entry_of};

@@ -1,3 +1,5 @@
+//! What the words of a `.latch` line say; begin with `latch_of`.
+
 ghost use Rattle.std.specs.Prelude.{◌≡◌, IfOk};
 ghost use Rattle.blif_syntax.specs.Words.{init_of, kind_named, control_of};
 ghost use Rattle.blif_syntax.specs.Forms.{latch_with, latch_typed, latch_of};
@@ -77,7 +79,8 @@ fn latch_typed(
     control: &Name,
     init: Option<Init>,
 ) -> Result<Form, AllocError>
-    ensures { IfOk result (λ form. form ≡ latch_typed input.now output.now kind.now control.now init) }
+    ensures { IfOk result (λ form. form
+        ≡ latch_typed input.now output.now kind.now control.now init) }
 {
     if is_left_out_type(kind.bytes()) {
         return Ok(Form::Wrong(Kind::LeftOut(kind.clone()?)));

@@ -1,3 +1,5 @@
+//! Where a line may stand; begin with `may_stand`.
+
 ghost use Rattle.std.specs.Prelude.{◌≡◌};
 ghost use Rattle.blif_syntax.specs.Places.{first_or, row_fits, may_stand};
 

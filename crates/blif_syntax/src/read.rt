@@ -1,3 +1,5 @@
+//! From lines to models; begin with `read_models`.
+
 ghost use Rattle.std.specs.Prelude.{◌≡◌, ◌<◌, ◌^◌, All, length};
 ghost use Rattle.blif_syntax.specs.Answer.{IsAnswer, entries_of};
 ghost use Rattle.blif_syntax.specs.Drafts.{fault_of};

@@ -1,3 +1,5 @@
+//! What the words of a row of a cover say; begin with `row_of`.
+
 ghost use Rattle.std.specs.Prelude.{◌≡◌, ◌∷◌, [], IfOk, map};
 ghost use Rattle.std.specs.List.{list_all};
 ghost use Rattle.blif_syntax.specs.Words.{is_bit, is_literal, literal_of};

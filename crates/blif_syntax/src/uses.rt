@@ -1,3 +1,5 @@
+//! What the words of a `.subckt` line say; begin with `use_of`.
+
 ghost use Rattle.std.specs.Prelude.{◌≡◌, IfOk, suc, take, drop, length, unwrap_or};
 ghost use Rattle.std.specs.List.{position};
 ghost use Rattle.blif_syntax.specs.Forms.{is_equals, binding_with, binding_of, bindings_of, use_of};
@@ -16,8 +18,10 @@ fn equals(word: &[u8]) -> Option<usize>
 
 /// What stands before the first `=` of a word, and what stands behind it; without one all of the word, and nothing.
 fn sides(word: &[u8]) -> (&[u8], &[u8])
-    ensures formal { result.0.now ≡ take (unwrap_or (position is_equals word.now) (length word.now)) word.now }
-    ensures actual { result.1.now ≡ drop (suc (unwrap_or (position is_equals word.now) (length word.now))) word.now }
+    ensures formal { result.0.now
+        ≡ take (unwrap_or (position is_equals word.now) (length word.now)) word.now }
+    ensures actual { result.1.now
+        ≡ drop (suc (unwrap_or (position is_equals word.now) (length word.now))) word.now }
 {
     match equals(word) {
         Some(at) => (&word[..at], &word[at + 1..]),

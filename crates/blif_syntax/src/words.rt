@@ -1,3 +1,5 @@
+//! The words that lines begin with; begin with `is_passed`.
+
 ghost use Rattle.std.specs.Prelude.{◌≡◌, IfOk, bytes_eq, refl};
 ghost use Rattle.blif_syntax.specs.Words.{is_one_of, passed_words, left_out_words, left_out_types, begins_with_dot};
 

@@ -1,3 +1,5 @@
+//! The tokens of a text; begin with `next_token`.
+
 ghost use Rattle.std.specs.Prelude.{◌≡◌, ◌<◌, ◌≤◌, ◌∷◌, [], ℕ, List, length, IfSome, IfNone, false};
 ghost use Rattle.std.specs.List.{prefix_len};
 ghost use Rattle.bool_expr.specs.Tokens.{is_blank, is_letter, is_name_byte, is_kept, byte_token, word_token, tokens_of};
@@ -108,7 +110,8 @@ fn word_length(text: &[u8]) -> usize
 
 /// The first token of a text, and what stands behind it.
 pub fn next_token(text: &[u8]) -> Option<(Token<'_>, &[u8])>
-    ensures some { IfSome result (λ read. tokens_of text.now ≡ token_of read.0 ∷ tokens_of read.1.now) }
+    ensures some { IfSome result (λ read. tokens_of text.now
+        ≡ token_of read.0 ∷ tokens_of read.1.now) }
     ensures shorter { IfSome result (λ read. length read.1.now < length text.now) }
     ensures none { IfNone result (tokens_of text.now ≡ []) }
 {

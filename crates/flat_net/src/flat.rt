@@ -1,3 +1,5 @@
+//! The flat net of a netlist; begin with `flatten`.
+
 ghost use Rattle.std.specs.Prelude.{◌≡◌, ◌<◌, ◌≤◌, ◌^◌, All, IfOk, IfSome, IfNone, IsTrue, false, length, map};
 ghost use Rattle.net_core.specs.Flat.{IsInRange, HasOneDriver, IsListedInOrder};
 ghost use Rattle.blif_syntax.specs.Covered.{AreCovered};
@@ -152,7 +154,9 @@ fn raw_net(
 /// The flat net of a model, and the names of its nets; None where the model is none that is flattened.
 #[tactic(auto, using(crate::proofs::Nets::few_signals, crate::proofs::Nets::few_gates))]
 fn flatten_model(alloc: Global, model: &Model) -> Result<Option<FlatNet>, AllocError>
-    ensures some { IfOk result (λ found. IfSome found (λ flat. IsTrue (is_supported_model model.now) × (flat.raw ≡ flat_of model.now) × (flat.names ≡ signals model.now))) }
+    ensures some { IfOk result (λ found. IfSome found (λ flat.
+        IsTrue (is_supported_model model.now) × (flat.raw ≡ flat_of model.now)
+        × (flat.names ≡ signals model.now))) }
     ensures none { IfOk result (λ found. IfNone found (is_supported_model model.now ≡ false)) }
 {
     let names = signals(alloc, model)?;
@@ -181,13 +185,16 @@ fn flatten_model(alloc: Global, model: &Model) -> Result<Option<FlatNet>, AllocE
 /// want of memory.
 pub fn flatten(alloc: Global, models: &Models) -> Result<Option<FlatNet>, AllocError>
     requires { AreCovered models.now.models }
-    ensures some { IfOk result (λ found. IfSome found (λ flat. IsTrue (is_supported models.now.models) × (flat.raw ≡ flat_of (top models.now.models)) × (flat.names ≡ signals (top models.now.models)))) }
+    ensures some { IfOk result (λ found. IfSome found (λ flat.
+        IsTrue (is_supported models.now.models) × (flat.raw ≡ flat_of (top models.now.models))
+        × (flat.names ≡ signals (top models.now.models)))) }
     ensures none { IfOk result (λ found. IfNone found (is_supported models.now.models ≡ false)) }
     ensures in_range { IfOk result (λ found. IfSome found (λ flat. IsInRange flat.raw)) }
     ensures one_driver { IfOk result (λ found. IfSome found (λ flat. HasOneDriver flat.raw)) }
     ensures in_order { IfOk result (λ found. IfSome found (λ flat. IsListedInOrder flat.raw)) }
     ensures few { IfOk result (λ found. IfSome found (λ flat. flat.raw.nets ≤ 200)) }
-    ensures narrow { IfOk result (λ found. IfSome found (λ flat. All (λ gate. length gate.inputs ≤ 8) flat.raw.gates)) }
+    ensures narrow { IfOk result (λ found. IfSome found (λ flat.
+        All (λ gate. length gate.inputs ≤ 8) flat.raw.gates)) }
 {
     match models.models.as_slice() {
         [model] => flatten_model(alloc, model),

@@ -1,3 +1,5 @@
+//! Netlists with their flat nets, in one table; begin with `flat_nets`.
+
 ghost use Rattle.std.specs.Prelude.{◌≡◌, ◌≢◌, ◌<◌, ◌^◌, All, IfOk, IfSome, Some, codes, length};
 ghost use Rattle.net_core.specs.Cover.{IsCover};
 ghost use Rattle.blif_syntax.specs.Covered.{AreCovered, IsCovered};

@@ -1,3 +1,5 @@
+//! Flat nets in a settled (topological) order; begin with `order`.
+
 ghost use Rattle.std.specs.Prelude.{◌≡◌, ◌<◌, Err, Some, length, not, position, IfOk, OnOk, slice_get};
 ghost use Rattle.net_core.specs.Run.{IsSettled};
 ghost use Rattle.net_core.specs.Source.{AreSources, source_of};

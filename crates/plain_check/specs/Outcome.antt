@@ -1,4 +1,4 @@
--- What is found under one assignment, by the plain checker.
+-- What is found under one assignment, by the plain checker. They help to say what private functions give.
 use Rattle.std.specs.Prelude.{◌&&◌, ℕ, Bool, true, false, not, List, [], slice_index_or, if◌then◌else◌}
 use Rattle.std.specs.List.{list_all, list_any}
 use Rattle.net_core.specs.declared.bit_set.BitSet.{BitSet}
@@ -11,6 +11,8 @@ use Rattle.ste_model.specs.Asked.{quint_at}
 use Rattle.ste_model.specs.declared.verdict.Verdict.{Verdict}
 use Rattle.ste_model.specs.declared.verdict.Verdict.TheVariants as verdict
 use Rattle.ste_model.specs.Found.{IsContradictory, IsStrong, IsWeak}
+use Rattle.plain_check.specs.declared.found.Failure.{Failure}
+use Rattle.plain_check.specs.declared.found.Failure.TheVariants as failure
 use Rattle.plain_check.specs.declared.found.Outcome.{Outcome}
 use Rattle.plain_check.specs.declared.found.Outcome.TheVariants.{Contradictory, Strong, Weak, Fine}
 use Rattle.plain_check.specs.Sets.{set_at}
@@ -27,17 +29,18 @@ is_empty set = not set.zero && not set.one
 abbrev pub has_empty : List (List BitSet) → Bool
 has_empty rows = list_any (λ row. list_any is_empty row) rows
 
--- the set is exactly the opposite bit; or it has both bits
-abbrev pub fails : Bool → BitSet → Bool → Bool
-fails strongly set value = if strongly then has set (not value) && not (has set value) else has set false && has set true
+-- strongly: the set is exactly the opposite bit; weakly: it has both bits
+abbrev pub fails : Failure → BitSet → Bool → Bool
+fails failure.Strong set value = has set (not value) && not (has set value)
+fails failure.Weak set value = has set false && has set true
 
--- what is asked fails strongly, or weakly
-abbrev pub fails_cut : Bool → (ℕ → BitSet) → Cut → Bool
-fails_cut strongly sets cut = cut.on && fails strongly (sets cut.node) cut.value
+-- what is asked fails so
+abbrev pub fails_cut : Failure → (ℕ → BitSet) → Cut → Bool
+fails_cut how sets cut = cut.on && fails how (sets cut.node) cut.value
 
--- some quintuple fails at a time
-abbrev pub fails_at : Bool → List BitSet → List Quint → List Bool → ℕ → Bool
-fails_at strongly row quints bits t = list_any (λ quint. fails_cut strongly (set_at row) (quint_at bits t quint)) quints
+-- some quintuple fails so at a time
+abbrev pub fails_at : Failure → List BitSet → List Quint → List Bool → ℕ → Bool
+fails_at how row quints bits t = list_any (λ quint. fails_cut how (set_at row) (quint_at bits t quint)) quints
 
 -- the outcome of an assignment, which no other is
 abbrev pub IsOutcome : RawNet → Assertion → List Bool → Outcome → Type 0

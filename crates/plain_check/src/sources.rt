@@ -1,3 +1,5 @@
+//! What is asked of nets, and the sets of latch outputs; begin with `allowed_at`.
+
 ghost use Rattle.std.specs.Prelude.{◌≡◌, ◌<◌, ◌++◌, ◌∷◌, [], ℕ, List, length, All, IfOk};
 ghost use Rattle.net_core.specs.declared.bit_set.BitSet.{BitSet as Set};
 ghost use Rattle.net_core.specs.Run.{Cut};
@@ -22,7 +24,8 @@ pub fn applies(quint: &Quint, bits: &[bool], t: Time) -> bool
 fn cut(allowed: &mut Vec<BitSet>, quint: &Quint, bits: &[bool], t: Time)
     requires { quint.now.node.0 < length allowed.old.items }
     ensures long { length allowed.new.items ≡ length allowed.old.items }
-    ensures allows { (cuts : List Cut) → Allows cuts allowed.old.items → Allows (cuts ++ quint_at bits.now t quint.now ∷ []) allowed.new.items }
+    ensures allows { (cuts : List Cut) → Allows cuts allowed.old.items →
+        Allows (cuts ++ quint_at bits.now t quint.now ∷ []) allowed.new.items }
 {
     if applies(quint, bits, t) {
         let net = quint.node.0 as usize;
@@ -56,7 +59,10 @@ pub fn place_latches(net: &Net, held: &[BitSet], allowed: &[BitSet], sets: &mut 
     requires allowed { length allowed.now ≡ net.now.raw.nets }
     requires long { length sets.old.items ≡ net.now.raw.nets }
     ensures long { length sets.new.items ≡ net.now.raw.nets }
-    ensures sets { (asked : Asked) (family : ℕ → Set) → Allows asked.cuts allowed.now → ArePossible net.now.raw held.now asked family → AreLatched net.now.raw 0 family sets.old.items → AreLatched net.now.raw (length net.now.raw.latches) family sets.new.items }
+    ensures sets { (asked : Asked) (family : ℕ → Set) → Allows asked.cuts allowed.now →
+        ArePossible net.now.raw held.now asked family →
+        AreLatched net.now.raw 0 family sets.old.items →
+        AreLatched net.now.raw (length net.now.raw.latches) family sets.new.items }
 {
     for (k, latch) in net.latches().iter().enumerate() {
         let output = latch.output.0 as usize;
