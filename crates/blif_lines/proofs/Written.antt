@@ -1,10 +1,11 @@
 -- How written lines of plain words are read back.
 use Rattle.std.proofs.Common.{◌+◌, take, append-nil, length-append, ℕ, zero, suc, ◌-◌, ◌<◌, ◌≡◌, refl, ap, ◌∙◌, List, [], ◌∷◌, ◌++◌, length, filter, map, get_or, arith, Bool, true, false, if◌then◌else◌, nat_eq, All}
 use Rattle.std.proofs.lemmas.List.Elements.{All-cons, All-nil, All-head, All-tail, All-append, All-weaker}
-use Rattle.blif_lines.specs.Lines.{pieces, before, is_blank, is_line_feed, is_hash, trimmed, unless_last, without_last, joined, treated, words_of, is_filled, is_continued, has_words, word_lines}
+use Rattle.ste_base.specs.Bytes.{is_blank}
+use Rattle.blif_lines.specs.Lines.{pieces, before, is_line_feed, is_hash, trimmed, unless_last, without_last, joined, treated, words_of, is_filled, is_continued, has_words, word_lines}
 use Rattle.blif_lines.specs.Laws.{ended, IsPlain, IsBehind, Part, IsPart, spaced, written, all_written, all_words, numbered, WrittenLinesAreReadBack}
 use Rattle.blif_lines.proofs.Physical.{IsFree}
-use Rattle.blif_lines.proofs.Words.{words_both, with_front, front_words}
+use Rattle.blif_lines.proofs.Words.{with_front, front_words}
 
 free_head : (cuts : ℕ → Bool) (b : ℕ) (text : List ℕ) → IsFree cuts (b ∷ text) → cuts b ≡ false
 free_head cuts b text h = All-head (λ x. cuts x ≡ false) b text h

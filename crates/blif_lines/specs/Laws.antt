@@ -1,7 +1,8 @@
 -- Laws: what holds of the lines of any text.
 use Rattle.std.specs.Prelude.{ℕ, true, ◌+◌, filter, sum_by, nat_eq, ◌<◌, ◌≤◌, ◌≡◌, List, [], ◌∷◌, ◌++◌, length, All, Bool, false, if◌then◌else◌, not}
 use Rattle.blif_lines.specs.declared.lines.Line.{Line}
-use Rattle.blif_lines.specs.Lines.{pieces, before, is_blank, is_line_feed, is_hash, has_words, lines_of}
+use Rattle.ste_base.specs.Bytes.{is_blank}
+use Rattle.blif_lines.specs.Lines.{pieces, before, is_line_feed, is_hash, has_words, lines_of}
 
 -- these lines, each with a line feed behind it
 abbrev pub ended : List (List ℕ) → List ℕ

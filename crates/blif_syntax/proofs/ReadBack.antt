@@ -8,13 +8,13 @@ use Rattle.net_core.specs.declared.cover.Lit.{Lit}
 use Rattle.blif_syntax.specs.declared.form.Entry.{Entry}
 use Rattle.blif_syntax.specs.declared.form.Form.{Form}
 use Rattle.blif_syntax.specs.declared.form.Form.TheVariants as form
-use Rattle.blif_syntax.specs.declared.form.Kind.{Kind}
+use Rattle.blif_syntax.specs.declared.form.LineFault.{LineFault}
 use Rattle.blif_syntax.specs.declared.models.Item.{Item}
 use Rattle.blif_syntax.specs.declared.models.LatchKind.TheVariants.{Plain, Rising, Falling}
 use Rattle.blif_syntax.specs.declared.models.Model.{Model}
 use Rattle.blif_syntax.specs.declared.models.What.{What}
 use Rattle.blif_syntax.specs.declared.models.What.TheVariants as what
-use Rattle.blif_syntax.specs.declared.place.Place.{Place}
+use Rattle.blif_syntax.specs.declared.open_cover.OpenCover.{OpenCover}
 use Rattle.blif_syntax.specs.Answer.{entry_of, entries_of}
 use Rattle.blif_syntax.specs.Forms.{form_of}
 use Rattle.blif_syntax.specs.Places.{first_or, row_fits}
@@ -57,14 +57,14 @@ item_spelled n (what.Subckt model formals) say = ap (one_entry n) (use_form mode
 
 -- these lines, which stand where a model is open, say these items of it and then these models
 pub record IsInside (lines : List Entry) (items : List Item) (models : List Model) : Type 0 where
-  pub fault : (cover : Option Place) → fault_from true cover lines ≡ None
+  pub fault : (cover : Option OpenCover) → fault_from true cover lines ≡ None
   pub rows : rows_of lines ≡ []
   pub own : items_of lines ≡ items
   pub later : models_of lines ≡ models
 
 -- these lines, which may stand anywhere, say these models
 pub record IsOutside (lines : List Entry) (models : List Model) : Type 0 where
-  pub fault : (inside : Bool) (cover : Option Place) → fault_from inside cover lines ≡ None
+  pub fault : (inside : Bool) (cover : Option OpenCover) → fault_from inside cover lines ≡ None
   pub later : models_of lines ≡ models
 
 rows_read : (n : ℕ) (on : Bool) (rows : List (List Lit)) (rest : List Entry) → rows_of rest ≡ [] → rows_of (map (row_entry n on) rows ++ rest) ≡ map (λ row. (row, on)) rows
@@ -79,7 +79,7 @@ rows_models : (n : ℕ) (on : Bool) (rows : List (List Lit)) (rest : List Entry)
 rows_models n on [] rest = refl
 rows_models n on (row ∷ rows) rest = rows_models n on rows rest
 
-unless : (bit : Bool) (later fault : Option (ℕ × Kind)) → bit ≡ true → later ≡ None → (if bit then later else fault) ≡ None
+unless : (bit : Bool) (later fault : Option (ℕ × LineFault)) → bit ≡ true → later ≡ None → (if bit then later else fault) ≡ None
 unless true later fault b e = e
 unless false later fault b e = absurd (cc b)
 
@@ -87,7 +87,7 @@ fits_width : (n width : ℕ) (first : Option Bool) (on : Bool) → n ≡ width �
 fits_width n width first true e f = rw f (grind (arith, e))
 fits_width n width first false e f = rw f (grind (arith, e))
 
-rows_stand : (n width : ℕ) (on : Bool) (rows : List (List Lit)) (first : Option Bool) (rest : List Entry) → All (λ row. length row ≡ width) rows → first_or first on ≡ on → ((cover : Option Place) → fault_from true cover rest ≡ None) → fault_from true (Some (record { width = width; first = first })) (map (row_entry n on) rows ++ rest) ≡ None
+rows_stand : (n width : ℕ) (on : Bool) (rows : List (List Lit)) (first : Option Bool) (rest : List Entry) → All (λ row. length row ≡ width) rows → first_or first on ≡ on → ((cover : Option OpenCover) → fault_from true cover rest ≡ None) → fault_from true (Some (record { width = width; first = first })) (map (row_entry n on) rows ++ rest) ≡ None
 rows_stand n width on [] first rest all f later = later (Some (record { width = width; first = first }))
 rows_stand n width on (row ∷ rows) first rest all f later =
     unless (row_fits (length row) on (Some (record { width = width; first = first }))) _ _

@@ -6,5 +6,5 @@ pub mod Answer
 pub mod Rules
 pub mod Covered
 pub mod Written
-pub mod Drafts
 pub mod Sayable
+pub mod private

@@ -4,7 +4,7 @@ ghost use Rattle.std.specs.Prelude.{◌≡◌, IfOk, suc, take, drop, length, un
 ghost use Rattle.std.specs.List.{position};
 ghost use Rattle.blif_syntax.specs.Forms.{is_equals, binding_with, binding_of, bindings_of, use_of};
 
-use crate::form::{Form, Kind};
+use crate::form::{Form, LineFault};
 use crate::models::What;
 use std::alloc::{AllocError, Global};
 use ste_base::{Items, Name};
@@ -75,13 +75,13 @@ pub fn use_of(alloc: Global, words: &[Name]) -> Result<Form, AllocError>
     ensures { IfOk result (λ form. form ≡ use_of words.now) }
 {
     let [model, bindings @ ..] = words else {
-        return Ok(Form::Wrong(Kind::Bad));
+        return Ok(Form::Wrong(LineFault::Bad));
     };
     match bindings_of(alloc, bindings)? {
         Some(formals) => Ok(Form::Item(What::Subckt {
             model: model.clone()?,
             formals,
         })),
-        None => Ok(Form::Wrong(Kind::Bad)),
+        None => Ok(Form::Wrong(LineFault::Bad)),
     }
 }

@@ -1,10 +1,10 @@
 -- The value of an expression is that of its tree.
-use Rattle.std.proofs.Common.{◌≡◌, ℕ, Bool, false, not, ◌&&◌, ◌||◌, List, [], ◌∷◌, map, ap, refl, sym, subst, ◌∙◌}
-use Rattle.std.specs.Prelude.{fold, slice_index_or}
+use Rattle.std.proofs.Common.{◌≡◌, Bool, false, not, List, [], ◌∷◌, map, ap, refl, sym, subst, ◌∙◌}
+use Rattle.std.specs.Prelude.{slice_index_or}
 use Rattle.std.specs.List.{list_all, list_any}
 use Rattle.bool_expr.specs.declared.expr.Expr.{Expr, map-Expr}
 use Rattle.bool_expr.specs.declared.expr.Expr.TheOpen.{Expr-F, Const, Var, Not, All, Odd, Any}
-use Rattle.bool_expr.specs.declared.expr.Expr.TheFolds.{fold-Expr, fold-roll-Expr, ind-Expr}
+use Rattle.bool_expr.specs.declared.expr.Expr.TheFolds.{fold-roll-Expr, ind-Expr}
 use Rattle.bool_expr.specs.declared.token.Sign.{Sign}
 use Rattle.bool_expr.specs.declared.token.Sign.TheVariants.{Or, Xor, And}
 use Rattle.bool_expr.specs.Laws.{OneTreeHasOneValue}

@@ -4,8 +4,8 @@ ghost use Rattle.std.specs.Prelude.{◌≡◌, ◌<◌, ◌^◌, ◌∷◌, [], 
 ghost use Rattle.bool_expr.specs.Tokens.{tokens_of, negation};
 ghost use Rattle.bool_expr.specs.Tree.{tree_of, chain};
 ghost use Rattle.bool_expr.specs.Read.{place_by, first_unknown};
-ghost use Rattle.bool_expr.specs.Held.{token_of, numbers, IsCause};
-ghost use Rattle.bool_expr.specs.Build.{opened, built, nothing, behind_signs, with_factor, shut, with_sign, closed, turn, build_from, build_start};
+ghost use Rattle.bool_expr.specs.private.Held.{token_of, numbers, IsCause};
+ghost use Rattle.bool_expr.specs.private.Build.{opened, built, nothing, behind_signs, with_factor, shut, with_sign, closed, turn, build_from, build_start};
 
 use crate::expr::Expr;
 use crate::fault::ExprFault;

@@ -2,8 +2,8 @@
 
 ghost use Rattle.std.specs.Prelude.{◌≡◌, ◌≤◌, Option, None, Some, IfOk, if◌then◌else◌};
 ghost use Rattle.bool_expr.specs.Tokens.{tokens_of, opening, closing};
-ghost use Rattle.bool_expr.specs.Held.{token_of};
-ghost use Rattle.bool_expr.specs.Scan.{scanned, step, scan_from, scan_start, deeper, behind_factor, ended};
+ghost use Rattle.bool_expr.specs.private.Held.{token_of};
+ghost use Rattle.bool_expr.specs.private.Scan.{scanned, step, scan_from, scan_start, deeper, behind_factor, ended};
 
 use crate::token::{Token, next_token};
 use std::alloc::{AllocError, Global};

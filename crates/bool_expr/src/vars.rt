@@ -4,7 +4,7 @@ ghost use Rattle.std.specs.Prelude.{◌≡◌, ◌<◌, ◌^◌, ◌∷◌, [], 
 ghost use Rattle.bool_expr.specs.Tokens.{variable};
 ghost use Rattle.bool_expr.specs.Tree.{tree_of, place};
 ghost use Rattle.bool_expr.specs.Read.{number_in, place_by};
-ghost use Rattle.bool_expr.specs.Held.{numbers, with_place, IsCause};
+ghost use Rattle.bool_expr.specs.private.Held.{numbers, with_place, IsCause};
 
 use crate::expr::Expr;
 use crate::fault::ExprFault;

@@ -7,6 +7,4 @@ pub mod Flat
 pub mod Source
 pub mod Loop
 pub mod Cases
-pub mod Asks
-pub mod Search
-pub mod Written
+pub mod private

@@ -15,7 +15,7 @@ use Rattle.net_core.specs.Sets.{IsIn, both}
 use Rattle.net_core.specs.Possible.{Asked, MayGive, ArePossible}
 use Rattle.net_core.proofs.Possible.{same_set}
 use Rattle.net_core.proofs.Ordered.{place_of}
-use Rattle.plain_check.specs.Sets.{set_at, Allows, AreLatched, AreSets}
+use Rattle.plain_check.specs.private.Sets.{set_at, Allows, AreLatched, AreSets}
 use Rattle.plain_check.proofs.Latched.{by_index}
 
 -- the inputs' sets, where each is known

@@ -11,7 +11,7 @@ use Rattle.net_core.specs.Flat.{HasOneDriver}
 use Rattle.net_core.specs.Sets.{IsIn, both}
 use Rattle.net_core.specs.Possible.{Asked, ArePossible}
 use Rattle.net_core.proofs.Possible.{same_set}
-use Rattle.plain_check.specs.Sets.{set_at, Allows, NoGate, AreLatched}
+use Rattle.plain_check.specs.private.Sets.{set_at, Allows, NoGate, AreLatched}
 
 -- each latch may give the bit, where only those that drive the net have to
 pub by_index : (id : ℕ) (bit : Bool) (latches : List Latch) (held : List BitSet) → length held ≡ length latches → ((k : ℕ) → k < length latches → (l : Latch) → (get_or latches k l).output.0 ≡ id → IsIn bit (set_at held k)) → AllZip (λ latch set. latch.output.0 ≡ id → IsIn bit set) latches held

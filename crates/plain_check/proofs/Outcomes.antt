@@ -18,8 +18,8 @@ use Rattle.ste_model.proofs.Tables.{same_table}
 use Rattle.ste_model.proofs.Findings.{found_in}
 use Rattle.plain_check.specs.declared.found.Failure.{Failure}
 use Rattle.plain_check.specs.declared.found.Failure.TheVariants as failure
-use Rattle.plain_check.specs.Outcome.{table_of, is_empty, has_empty, fails, fails_cut, fails_at}
-use Rattle.plain_check.specs.Sets.{set_at}
+use Rattle.plain_check.specs.private.Outcome.{table_of, is_empty, has_empty, fails, fails_cut, fails_at}
+use Rattle.plain_check.specs.private.Sets.{set_at}
 
 empty_is : (set : BitSet) → IsTrue (is_empty set) ↔ (set ≡ neither)
 empty_is set = (

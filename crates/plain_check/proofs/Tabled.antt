@@ -10,8 +10,8 @@ use Rattle.net_core.specs.Possible.{Asked, ArePossible}
 use Rattle.net_core.proofs.Possible.{same_set, some_family}
 use Rattle.net_core.proofs.Ordered.{settled_by_order}
 use Rattle.ste_model.specs.Table.{latch_sets, IsPossible}
-use Rattle.plain_check.specs.Outcome.{table_of}
-use Rattle.plain_check.specs.Sets.{set_at, AreSets}
+use Rattle.plain_check.specs.private.Outcome.{table_of}
+use Rattle.plain_check.specs.private.Sets.{set_at, AreSets}
 use Rattle.plain_check.proofs.Allowed.{in_both}
 use Rattle.plain_check.proofs.Latched.{by_index}
 

@@ -13,8 +13,8 @@ use Rattle.ste_model.proofs.Tables.{same_table}
 use Rattle.ste_model.proofs.Findings.{verdict_from}
 use Rattle.plain_check.specs.declared.found.Outcome.{Outcome}
 use Rattle.plain_check.specs.declared.found.Outcome.TheVariants.{Contradictory, Strong, Weak, Fine}
-use Rattle.plain_check.specs.Choices.{lists_of}
-use Rattle.plain_check.specs.Outcome.{IsOutcome, is_strong, is_weak, is_contradictory, verdict_of}
+use Rattle.plain_check.specs.private.Choices.{lists_of}
+use Rattle.plain_check.specs.private.Outcome.{IsOutcome, is_strong, is_weak, is_contradictory, verdict_of}
 
 -- one list of bits more has its outcome
 pub zip_more : {X Y : Type 0} (R : X → Y → Type 0) (xs : List X) (ys : List Y) (i : ℕ) (x : X) (y : Y) → i < length xs → x ≡ get_or xs i x → AllZip R (take i xs) ys → R x y → AllZip R (take (i + 1) xs) (ys ++ y ∷ [])

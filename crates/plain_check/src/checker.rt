@@ -4,8 +4,8 @@ ghost use Rattle.std.specs.Prelude.{◌≡◌, ◌<◌, ◌≤◌, ℕ, Bool, Li
 ghost use Rattle.std.specs.List.{AllZip, list_all, list_any};
 ghost use Rattle.ste_model.specs.Asked.{depth as depth_of, latest};
 ghost use Rattle.ste_model.specs.Found.{IsTableOf, IsVerdictOf};
-ghost use Rattle.plain_check.specs.Choices.{AreChoices, lists_of};
-ghost use Rattle.plain_check.specs.Outcome.{IsOutcome, is_contradictory, is_strong, is_weak, table_of, verdict_of};
+ghost use Rattle.plain_check.specs.private.Choices.{AreChoices, lists_of};
+ghost use Rattle.plain_check.specs.private.Outcome.{IsOutcome, is_contradictory, is_strong, is_weak, table_of, verdict_of};
 
 use crate::choices::lists_of;
 use crate::found::{Failure, Outcome, fails_somewhere, has_empty};

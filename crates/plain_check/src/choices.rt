@@ -1,7 +1,7 @@
 //! All lists of so many bits; begin with `lists_of`.
 
 ghost use Rattle.std.specs.Prelude.{◌≡◌, ◌++◌, ◌∷◌, map, IfOk, OnOk};
-ghost use Rattle.plain_check.specs.Choices.{lists_of};
+ghost use Rattle.plain_check.specs.private.Choices.{lists_of};
 
 use std::alloc::{AllocError, Global};
 use ste_base::Items;

@@ -3,8 +3,8 @@
 ghost use Rattle.std.specs.Prelude.{◌≡◌, ◌<◌, ℕ, [], false, length, IsTrue, slice_index_or};
 ghost use Rattle.std.specs.List.{list_any};
 ghost use Rattle.ste_model.specs.Asked.{quint_at};
-ghost use Rattle.plain_check.specs.Outcome.{fails, fails_at, fails_cut, has_empty, is_contradictory, is_empty, is_strong, is_weak};
-ghost use Rattle.plain_check.specs.Sets.{set_at};
+ghost use Rattle.plain_check.specs.private.Outcome.{fails, fails_at, fails_cut, has_empty, is_contradictory, is_empty, is_strong, is_weak};
+ghost use Rattle.plain_check.specs.private.Sets.{set_at};
 
 use crate::sources::applies;
 use crate::table::set_at;

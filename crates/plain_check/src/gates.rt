@@ -6,8 +6,8 @@ ghost use Rattle.net_core.specs.Cover.{cover_bit};
 ghost use Rattle.net_core.specs.Run.{Cut};
 ghost use Rattle.net_core.specs.Sets.{IsIn};
 ghost use Rattle.net_core.specs.Possible.{Asked, ArePossible, MayGive};
-ghost use Rattle.plain_check.specs.Choices.{AreChoices, lists_of};
-ghost use Rattle.plain_check.specs.Sets.{Allows, AreSets, fits, may_give_one, may_give_zero, set_at};
+ghost use Rattle.plain_check.specs.private.Choices.{AreChoices, lists_of};
+ghost use Rattle.plain_check.specs.private.Sets.{Allows, AreSets, fits, may_give_one, may_give_zero, set_at};
 
 use net_core::{BitSet, Cover, Net, eval};
 use std::alloc::{AllocError, Global};

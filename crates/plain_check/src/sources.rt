@@ -5,7 +5,7 @@ ghost use Rattle.net_core.specs.declared.bit_set.BitSet.{BitSet as Set};
 ghost use Rattle.net_core.specs.Run.{Cut};
 ghost use Rattle.net_core.specs.Possible.{Asked, ArePossible};
 ghost use Rattle.ste_model.specs.Asked.{cuts_at, quint_at};
-ghost use Rattle.plain_check.specs.Sets.{Allows, AreLatched};
+ghost use Rattle.plain_check.specs.private.Sets.{Allows, AreLatched};
 
 use bool_expr::value;
 use net_core::{BitSet, Net};

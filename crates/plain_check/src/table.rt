@@ -5,9 +5,9 @@ ghost use Rattle.net_core.specs.Possible.{ArePossible};
 ghost use Rattle.ste_model.specs.Asked.{asked_at};
 ghost use Rattle.net_core.specs.Sets.{first_set, first_sets, next_sets};
 ghost use Rattle.ste_model.specs.Table.{IsPossible};
-ghost use Rattle.plain_check.specs.Choices.{AreChoices, lists_of};
-ghost use Rattle.plain_check.specs.Outcome.{table_of};
-ghost use Rattle.plain_check.specs.Sets.{set_at};
+ghost use Rattle.plain_check.specs.private.Choices.{AreChoices, lists_of};
+ghost use Rattle.plain_check.specs.private.Outcome.{table_of};
+ghost use Rattle.plain_check.specs.private.Sets.{set_at};
 
 use crate::gates::place_gates;
 use crate::sources::{allowed_at, place_latches};

@@ -1,5 +1,5 @@
 use Rattle.std.proofs.Common.{◌≡◌, ◌<◌, ℕ, [], false, get_or}
-use Rattle.plain_check.specs.Outcome.{fails_at}
+use Rattle.plain_check.specs.private.Outcome.{fails_at}
 use Rattle.plain_check.proofs.found.fails_somewhere.Given as goal
 
 -- nothing has failed so far

@@ -6,7 +6,7 @@ use Rattle.net_core.specs.declared.raw.Gate.{Gate}
 use Rattle.net_core.specs.Cover.{cover_bit}
 use Rattle.net_core.specs.Sets.{IsIn}
 use Rattle.net_core.specs.Possible.{MayGive}
-use Rattle.plain_check.specs.Sets.{set_at}
+use Rattle.plain_check.specs.private.Sets.{set_at}
 use Rattle.plain_check.proofs.Gated.{gate_done}
 use Rattle.plain_check.proofs.gates.place_gates.Goals as goal
 

@@ -1,7 +1,7 @@
 use Rattle.std.proofs.Common.{◌≡◌, ℕ, List, length}
 use Rattle.net_core.specs.declared.bit_set.BitSet.{BitSet}
 use Rattle.net_core.specs.Possible.{Asked, ArePossible}
-use Rattle.plain_check.specs.Sets.{Allows, AreSets}
+use Rattle.plain_check.specs.private.Sets.{Allows, AreSets}
 use Rattle.plain_check.proofs.gates.place_gates.Given as goal
 
 -- the gates so far have their sets

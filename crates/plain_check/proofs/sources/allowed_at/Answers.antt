@@ -3,7 +3,7 @@ use Rattle.std.proofs.lemmas.List.{map_more, take_all}
 use Rattle.net_core.specs.Run.{Cut}
 use Rattle.ste_model.specs.declared.task.Quint.{Quint}
 use Rattle.ste_model.specs.Asked.{cuts_at, quint_at}
-use Rattle.plain_check.specs.Sets.{Allows}
+use Rattle.plain_check.specs.private.Sets.{Allows}
 use Rattle.plain_check.proofs.sources.allowed_at.Goals as goal
 
 pub loop-quint-preserved : goal.loop-quint-preserved

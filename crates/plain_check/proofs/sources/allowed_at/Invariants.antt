@@ -1,6 +1,6 @@
 use Rattle.std.proofs.Common.{◌≡◌, length, take}
 use Rattle.ste_model.specs.Asked.{cuts_at}
-use Rattle.plain_check.specs.Sets.{Allows}
+use Rattle.plain_check.specs.private.Sets.{Allows}
 use Rattle.plain_check.proofs.sources.allowed_at.Given as goal
 
 -- the quintuples so far were heeded

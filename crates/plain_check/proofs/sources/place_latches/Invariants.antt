@@ -1,7 +1,7 @@
 use Rattle.std.proofs.Common.{◌≡◌, ℕ, length}
 use Rattle.net_core.specs.declared.bit_set.BitSet.{BitSet}
 use Rattle.net_core.specs.Possible.{Asked, ArePossible}
-use Rattle.plain_check.specs.Sets.{Allows, AreLatched}
+use Rattle.plain_check.specs.private.Sets.{Allows, AreLatched}
 use Rattle.plain_check.proofs.sources.place_latches.Given as goal
 
 -- the latches so far have their sets

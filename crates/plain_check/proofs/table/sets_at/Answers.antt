@@ -5,7 +5,7 @@ use Rattle.net_core.specs.Run.{Cut}
 use Rattle.net_core.specs.Possible.{ArePossible}
 use Rattle.ste_model.specs.declared.task.Quint.{Quint}
 use Rattle.ste_model.specs.Asked.{asked_at, cuts_at, quint_at}
-use Rattle.plain_check.specs.Sets.{set_at, Allows, AreLatched}
+use Rattle.plain_check.specs.private.Sets.{set_at, Allows, AreLatched}
 use Rattle.plain_check.proofs.Latched.{latches_begin}
 use Rattle.plain_check.proofs.Gated.{gates_begin}
 use Rattle.plain_check.proofs.Tabled.{possible_row}

@@ -8,8 +8,8 @@ use Rattle.std.specs.Prelude.{All}
 use Rattle.ste_model.specs.Asked.{asked_at}
 use Rattle.net_core.specs.Sets.{next_sets}
 use Rattle.ste_model.specs.Table.{IsPossible, latch_sets}
-use Rattle.plain_check.specs.Outcome.{table_of}
-use Rattle.plain_check.specs.Sets.{set_at}
+use Rattle.plain_check.specs.private.Outcome.{table_of}
+use Rattle.plain_check.specs.private.Sets.{set_at}
 use Rattle.plain_check.proofs.Tabled.{more_rows, held_next}
 use Rattle.plain_check.proofs.table.table.Goals as goal
 

@@ -2,7 +2,7 @@ use Rattle.std.proofs.Common.{◌≡◌, length}
 use Rattle.std.specs.Prelude.{All}
 use Rattle.ste_model.specs.Asked.{asked_at}
 use Rattle.ste_model.specs.Table.{IsPossible, latch_sets}
-use Rattle.plain_check.specs.Outcome.{table_of}
+use Rattle.plain_check.specs.private.Outcome.{table_of}
 use Rattle.plain_check.proofs.table.table.Given as goal
 
 -- the rows so far are the table up to this time, and the latches hold what they leave

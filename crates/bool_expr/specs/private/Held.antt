@@ -1,4 +1,4 @@
--- Tokens, numbers and faults as the code holds them.
+-- For private functions. Tokens, numbers and faults as the code holds them.
 use Rattle.std.specs.Prelude.{ℕ, ◌≡◌, List, Option, None, Some, if◌then◌else◌, bytes_eq, Bool}
 use Rattle.std.specs.HashMap.{HashMap, get}
 use Rattle.bool_expr.specs.declared.token.Token as held

@@ -1,4 +1,4 @@
--- How the tree of a list of tokens is put together in one pass, with the open brackets in a list. That it is the tree of
+-- For private functions. How the tree of a list of tokens is put together in one pass, with the open brackets in a list. That it is the tree of
 -- the grammar is proved.
 use Rattle.std.specs.Prelude.{ℕ, zero, suc, List, [], ◌∷◌, ◌++◌, map}
 use Rattle.bool_expr.specs.declared.token.Sign.{Sign}

@@ -1,4 +1,4 @@
--- The possible sets of one time, as the plain checker comes to them net by net.
+-- For private functions. The possible sets of one time, as the plain checker comes to them net by net.
 use Rattle.std.specs.Prelude.{◌≡◌, ◌≢◌, ◌&&◌, ℕ, ◌<◌, ◌≤◌, ◌↔◌, Bool, not, List, length, All, IsTrue, slice_index, slice_index_or}
 use Rattle.std.specs.List.{list_all, list_any, zip}
 use Rattle.net_core.specs.declared.bit_set.BitSet.{BitSet}

@@ -1,4 +1,4 @@
--- How a list of tokens is gone through once, with the open brackets in a list: whether it is an expression, and how deep
+-- For private functions. How a list of tokens is gone through once, with the open brackets in a list: whether it is an expression, and how deep
 -- it is nested. That this is so by the grammar is proved.
 use Rattle.std.specs.Prelude.{ℕ, ◌+◌, min, max, List, [], ◌∷◌, Bool, true, false, if◌then◌else◌, Option, Some, None}
 use Rattle.bool_expr.specs.declared.scan.Scan.{Scan}

@@ -1,4 +1,4 @@
--- What is found under one assignment, by the plain checker. They help to say what private functions give.
+-- For private functions. What is found under one assignment, by the plain checker.
 use Rattle.std.specs.Prelude.{◌&&◌, ℕ, Bool, true, false, not, List, [], slice_index_or, if◌then◌else◌}
 use Rattle.std.specs.List.{list_all, list_any}
 use Rattle.net_core.specs.declared.bit_set.BitSet.{BitSet}
@@ -15,7 +15,7 @@ use Rattle.plain_check.specs.declared.found.Failure.{Failure}
 use Rattle.plain_check.specs.declared.found.Failure.TheVariants as failure
 use Rattle.plain_check.specs.declared.found.Outcome.{Outcome}
 use Rattle.plain_check.specs.declared.found.Outcome.TheVariants.{Contradictory, Strong, Weak, Fine}
-use Rattle.plain_check.specs.Sets.{set_at}
+use Rattle.plain_check.specs.private.Sets.{set_at}
 
 -- the table whose rows these are, one for each time
 abbrev pub table_of : List (List BitSet) → ℕ → ℕ → BitSet

@@ -1,4 +1,4 @@
--- Lists of bits, one for each assignment or choice. They help to say what private functions give.
+-- For private functions. Lists of bits, one for each assignment or choice.
 use Rattle.std.specs.Prelude.{◌≡◌, ◌<◌, length, slice_index_or, ℕ, zero, suc, ◌++◌, ◌∷◌, [], Bool, true, false, List, map}
 
 -- all lists of n bits, in order, 0 before 1
