@@ -4,13 +4,13 @@ use Rattle.std.specs.Prelude.{◌⊎◌, ◌≢◌, IsSomeAnd, IsTrue, String, s
 use Rattle.std.specs.declared.alloc.Global.{Global}
 use Rattle.std.specs.FinMap.{get}
 use Rattle.blif_syntax.specs.Answer.{IsAnswer as IsReadAs}
-use Rattle.blif_syntax.specs.Drafts.{fault_of}
+use Rattle.blif_syntax.specs.Answer.{fault_of}
 use Rattle.blif_syntax.specs.Places.{first_fault}
 use Rattle.blif_syntax.specs.Spelled.{models_of}
 use Rattle.blif_syntax.specs.declared.fault.BlifFault.{BlifFault}
 use Rattle.blif_syntax.specs.declared.fault.BlifFault.TheVariants.{BadLine, UnknownWord, LeftOut, NoModel, OutOfMemory}
 use Rattle.blif_syntax.specs.declared.form.Entry.{Entry}
-use Rattle.blif_syntax.specs.declared.form.Kind.{Kind}
+use Rattle.blif_syntax.specs.declared.form.LineFault.{LineFault}
 use Rattle.blif_syntax.specs.declared.models.Model.{Model}
 use Rattle.ste_model.specs.declared.verdict.Verdict.{Verdict}
 use Rattle.flat_net.specs.Lines.{signals, top}
@@ -100,7 +100,7 @@ faulty_first store words found stated faulty (inr (inl wide)) =
 faulty_first store words found stated faulty (inr (inr unread)) = no_netlist store words found unread.0 unread.1 unread.3.models unread.2 unread.3.netlist stated faulty
 
 -- the fault by number and kind of the first faulty line, or that there is no model
-abbrev fault_at : Option (ℕ × Kind) → BlifFault
+abbrev fault_at : Option (ℕ × LineFault) → BlifFault
 fault_at None = NoModel
 fault_at (Some (line, kind)) = fault_of line kind
 
