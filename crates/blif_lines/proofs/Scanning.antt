@@ -2,7 +2,8 @@
 use Rattle.std.proofs.Common.{ℕ, zero, suc, ◌+◌, ◌-◌, ◌<◌, ◌≤◌, ◌≡◌, refl, ap, sym, ◌∙◌, List, [], ◌∷◌, length, get_or, take, drop, arith, Bool, true, false, if◌then◌else◌, cond, Some, None, unwrap_or, nat_lt}
 use Rattle.std.specs.List.{position, position_or_len}
 use Rattle.std.proofs.lemmas.List.Recursion.{is_position_or_len}
-use Rattle.blif_lines.specs.Lines.{before, pieces, onto_first, is_blank, trimmed, unless_last}
+use Rattle.ste_base.specs.Bytes.{is_blank}
+use Rattle.blif_lines.specs.Lines.{before, pieces, onto_first, trimmed, unless_last}
 
 before_step : (c : Bool) (b : ℕ) (front : List ℕ) → length (if c then [] else b ∷ front) ≡ cond c 0 (1 + length front)
 before_step true b front = refl

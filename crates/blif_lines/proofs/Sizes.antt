@@ -3,7 +3,8 @@ use Rattle.std.proofs.Common.{ℕ, sum_by, suc, ◌+◌, ◌-◌, ◌<◌, ◌�
 use Rattle.std.proofs.lemmas.List.Elements.{All-cons, All-nil}
 use Rattle.std.proofs.lemmas.List.Sums.{sum_by-cons, length-filter, count_by-le-length}
 use Rattle.blif_lines.specs.declared.lines.Line.{Line}
-use Rattle.blif_lines.specs.Lines.{before, pieces, onto_first, is_blank, is_hash, is_line_feed, trimmed, unless_last, treated, words_of, is_filled, Numbered, onto_next, joined, is_continued, without_last, line_of, has_words}
+use Rattle.ste_base.specs.Bytes.{is_blank}
+use Rattle.blif_lines.specs.Lines.{before, pieces, onto_first, is_hash, is_line_feed, trimmed, unless_last, treated, words_of, is_filled, Numbered, onto_next, joined, is_continued, without_last, line_of, has_words}
 use Rattle.blif_lines.specs.Laws.{LinesFitTheText}
 use Rattle.blif_lines.proofs.Scanning.{before_short}
 

@@ -3,7 +3,8 @@ use Rattle.std.proofs.Common.{ℕ, suc, ◌+◌, ◌<◌, ◌≤◌, ◌≡◌, 
 use Rattle.std.specs.List.{position}
 use Rattle.std.proofs.lemmas.List.Elements.{filter-append}
 use Rattle.blif_lines.specs.declared.lines.Line.{Line}
-use Rattle.blif_lines.specs.Lines.{pieces, before, onto_first, is_blank, is_filled, words_of, Numbered, onto_next, joined, is_continued, without_last, is_line_feed, treated, line_of, word_lines}
+use Rattle.ste_base.specs.Bytes.{is_blank}
+use Rattle.blif_lines.specs.Lines.{pieces, before, onto_first, is_filled, words_of, Numbered, onto_next, joined, is_continued, without_last, is_line_feed, treated, line_of, word_lines}
 use Rattle.blif_lines.proofs.Scanning.{first_piece, place, front}
 
 -- the words before the first of these lines, which takes its number

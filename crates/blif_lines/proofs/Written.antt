@@ -1,10 +1,11 @@
 -- How written lines of plain words are read back.
 use Rattle.std.proofs.Common.{◌+◌, take, append-nil, length-append, ℕ, zero, suc, ◌-◌, ◌<◌, ◌≡◌, refl, ap, ◌∙◌, List, [], ◌∷◌, ◌++◌, length, filter, map, get_or, arith, Bool, true, false, if◌then◌else◌, nat_eq, All}
 use Rattle.std.proofs.lemmas.List.Elements.{All-cons, All-nil, All-head, All-tail, All-append, All-weaker}
-use Rattle.blif_lines.specs.Lines.{pieces, before, is_blank, is_line_feed, is_hash, trimmed, unless_last, without_last, joined, treated, words_of, is_filled, is_continued, has_words, word_lines}
+use Rattle.ste_base.specs.Bytes.{is_blank}
+use Rattle.blif_lines.specs.Lines.{pieces, before, is_line_feed, is_hash, trimmed, unless_last, without_last, joined, treated, words_of, is_filled, is_continued, has_words, word_lines}
 use Rattle.blif_lines.specs.Laws.{ended, IsPlain, IsBehind, Part, IsPart, spaced, written, all_written, all_words, numbered, WrittenLinesAreReadBack}
 use Rattle.blif_lines.proofs.Physical.{IsFree}
-use Rattle.blif_lines.proofs.Words.{words_both, with_front, front_words}
+use Rattle.blif_lines.proofs.Words.{with_front, front_words}
 
 free_head : (cuts : ℕ → Bool) (b : ℕ) (text : List ℕ) → IsFree cuts (b ∷ text) → cuts b ≡ false
 free_head cuts b text h = All-head (λ x. cuts x ≡ false) b text h
@@ -103,25 +104,21 @@ line_open : (n : ℕ) (text line front : List ℕ) (lines : List (List ℕ)) →
 line_open n text line front lines t e f = rw t (rw e (rw f (front_words n front (joined (suc n) (map treated lines)))))
 
 -- the bytes at the end of a continued line
-last_at : (front : List ℕ) (i : ℕ) → i ≡ length front + 1 → get_or (front ++ 32 ∷ 92 ∷ []) i 0 ≡ 92
+last_at : (front : List ℕ) (i : ℕ) → i ≡ length front → get_or (front ++ 92 ∷ []) i 0 ≡ 92
 last_at [] i e = rw e refl
 last_at (b ∷ front) zero e = absurd (omega (arith, e))
 last_at (b ∷ front) (suc i) e = last_at front i (omega (arith, e))
 
-front_at : (front : List ℕ) (i : ℕ) → i ≡ length front + 1 → take i (front ++ 32 ∷ 92 ∷ []) ≡ front ++ 32 ∷ []
+front_at : (front : List ℕ) (i : ℕ) → i ≡ length front → take i (front ++ 92 ∷ []) ≡ front
 front_at [] i e = rw e refl
 front_at (b ∷ front) zero e = absurd (omega (arith, e))
 front_at (b ∷ front) (suc i) e = ap (λ t. b ∷ t) (front_at front i (omega (arith, e)))
 
-end_at : (front : List ℕ) → length (front ++ 32 ∷ 92 ∷ []) - 1 ≡ length front + 1
-end_at front = rw (length-append front (32 ∷ 92 ∷ [])) (omega arith)
+end_at : (front : List ℕ) → length (front ++ 92 ∷ []) - 1 ≡ length front
+end_at front = rw (length-append front (92 ∷ [])) (omega arith)
 
--- the words of a continued line
-words_open : (words : List (List ℕ)) → All IsPlainWord words → words_of (spaced words ++ 32 ∷ []) ≡ words
-words_open words h = words_both (spaced words) [] ∙ append-nil (words_of (spaced words)) ∙ words_spaced words h
-
-free_open : (words : List (List ℕ)) → All IsPlainWord words → IsFree is_hash (spaced words ++ 32 ∷ 92 ∷ [])
-free_open words h = All-append (λ x. is_hash x ≡ false) (spaced words) (32 ∷ 92 ∷ []) (free_spaced is_hash (λ x p. p.2) refl words h) (All-cons (λ x. is_hash x ≡ false) 32 (92 ∷ []) refl (All-cons (λ x. is_hash x ≡ false) 92 [] refl (All-nil (λ x. is_hash x ≡ false))))
+free_open : (words : List (List ℕ)) → All IsPlainWord words → IsFree is_hash (spaced words ++ 92 ∷ [])
+free_open words h = All-append (λ x. is_hash x ≡ false) (spaced words) (92 ∷ []) (free_spaced is_hash (λ x p. p.2) refl words h) (All-cons (λ x. is_hash x ≡ false) 92 [] refl (All-nil (λ x. is_hash x ≡ false)))
 
 -- the physical lines of one logical line are read as that line
 parts_read : (n : ℕ) (part : Part) (parts : List Part) (rest : List (List ℕ)) → All IsPart (part ∷ parts) → word_lines n (written (part ∷ parts) ++ rest) ≡ record { number = n; words = all_words (part ∷ parts) } ∷ word_lines (n + length (part ∷ parts)) rest
@@ -131,9 +128,9 @@ parts_read n part [] rest h =
     rw next (rw (append-nil part.words) (line_alone n (spaced part.words ++ part.behind) (spaced part.words) rest (treated_behind (spaced part.words) part.behind (free_spaced is_hash (λ x q. q.2) refl part.words p.0) (trimmed_spaced part.words p.0) p.1) (get_free (spaced part.words) (length (spaced part.words) - 1) (free_spaced (λ b. nat_eq b 92) (λ x q. q.3) refl part.words p.0)) ∙ ap (λ w. record { number = n; words = w } ∷ word_lines (suc n) rest) (words_spaced part.words p.0)))
 parts_read n part (other ∷ parts) rest h =
     let p = All-head IsPart part (other ∷ parts) h in
-    let line = spaced part.words ++ 32 ∷ 92 ∷ [] in
+    let line = spaced part.words ++ 92 ∷ [] in
     let next : n + suc (suc (length parts)) ≡ suc n + suc (length parts) = omega arith in
-    rw next (line_open n (line ++ part.behind) line (spaced part.words ++ 32 ∷ []) (written (other ∷ parts) ++ rest) (treated_behind line part.behind (free_open part.words p.0) (trimmed_after (spaced part.words) 32 (92 ∷ []) refl) p.1) (ap (λ b. nat_eq b 92) (last_at (spaced part.words) (length line - 1) (end_at (spaced part.words)))) (front_at (spaced part.words) (length line - 1) (end_at (spaced part.words))) ∙ ap (λ w. with_front n w (word_lines (suc n) (written (other ∷ parts) ++ rest))) (words_open part.words p.0) ∙ ap (with_front n part.words) (parts_read (suc n) other parts rest (All-tail IsPart part (other ∷ parts) h)))
+    rw next (line_open n (line ++ part.behind) line (spaced part.words) (written (other ∷ parts) ++ rest) (treated_behind line part.behind (free_open part.words p.0) (trimmed_after (spaced part.words) 92 [] refl) p.1) (ap (λ b. nat_eq b 92) (last_at (spaced part.words) (length line - 1) (end_at (spaced part.words)))) (front_at (spaced part.words) (length line - 1) (end_at (spaced part.words))) ∙ ap (λ w. with_front n w (word_lines (suc n) (written (other ∷ parts) ++ rest))) (words_spaced part.words p.0) ∙ ap (with_front n part.words) (parts_read (suc n) other parts rest (All-tail IsPart part (other ∷ parts) h)))
 
 lines_read : (n : ℕ) (lines : List (List Part)) → All (λ parts. All IsPart parts) lines → filter has_words (word_lines n (all_written lines)) ≡ filter has_words (numbered n lines)
 lines_read n [] h = refl
@@ -150,8 +147,8 @@ ended_pieces (line ∷ lines) h = first_of is_line_feed 10 line (ended lines) re
 fed_spaced : (words : List (List ℕ)) → All IsPlainWord words → IsFree is_line_feed (spaced words)
 fed_spaced words h = free_spaced is_line_feed (λ x p. p.1) refl words h
 
-fed_open : (words : List (List ℕ)) → All IsPlainWord words → IsFree is_line_feed (spaced words ++ 32 ∷ 92 ∷ [])
-fed_open words h = All-append (λ x. is_line_feed x ≡ false) (spaced words) (32 ∷ 92 ∷ []) (fed_spaced words h) (All-cons (λ x. is_line_feed x ≡ false) 32 (92 ∷ []) refl (All-cons (λ x. is_line_feed x ≡ false) 92 [] refl (All-nil (λ x. is_line_feed x ≡ false))))
+fed_open : (words : List (List ℕ)) → All IsPlainWord words → IsFree is_line_feed (spaced words ++ 92 ∷ [])
+fed_open words h = All-append (λ x. is_line_feed x ≡ false) (spaced words) (92 ∷ []) (fed_spaced words h) (All-cons (λ x. is_line_feed x ≡ false) 92 [] refl (All-nil (λ x. is_line_feed x ≡ false)))
 
 written_free : (parts : List Part) → All IsPart parts → All (IsFree is_line_feed) (written parts)
 written_free [] h = All-nil (IsFree is_line_feed)
@@ -160,7 +157,7 @@ written_free (part ∷ []) h =
     All-cons (IsFree is_line_feed) (spaced part.words ++ part.behind) [] (All-append (λ x. is_line_feed x ≡ false) (spaced part.words) part.behind (fed_spaced part.words p.0) p.1.0) (All-nil (IsFree is_line_feed))
 written_free (part ∷ other ∷ parts) h =
     let p = All-head IsPart part (other ∷ parts) h in
-    All-cons (IsFree is_line_feed) (spaced part.words ++ 32 ∷ 92 ∷ [] ++ part.behind) (written (other ∷ parts)) (All-append (λ x. is_line_feed x ≡ false) (spaced part.words ++ 32 ∷ 92 ∷ []) part.behind (fed_open part.words p.0) p.1.0) (written_free (other ∷ parts) (All-tail IsPart part (other ∷ parts) h))
+    All-cons (IsFree is_line_feed) (spaced part.words ++ 92 ∷ [] ++ part.behind) (written (other ∷ parts)) (All-append (λ x. is_line_feed x ≡ false) (spaced part.words ++ 92 ∷ []) part.behind (fed_open part.words p.0) p.1.0) (written_free (other ∷ parts) (All-tail IsPart part (other ∷ parts) h))
 
 all_free : (lines : List (List Part)) → All (λ parts. All IsPart parts) lines → All (IsFree is_line_feed) (all_written lines)
 all_free [] h = All-nil (IsFree is_line_feed)

@@ -1,7 +1,8 @@
--- What holds of the lines of any text.
+-- Laws: what holds of the lines of any text.
 use Rattle.std.specs.Prelude.{ℕ, true, ◌+◌, filter, sum_by, nat_eq, ◌<◌, ◌≤◌, ◌≡◌, List, [], ◌∷◌, ◌++◌, length, All, Bool, false, if◌then◌else◌, not}
 use Rattle.blif_lines.specs.declared.lines.Line.{Line}
-use Rattle.blif_lines.specs.Lines.{pieces, before, is_blank, is_line_feed, is_hash, has_words, lines_of}
+use Rattle.ste_base.specs.Bytes.{is_blank}
+use Rattle.blif_lines.specs.Lines.{pieces, before, is_line_feed, is_hash, has_words, lines_of}
 
 -- these lines, each with a line feed behind it
 abbrev pub ended : List (List ℕ) → List ℕ
@@ -16,11 +17,15 @@ lacks_end (byte ∷ next ∷ text) = lacks_end (next ∷ text)
 
 -- the physical lines have no line feed; with one behind each they are the text, whose last line is ended where it was not
 abbrev pub PhysicalLinesAreTheText : Type 0
-PhysicalLinesAreTheText = (text : List ℕ) → All (λ line. All (λ byte. is_line_feed byte ≡ false) line) (pieces is_line_feed text) × (ended (pieces is_line_feed text) ≡ (if lacks_end text then text ++ 10 ∷ [] else text))
+PhysicalLinesAreTheText =
+    (text : List ℕ) → All (λ line. All (λ byte. is_line_feed byte ≡ false) line) (pieces is_line_feed text)
+    × (ended (pieces is_line_feed text) ≡ (if lacks_end text then text ++ 10 ∷ [] else text))
 
 -- each logical line has a word, and all lines together have no more words than the text has bytes
 abbrev pub LinesFitTheText : Type 0
-LinesFitTheText = (text : List ℕ) → All (λ line. (0 < length line.words) × (length line.words ≤ length text)) (lines_of text) × (sum_by (λ line. length line.words) (lines_of text) ≤ length text)
+LinesFitTheText =
+    (text : List ℕ) → All (λ line. (0 < length line.words) × (length line.words ≤ length text)) (lines_of text)
+    × (sum_by (λ line. length line.words) (lines_of text) ≤ length text)
 
 -- a byte that is no blank, line feed, `#` or backslash
 abbrev pub IsPlain : ℕ → Type 0
@@ -49,11 +54,11 @@ spaced [] = []
 spaced (word ∷ []) = word
 spaced (word ∷ next ∷ words) = word ++ 32 ∷ spaced (next ∷ words)
 
--- the physical lines of a logical line: all but the last have a space and a backslash after their words
+-- the physical lines of a logical line: all but the last have a backslash right after their words
 abbrev pub written : List Part → List (List ℕ)
 written [] = []
 written (part ∷ []) = (spaced part.words ++ part.behind) ∷ []
-written (part ∷ next ∷ parts) = (spaced part.words ++ 32 ∷ 92 ∷ [] ++ part.behind) ∷ written (next ∷ parts)
+written (part ∷ next ∷ parts) = (spaced part.words ++ 92 ∷ [] ++ part.behind) ∷ written (next ∷ parts)
 
 -- the physical lines of several logical lines
 abbrev pub all_written : List (List Part) → List (List ℕ)
@@ -72,4 +77,6 @@ numbered n (parts ∷ lines) = record { number = n; words = all_words parts } �
 
 -- logical lines of plain words, each written on one or more physical lines with blanks and comments, are read back
 abbrev pub WrittenLinesAreReadBack : Type 0
-WrittenLinesAreReadBack = (lines : List (List Part)) → All (λ parts. All IsPart parts) lines → lines_of (ended (all_written lines)) ≡ filter has_words (numbered 1 lines)
+WrittenLinesAreReadBack =
+    (lines : List (List Part)) → All (λ parts. All IsPart parts) lines →
+    lines_of (ended (all_written lines)) ≡ filter has_words (numbered 1 lines)

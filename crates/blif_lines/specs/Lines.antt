@@ -1,11 +1,8 @@
--- The logical lines of a text, as netlists, task files and input files are read by. The rules are this project's own
+-- Meaning. The logical lines of a text, as netlists, task files and input files are read by. The rules are this project's own
 -- choice, after the Berkeley description of BLIF.
 use Rattle.std.specs.Prelude.{ℕ, suc, ◌-◌, List, [], ◌∷◌, ◌++◌, length, map, filter, take, get_or, Bool, true, false, if◌then◌else◌, nat_eq, ◌||◌, not}
+use Rattle.ste_base.specs.Bytes.{is_blank}
 use Rattle.blif_lines.specs.declared.lines.Line.{Line}
-
--- a byte that parts words: a space, a tab or a carriage return
-abbrev pub is_blank : ℕ → Bool
-is_blank byte = nat_eq byte 32 || nat_eq byte 9 || nat_eq byte 13
 
 -- the byte that ends a physical line
 abbrev pub is_line_feed : ℕ → Bool

@@ -1,3 +1,5 @@
+//! The laws of logical lines: each is the contract of a function that does nothing.
+
 ghost use Rattle.blif_lines.specs.Laws.{LinesFitTheText, PhysicalLinesAreTheText, WrittenLinesAreReadBack};
 
 /// Law: the physical lines have no line feed, and put together again, with a line feed behind each, they are the text.

@@ -1,3 +1,5 @@
+//! The logical lines of a text; begin with `logical_lines`.
+
 ghost use Rattle.std.specs.Prelude.{◌≡◌, ◌+◌, ◌<◌, ◌≤◌, ◌^◌, ◌++◌, ◌∷◌, [], OnOk, IfOk, length, filter};
 ghost use Rattle.blif_lines.specs.Lines.{words_of, lines_of, pieces, is_line_feed, word_lines, is_filled};
 
@@ -43,7 +45,8 @@ fn add_words(words: &mut Items<Name>, alloc: Global, text: &[u8]) -> Result<(), 
 fn read_line(alloc: Global, text: &[u8], number: u32) -> Result<(Line, &[u8], u32), AllocError>
     requires some { 0 < length text.now }
     requires fits { number + length text.now < 2 ^ 32 }
-    ensures line { IfOk result (λ read. read.0 ∷ word_lines read.2 (pieces is_line_feed read.1.now) ≡ word_lines number (pieces is_line_feed text.now)) }
+    ensures line { IfOk result (λ read. read.0 ∷ word_lines read.2 (pieces is_line_feed read.1.now)
+        ≡ word_lines number (pieces is_line_feed text.now)) }
     ensures fits { IfOk result (λ read. read.2 + length read.1.now ≤ number + length text.now) }
     ensures shorter { IfOk result (λ read. length read.1.now < length text.now) }
 {

@@ -1,13 +1,11 @@
+//! One physical line: where it ends, its comment and its backslash; begin with `cut` and `treat`.
+
 ghost use Rattle.std.specs.Prelude.{◌≡◌, ◌≤◌, ◌-◌, ◌<◌, suc, length, take, drop, IfSome, unwrap_or, if◌then◌else◌};
 ghost use Rattle.std.specs.List.{position};
-ghost use Rattle.blif_lines.specs.Lines.{is_blank, is_line_feed, is_hash, before, trimmed, treated, is_continued, without_last};
+ghost use Rattle.ste_base.specs.Bytes.{is_blank};
+ghost use Rattle.blif_lines.specs.Lines.{is_line_feed, is_hash, before, trimmed, treated, is_continued, without_last};
 
-/// Whether a byte is a space, a tab or a carriage return.
-pub fn is_blank(byte: u8) -> bool
-    ensures { result ≡ is_blank byte }
-{
-    byte == b' ' || byte == b'\t' || byte == b'\r'
-}
+use ste_base::is_blank;
 
 /// The place of the first line feed.
 pub fn line_feed(text: &[u8]) -> Option<usize>
@@ -71,7 +69,8 @@ pub fn treat(line: &[u8]) -> &[u8]
 
 /// The line without a backslash at its end, and whether there is one.
 pub fn without_backslash(line: &[u8]) -> (&[u8], bool)
-    ensures body { result.0.now ≡ (if is_continued line.now then without_last line.now else line.now) }
+    ensures body { result.0.now
+        ≡ (if is_continued line.now then without_last line.now else line.now) }
     ensures continued { result.1 ≡ is_continued line.now }
 {
     match line {

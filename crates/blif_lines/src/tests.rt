@@ -1,3 +1,5 @@
+//! Texts and their logical lines, in one table; begin with `lines_of_texts`.
+
 use crate::{Line, logical_lines};
 use std::alloc::{AllocError, Global};
 use std::test::Fail;

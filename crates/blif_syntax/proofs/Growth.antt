@@ -11,11 +11,11 @@ use Rattle.blif_syntax.specs.declared.models.Model.{Model}
 use Rattle.blif_syntax.specs.declared.models.What.TheVariants as what
 use Rattle.blif_syntax.specs.Places.{first_or}
 use Rattle.blif_syntax.specs.Spelled.{rows_of, on_of, names_item, items_of, models_of}
-use Rattle.blif_syntax.specs.Drafts.{cover_item, row_added, closed_items, line_added}
+use Rattle.blif_syntax.specs.private.Drafts.{cover_item, row_added, closed_items, line_added}
 
 -- a cover with the rows to come
 abbrev pub grown : Pending → List (List Lit × Bool) → Item
-grown cover rows = record { line = cover.line; what = what.Names cover.inputs cover.output (record { inputs = cover.place.width; on = first_or cover.place.first (on_of rows); rows = cover.rows ++ map (λ row. row.0) rows }) }
+grown cover rows = record { line = cover.line; what = what.Names cover.inputs cover.output (record { inputs = cover.opened.width; on = first_or cover.opened.first (on_of rows); rows = cover.rows ++ map (λ row. row.0) rows }) }
 
 abbrev pub grown_items : Option Pending → List (List Lit × Bool) → List Item
 grown_items None rows = []
@@ -32,7 +32,7 @@ finish draft rest = draft.models ++ (grown_model draft.model draft.cover (rows_o
 
 -- a cover without rows to come
 item_closed : (cover : Pending) → cover_item cover ≡ grown cover []
-item_closed cover = ap (λ rows. record { line = cover.line; what = what.Names cover.inputs cover.output (record { inputs = cover.place.width; on = first_or cover.place.first true; rows = rows }) }) (sym (append-nil cover.rows))
+item_closed cover = ap (λ rows. record { line = cover.line; what = what.Names cover.inputs cover.output (record { inputs = cover.opened.width; on = first_or cover.opened.first true; rows = rows }) }) (sym (append-nil cover.rows))
 
 items_closed : (items more : List Item) (cover : Option Pending) → closed_items items cover ++ more ≡ items ++ (grown_items cover [] ++ more)
 items_closed items more None = refl
@@ -40,7 +40,7 @@ items_closed items more (Some cover) = append_assoc items (cover_item cover ∷ 
 
 -- a row more, or one row less to come
 row_grown : (cover : Pending) (row : List Lit) (on : Bool) (rows : List (List Lit × Bool)) → grown_items (row_added row on (Some cover)) rows ≡ grown cover ((row, on) ∷ rows) ∷ []
-row_grown cover row on rows = ap (λ all. record { line = cover.line; what = what.Names cover.inputs cover.output (record { inputs = cover.place.width; on = first_or cover.place.first on; rows = all }) } ∷ []) (append_assoc cover.rows (row ∷ []) (map (λ row. row.0) rows))
+row_grown cover row on rows = ap (λ all. record { line = cover.line; what = what.Names cover.inputs cover.output (record { inputs = cover.opened.width; on = first_or cover.opened.first on; rows = all }) } ∷ []) (append_assoc cover.rows (row ∷ []) (map (λ row. row.0) rows))
 
 -- the open model, where these are its items, is the same
 same_items : (models : List Model) (model : Model) (xs ys : List Item) (later : List Model) → xs ≡ ys → models ++ (record model { items = xs } ∷ later) ≡ models ++ (record model { items = ys } ∷ later)
@@ -51,7 +51,7 @@ model_closed : (models later : List Model) (model : Model) (cover : Option Pendi
 model_closed models later model cover = append_assoc models (record model { items = closed_items model.items cover } ∷ []) later ∙ same_items models model (closed_items model.items cover) (model.items ++ (grown_items cover [] ++ [])) later (sym (append-nil (closed_items model.items cover)) ∙ items_closed model.items [] cover)
 
 step_at : (models : List Model) (model : Option Model) (cover : Option Pending) (line : ℕ) (form : Form) (rest : List Entry) → finish (line_added (record { models = models; model = model; cover = cover }) line form) rest ≡ finish (record { models = models; model = model; cover = cover }) (record { line = line; form = form } ∷ rest)
-step_at models model cover line form.Passed rest = refl
+step_at models model cover line form.Skipped rest = refl
 step_at models None cover line (form.Row row on) rest = refl
 step_at models (Some m) None line (form.Row row on) rest = refl
 step_at models (Some m) (Some c) line (form.Row row on) rest = same_items models m _ _ (models_of rest) (ap (λ items. m.items ++ (items ++ items_of rest)) (row_grown c row on (rows_of rest)))

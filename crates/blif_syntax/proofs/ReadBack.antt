@@ -8,18 +8,19 @@ use Rattle.net_core.specs.declared.cover.Lit.{Lit}
 use Rattle.blif_syntax.specs.declared.form.Entry.{Entry}
 use Rattle.blif_syntax.specs.declared.form.Form.{Form}
 use Rattle.blif_syntax.specs.declared.form.Form.TheVariants as form
-use Rattle.blif_syntax.specs.declared.form.Kind.{Kind}
+use Rattle.blif_syntax.specs.declared.form.LineFault.{LineFault}
 use Rattle.blif_syntax.specs.declared.models.Item.{Item}
 use Rattle.blif_syntax.specs.declared.models.LatchKind.TheVariants.{Plain, Rising, Falling}
 use Rattle.blif_syntax.specs.declared.models.Model.{Model}
 use Rattle.blif_syntax.specs.declared.models.What.{What}
 use Rattle.blif_syntax.specs.declared.models.What.TheVariants as what
-use Rattle.blif_syntax.specs.declared.place.Place.{Place}
+use Rattle.blif_syntax.specs.declared.open_cover.OpenCover.{OpenCover}
 use Rattle.blif_syntax.specs.Answer.{entry_of, entries_of}
 use Rattle.blif_syntax.specs.Forms.{form_of}
 use Rattle.blif_syntax.specs.Places.{first_or, row_fits}
 use Rattle.blif_syntax.specs.Spelled.{rows_of, on_of, items_of, models_of}
-use Rattle.blif_syntax.specs.Written.{row_words, item_words, item_lines, numbered, head_words, model_lines, written, IsCover, IsSayable, AreSayable, WrittenIsRead}
+use Rattle.net_core.specs.Cover.{IsCover}
+use Rattle.blif_syntax.specs.Written.{row_words, item_words, item_lines, numbered, head_words, model_lines, written, IsSayable, AreSayable, WrittenIsRead}
 use Rattle.blif_syntax.proofs.Faults.{fault_from, whole}
 use Rattle.blif_syntax.proofs.Spelling.{row_form, names_form, plain_form, rising_form, falling_form, use_form}
 
@@ -56,14 +57,14 @@ item_spelled n (what.Subckt model formals) say = ap (one_entry n) (use_form mode
 
 -- these lines, which stand where a model is open, say these items of it and then these models
 pub record IsInside (lines : List Entry) (items : List Item) (models : List Model) : Type 0 where
-  pub fault : (cover : Option Place) → fault_from true cover lines ≡ None
+  pub fault : (cover : Option OpenCover) → fault_from true cover lines ≡ None
   pub rows : rows_of lines ≡ []
   pub own : items_of lines ≡ items
   pub later : models_of lines ≡ models
 
 -- these lines, which may stand anywhere, say these models
 pub record IsOutside (lines : List Entry) (models : List Model) : Type 0 where
-  pub fault : (inside : Bool) (cover : Option Place) → fault_from inside cover lines ≡ None
+  pub fault : (inside : Bool) (cover : Option OpenCover) → fault_from inside cover lines ≡ None
   pub later : models_of lines ≡ models
 
 rows_read : (n : ℕ) (on : Bool) (rows : List (List Lit)) (rest : List Entry) → rows_of rest ≡ [] → rows_of (map (row_entry n on) rows ++ rest) ≡ map (λ row. (row, on)) rows
@@ -78,7 +79,7 @@ rows_models : (n : ℕ) (on : Bool) (rows : List (List Lit)) (rest : List Entry)
 rows_models n on [] rest = refl
 rows_models n on (row ∷ rows) rest = rows_models n on rows rest
 
-unless : (bit : Bool) (later fault : Option (ℕ × Kind)) → bit ≡ true → later ≡ None → (if bit then later else fault) ≡ None
+unless : (bit : Bool) (later fault : Option (ℕ × LineFault)) → bit ≡ true → later ≡ None → (if bit then later else fault) ≡ None
 unless true later fault b e = e
 unless false later fault b e = absurd (cc b)
 
@@ -86,7 +87,7 @@ fits_width : (n width : ℕ) (first : Option Bool) (on : Bool) → n ≡ width �
 fits_width n width first true e f = rw f (grind (arith, e))
 fits_width n width first false e f = rw f (grind (arith, e))
 
-rows_stand : (n width : ℕ) (on : Bool) (rows : List (List Lit)) (first : Option Bool) (rest : List Entry) → All (λ row. length row ≡ width) rows → first_or first on ≡ on → ((cover : Option Place) → fault_from true cover rest ≡ None) → fault_from true (Some (record { width = width; first = first })) (map (row_entry n on) rows ++ rest) ≡ None
+rows_stand : (n width : ℕ) (on : Bool) (rows : List (List Lit)) (first : Option Bool) (rest : List Entry) → All (λ row. length row ≡ width) rows → first_or first on ≡ on → ((cover : Option OpenCover) → fault_from true cover rest ≡ None) → fault_from true (Some (record { width = width; first = first })) (map (row_entry n on) rows ++ rest) ≡ None
 rows_stand n width on [] first rest all f later = later (Some (record { width = width; first = first }))
 rows_stand n width on (row ∷ rows) first rest all f later =
     unless (row_fits (length row) on (Some (record { width = width; first = first }))) _ _
@@ -105,11 +106,11 @@ abbrev pub made : ℕ → Bool → List (List Lit) → Cover
 made inputs on rows = record { inputs = inputs; on = on; rows = rows }
 
 -- a cover by its rows
-cover_back : (width : ℕ) (cover : Cover) (rows : List (List Lit × Bool)) → IsCover width cover → rows ≡ map (λ row. (row, cover.on)) cover.rows → made width (on_of rows) (map (λ (row : List Lit × Bool). row.0) rows) ≡ cover
+cover_back : (width : ℕ) (cover : Cover) (rows : List (List Lit × Bool)) → (cover.inputs ≡ width) × IsCover cover → rows ≡ map (λ row. (row, cover.on)) cover.rows → made width (on_of rows) (map (λ (row : List Lit × Bool). row.0) rows) ≡ cover
 cover_back width cover rows is e =
-    let same : on_of rows ≡ cover.on = ap on_of e ∙ on_back cover.on cover.rows is.on in
+    let same : on_of rows ≡ cover.on = ap on_of e ∙ on_back cover.on cover.rows is.1.on in
     let firsts : map (λ (row : List Lit × Bool). row.0) rows ≡ cover.rows = ap (map (λ (row : List Lit × Bool). row.0)) e ∙ firsts_back cover.on cover.rows in
-    ap (λ n. made n (on_of rows) (map (λ (row : List Lit × Bool). row.0) rows)) (sym is.inputs)
+    ap (λ n. made n (on_of rows) (map (λ (row : List Lit × Bool). row.0) rows)) (sym is.0)
     ∙ ap (λ on. made cover.inputs on (map (λ (row : List Lit × Bool). row.0) rows)) same
     ∙ ap (made cover.inputs cover.on) firsts
 
@@ -120,7 +121,7 @@ line_more n said rest items models is = record { fault = λ cover. is.fault None
 -- an item more
 item_more : (n : ℕ) (said : What) (rest : List Entry) (items : List Item) (models : List Model) → IsSayable said → IsInside rest items models → IsInside (item_entries n said ++ rest) (record { line = n; what = said } ∷ items) models
 item_more n (what.Names inputs output cover) rest items models say is = record {
-  fault = λ place. rows_stand n (length inputs) cover.on cover.rows None rest say.rows refl is.fault;
+  fault = λ place. rows_stand n (length inputs) cover.on cover.rows None rest (subst (λ (n : ℕ). All (λ row. length row ≡ n) cover.rows) say.0 say.1.wide) refl is.fault;
   rows = refl;
   own =
       ap (λ c. record { line = n; what = what.Names inputs output c } ∷ items_of (map (row_entry n cover.on) cover.rows ++ rest)) (cover_back (length inputs) cover (rows_of (map (row_entry n cover.on) cover.rows ++ rest)) say (rows_read n cover.on cover.rows rest is.rows))

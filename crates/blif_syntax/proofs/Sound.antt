@@ -1,5 +1,5 @@
 -- What is read can be written out: covers have rows of their width, and so on.
-use Rattle.std.proofs.Common.{ℕ, suc, ◌≡◌, ◌≢◌, refl, subst, ◌∙◌, List, [], ◌∷◌, length, map, All, arith, Bool, true, false, ◌&&◌, not, nat_eq, IsTrue, if◌then◌else◌, Option, Some, None, codes}
+use Rattle.std.proofs.Common.{ℕ, suc, ◌≡◌, ◌≢◌, refl, subst, ◌∙◌, List, [], ◌∷◌, length, map, All, arith, Bool, true, false, ◌&&◌, not, nat_eq, get_or, IsTrue, if◌then◌else◌, Option, Some, None, codes}
 use Rattle.std.specs.Str.{bytes_eq}
 use Rattle.std.specs.List.{list_all, list_any}
 use Rattle.std.proofs.lemmas.List.Elements.{All-cons}
@@ -11,19 +11,23 @@ use Rattle.net_core.specs.declared.raw.Init.{Init}
 use Rattle.blif_syntax.specs.declared.form.Entry.{Entry}
 use Rattle.blif_syntax.specs.declared.form.Form.{Form}
 use Rattle.blif_syntax.specs.declared.form.Form.TheVariants as form
-use Rattle.blif_syntax.specs.declared.form.Kind.{Kind}
+use Rattle.blif_syntax.specs.declared.form.LineFault.{LineFault}
 use Rattle.blif_syntax.specs.declared.models.Item.{Item}
 use Rattle.blif_syntax.specs.declared.models.LatchKind.{LatchKind}
 use Rattle.blif_syntax.specs.declared.models.LatchKind.TheVariants.{Plain, Rising, Falling}
 use Rattle.blif_syntax.specs.declared.models.Model.{Model}
-use Rattle.blif_syntax.specs.declared.place.Place.{Place}
+use Rattle.blif_syntax.specs.declared.open_cover.OpenCover.{OpenCover}
 use Rattle.blif_syntax.specs.Answer.{entry_of, entries_of}
 use Rattle.blif_syntax.specs.Forms.{form_of, bad, row_of, row_with, names_with, model_of, end_of, latch_of, latch_typed, latch_with, is_equals, binding_with, binding_of, with_binding, bindings_of, use_of, use_with}
-use Rattle.blif_syntax.specs.Places.{row_fits, first_or, is_same}
+use Rattle.blif_syntax.specs.Places.{first_fault, row_fits, first_or, is_same}
 use Rattle.blif_syntax.specs.Sayable.{ReadIsSayable}
 use Rattle.blif_syntax.specs.Spelled.{rows_of, rows_with, on_of, items_of, models_of}
-use Rattle.blif_syntax.specs.Words.{begins_with_dot, control_of, init_of, is_bit, is_literal, is_one_of, literal_of, kind_named, left_out_types, left_out_words, passed_words}
-use Rattle.blif_syntax.specs.Written.{IsBinding, IsCover, IsSayable, AreSayable}
+use Rattle.blif_syntax.specs.Words.{begins_with_dot, control_of, init_of, is_bit, is_literal, is_one_of, literal_of, kind_named, left_out_types, left_out_words, skipped_words}
+use Rattle.net_core.specs.Cover.{IsCover}
+use Rattle.blif_syntax.specs.declared.models.What.{What}
+use Rattle.blif_syntax.specs.declared.models.What.TheVariants as what
+use Rattle.blif_syntax.specs.Covered.{IsCovered, AreCovered}
+use Rattle.blif_syntax.specs.Written.{IsBinding, IsSayable, AreSayable}
 use Rattle.blif_syntax.proofs.Faults.{fault_from, whole}
 
 -- what the words of a line can spell
@@ -142,7 +146,7 @@ uses_sound (model ∷ words) = use_sound model (bindings_of words) (bindings_sou
 form_sound : (words : List (List ℕ)) → IsSpelled (form_of words)
 form_sound [] = tt
 form_sound (first ∷ words) =
-    either (is_one_of passed_words first) _ _ tt
+    either (is_one_of skipped_words first) _ _ tt
     (either (bytes_eq first (codes ".model")) _ _ (model_sound words)
     (either (bytes_eq first (codes ".inputs")) _ _ tt
     (either (bytes_eq first (codes ".outputs")) _ _ tt
@@ -154,7 +158,7 @@ form_sound (first ∷ words) =
     (either (is_one_of left_out_words first) _ _ tt
     (either (begins_with_dot first) _ _ tt (rows_sound first words)))))))))))
 
-if_none : (c : Bool) (later : Option (ℕ × Kind)) (fault : ℕ × Kind) → (if c then later else Some fault) ≡ None → (c ≡ true) × (later ≡ None)
+if_none : (c : Bool) (later : Option (ℕ × LineFault)) (fault : ℕ × LineFault) → (if c then later else Some fault) ≡ None → (c ≡ true) × (later ≡ None)
 if_none true later fault e = (refl, e)
 if_none false later fault e = absurd (cc e)
 
@@ -173,7 +177,7 @@ fit_width : (n width : ℕ) (on : Bool) (first : Option Bool) → row_fits n on 
 fit_width n width on first e = fit_both (nat_eq n width) (is_same (first_or first on) on) n width refl e
 
 widths_at : (form : Form) (number : ℕ) (inside : Bool) (width : ℕ) (first : Option Bool) (rest : List Entry) → ((inside : Bool) (first : Option Bool) → fault_from inside (Some (record { width = width; first = first })) rest ≡ None → HaveWidth width (rows_of rest)) → fault_from inside (Some (record { width = width; first = first })) (record { line = number; form = form } ∷ rest) ≡ None → HaveWidth width (rows_with form (rows_of rest))
-widths_at form.Passed number inside width first rest later e = later inside first e
+widths_at form.Skipped number inside width first rest later e = later inside first e
 widths_at (form.Row row on) number inside width first rest later e =
     let both = if_none (row_fits (length row) on (Some (record { width = width; first = first }))) _ _ e in
     All-cons (λ (row : List Lit × Bool). length row.0 ≡ width) (row, on) (rows_of rest) (fit_width (length row) width on first both.0) (later inside (Some (first_or first on)) both.1)
@@ -192,8 +196,8 @@ no_row_on : (rows : List (List Lit × Bool)) → map (λ (row : List Lit × Bool
 no_row_on [] e = refl
 no_row_on (row ∷ rows) e = absurd (cc e)
 
-cover_sound : (width : ℕ) (inputs : List (List ℕ)) (rows : List (List Lit × Bool)) → width ≡ length inputs → HaveWidth width rows → IsCover (length inputs) (record { inputs = width; on = on_of rows; rows = map (λ row. row.0) rows })
-cover_sound width inputs rows e h = record { inputs = e; rows = subst (λ n. All (λ row. length row ≡ n) (map (λ (row : List Lit × Bool). row.0) rows)) e (first_rows width rows h); on = no_row_on rows }
+cover_sound : (width : ℕ) (inputs : List (List ℕ)) (rows : List (List Lit × Bool)) → width ≡ length inputs → HaveWidth width rows → (width ≡ length inputs) × IsCover (record { inputs = width; on = on_of rows; rows = map (λ row. row.0) rows })
+cover_sound width inputs rows e h = (e, record { wide = first_rows width rows h; on = no_row_on rows })
 
 abbrev pub AllSaid : List Item → Type 0
 AllSaid items = All (λ item. IsSayable item.what) items
@@ -205,8 +209,8 @@ item_first : (item : Item) (items : List Item) → IsSayable item.what → AllSa
 item_first item items a b = All-cons (λ (item : Item). IsSayable item.what) item items a b
 
 -- the items up to the next line that starts or ends a model
-items_at : (form : Form) (number : ℕ) (inside : Bool) (cover : Option Place) (rest : List Entry) → IsSpelled form → ((inside : Bool) (cover : Option Place) → fault_from inside cover rest ≡ None → AllSaid (items_of rest)) → fault_from inside cover (record { line = number; form = form } ∷ rest) ≡ None → AllSaid (items_of (record { line = number; form = form } ∷ rest))
-items_at form.Passed number inside cover rest s later e = later inside cover e
+items_at : (form : Form) (number : ℕ) (inside : Bool) (cover : Option OpenCover) (rest : List Entry) → IsSpelled form → ((inside : Bool) (cover : Option OpenCover) → fault_from inside cover rest ≡ None → AllSaid (items_of rest)) → fault_from inside cover (record { line = number; form = form } ∷ rest) ≡ None → AllSaid (items_of (record { line = number; form = form } ∷ rest))
+items_at form.Skipped number inside cover rest s later e = later inside cover e
 items_at (form.Model name) number inside cover rest s later e = no_items
 items_at form.End number inside cover rest s later e = no_items
 items_at (form.Item said) number inside cover rest s later e = item_first _ (items_of rest) s (later inside None (if_none inside _ _ e).1)
@@ -222,22 +226,22 @@ AreSpelled lines = All (λ line. IsSpelled line.form) lines
 others_spelled : (line : Entry) (rest : List Entry) → AreSpelled (line ∷ rest) → AreSpelled rest
 others_spelled line rest s k d below = s (suc k) d (omega (arith, below))
 
-items_sound : (lines : List Entry) (inside : Bool) (cover : Option Place) → AreSpelled lines → fault_from inside cover lines ≡ None → AllSaid (items_of lines)
+items_sound : (lines : List Entry) (inside : Bool) (cover : Option OpenCover) → AreSpelled lines → fault_from inside cover lines ≡ None → AllSaid (items_of lines)
 items_sound [] inside cover s e = no_items
 items_sound (line ∷ rest) inside cover s e = items_at line.form line.line inside cover rest (s 0 line (omega arith)) (λ i c h. items_sound rest i c (others_spelled line rest s) h) e
 
 -- the models
-models_at : (form : Form) (number : ℕ) (inside : Bool) (cover : Option Place) (rest : List Entry) → AreSpelled rest → ((inside : Bool) (cover : Option Place) → fault_from inside cover rest ≡ None → AreSayable (models_of rest)) → fault_from inside cover (record { line = number; form = form } ∷ rest) ≡ None → AreSayable (models_of (record { line = number; form = form } ∷ rest))
+models_at : (form : Form) (number : ℕ) (inside : Bool) (cover : Option OpenCover) (rest : List Entry) → AreSpelled rest → ((inside : Bool) (cover : Option OpenCover) → fault_from inside cover rest ≡ None → AreSayable (models_of rest)) → fault_from inside cover (record { line = number; form = form } ∷ rest) ≡ None → AreSayable (models_of (record { line = number; form = form } ∷ rest))
 models_at (form.Model name) number inside cover rest s later e =
     All-cons (λ (model : Model). AllSaid model.items) (record { line = number; name = name; items = items_of rest }) (models_of rest) (items_sound rest true None s e) (later true None e)
-models_at form.Passed number inside cover rest s later e = later inside cover e
+models_at form.Skipped number inside cover rest s later e = later inside cover e
 models_at form.End number inside cover rest s later e = later false None (if_none inside _ _ e).1
 models_at (form.Item said) number inside cover rest s later e = later inside None (if_none inside _ _ e).1
 models_at (form.Names width inputs output) number inside cover rest s later e = later inside _ (if_none inside _ _ e).1
 models_at (form.Row row on) number inside cover rest s later e = later inside _ (if_none (row_fits (length row) on cover) _ _ e).1
 models_at (form.Wrong kind) number inside cover rest s later e = absurd (cc e)
 
-models_sound : (lines : List Entry) (inside : Bool) (cover : Option Place) → AreSpelled lines → fault_from inside cover lines ≡ None → AreSayable (models_of lines)
+models_sound : (lines : List Entry) (inside : Bool) (cover : Option OpenCover) → AreSpelled lines → fault_from inside cover lines ≡ None → AreSayable (models_of lines)
 models_sound [] inside cover s e = λ k d below. absurd (omega (arith, below))
 models_sound (line ∷ rest) inside cover s e = models_at line.form line.line inside cover rest (others_spelled line rest s) (λ i c h. models_sound rest i c (others_spelled line rest s) h) e
 
@@ -246,5 +250,23 @@ entries_spelled [] = λ k d below. absurd (omega (arith, below))
 entries_spelled (line ∷ lines) = All-cons (λ (entry : Entry). IsSpelled entry.form) (entry_of line) (entries_of lines) (form_sound line.words) (entries_spelled lines)
 
 -- models that are read can be written out
+said_is_covered : (said : What) → IsSayable said → IsCovered said
+said_is_covered (what.Inputs names) h = tt
+said_is_covered (what.Outputs names) h = tt
+said_is_covered (what.Clock names) h = tt
+said_is_covered (what.Names inputs output cover) h = h
+said_is_covered (what.Latch input output kind control init) h = tt
+said_is_covered (what.Subckt model formals) h = tt
+
+-- models that can be written out have sound covers
+pub sayable_is_covered : (models : List Model) → AreSayable models → AreCovered models
+sayable_is_covered models h = λ k d l j e m. said_is_covered (get_or (get_or models k d).items j e).what (h k d l j e m)
+
+sayable : (lines : List Line) → first_fault [] (entries_of lines) ≡ None → AreSayable (models_of (entries_of lines))
+sayable lines e = models_sound (entries_of lines) false None (entries_spelled lines) (whole (entries_of lines) ∙ e)
+
 pub read_is_sayable : ReadIsSayable
-read_is_sayable lines e = models_sound (entries_of lines) false None (entries_spelled lines) (whole (entries_of lines) ∙ e)
+read_is_sayable = record {
+  said = sayable;
+  covered = λ lines e. sayable_is_covered (models_of (entries_of lines)) (sayable lines e);
+}

@@ -4,7 +4,7 @@ use Rattle.std.proofs.Math.Nat.{eq-or-lt_of_le}
 use Rattle.net_core.specs.declared.cover.Lit.{Lit}
 use Rattle.blif_syntax.specs.declared.form.Entry.{Entry}
 use Rattle.blif_syntax.specs.declared.form.Form.{Form}
-use Rattle.blif_syntax.specs.declared.form.Form.TheVariants.{Passed, Model, End, Names, Row}
+use Rattle.blif_syntax.specs.declared.form.Form.TheVariants.{Skipped, Model, End, Names, Row}
 use Rattle.blif_syntax.specs.Rules.{HasForm, IsOpen, GoesOn}
 
 pub up_to : (k i : ℕ) → k < suc i → (k ≡ i) ⊎ (k < i)
@@ -45,7 +45,7 @@ end_here lines i has o = elim (up_to o.start i o.earlier) [
 
 -- the line at place i does not end the cover whose rows have this output character
 abbrev pub Between : List Entry → ℕ → Bool → Type 0
-Between lines i on = HasForm lines i Passed ⊎ ((row : List Lit) × HasForm lines i (Row row on))
+Between lines i on = HasForm lines i Skipped ⊎ ((row : List Lit) × HasForm lines i (Row row on))
 
 between_moved : (lines : List Entry) (k i : ℕ) (on : Bool) → k ≡ i → Between lines i on → Between lines k on
 between_moved lines k i on e b = subst (λ n. Between lines n on) (sym e) b

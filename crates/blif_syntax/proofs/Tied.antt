@@ -6,17 +6,17 @@ use Rattle.std.specs.Option.{option_map}
 use Rattle.net_core.specs.declared.cover.Lit.{Lit}
 use Rattle.blif_syntax.specs.declared.form.Entry.{Entry}
 use Rattle.blif_syntax.specs.declared.form.Form.{Form}
-use Rattle.blif_syntax.specs.declared.form.Form.TheVariants.{Passed, Model, End, Item, Names, Row, Wrong}
-use Rattle.blif_syntax.specs.declared.form.Kind.{Kind}
+use Rattle.blif_syntax.specs.declared.form.Form.TheVariants.{Skipped, Model, End, Item, Names, Row, Wrong}
+use Rattle.blif_syntax.specs.declared.form.LineFault.{LineFault}
 use Rattle.blif_syntax.specs.declared.models.What.{What}
-use Rattle.blif_syntax.specs.declared.place.Place.{Place}
-use Rattle.blif_syntax.specs.Places.{opens, covers, may_stand, row_fits, first_or, first_fault, is_same, kind_of, with_row}
+use Rattle.blif_syntax.specs.declared.open_cover.OpenCover.{OpenCover}
+use Rattle.blif_syntax.specs.Places.{opens, covers, may_stand, row_fits, first_or, first_fault, is_same, line_fault_of, with_row}
 use Rattle.blif_syntax.specs.Rules.{HasForm, IsOpen, GoesOn, Stands, StandsBefore, IsFirstFault, FirstFaultIsLeast}
 use Rattle.blif_syntax.proofs.Faults.{fault_from, whole}
 use Rattle.blif_syntax.proofs.Standing.{open_on, open_back, open_here, end_here, goes_on, goes_here, goes_back, one_form, moved, up_to, Begins, Between}
 
 -- whether a model is open at place i, and the cover that a row there may go on with
-pub record IsTied (lines : List Entry) (i : ℕ) (inside : Bool) (cover : Option Place) : Type 0 where
+pub record IsTied (lines : List Entry) (i : ℕ) (inside : Bool) (cover : Option OpenCover) : Type 0 where
   pub opened : inside ≡ true → IsOpen lines i
   pub closed : IsOpen lines i → inside ≡ true
   pub goes : (width : ℕ) (on : Bool) → row_fits width on cover ≡ true → GoesOn lines i width on
@@ -46,7 +46,7 @@ no_cover lines i a b width on g = elim (goes_back lines i width on g) [ inl begi
 none_fits : (lines : List Entry) (i width : ℕ) (on : Bool) → row_fits width on None ≡ true → GoesOn lines i width on
 none_fits lines i width on e = absurd (cc e)
 
-at_passed : (lines : List Entry) (i : ℕ) (inside : Bool) (cover : Option Place) → HasForm lines i Passed → IsTied lines i inside cover → IsTied lines (suc i) inside cover
+at_passed : (lines : List Entry) (i : ℕ) (inside : Bool) (cover : Option OpenCover) → HasForm lines i Skipped → IsTied lines i inside cover → IsTied lines (suc i) inside cover
 at_passed lines i inside cover has t = record {
   opened = λ e. open_on lines i (t.opened e) (λ end. absurd (cc (has, end)));
   closed = λ o. t.closed (open_back lines i o (λ name h. absurd (cc (has, h))));
@@ -70,7 +70,7 @@ at_end lines i has = record {
   fits = λ width on g. absurd (no_cover lines i (λ w begins. absurd (cc (has, begins.2))) (λ bit b. elim b [ inl p ↦ absurd (cc (has, p)) | inr r ↦ absurd (cc (has, r.1)) ]) width on g);
 }
 
-at_item : (lines : List Entry) (i : ℕ) (inside : Bool) (cover : Option Place) (what : What) → HasForm lines i (Item what) → IsTied lines i inside cover → IsTied lines (suc i) inside None
+at_item : (lines : List Entry) (i : ℕ) (inside : Bool) (cover : Option OpenCover) (what : What) → HasForm lines i (Item what) → IsTied lines i inside cover → IsTied lines (suc i) inside None
 at_item lines i inside cover what has t = record {
   opened = λ e. open_on lines i (t.opened e) (λ end. absurd (cc (has, end)));
   closed = λ o. t.closed (open_back lines i o (λ name h. absurd (cc (has, h))));
@@ -81,7 +81,7 @@ at_item lines i inside cover what has t = record {
 new_fits : (w width : ℕ) (on : Bool) → w ≡ width → row_fits w on (Some (record { width = width; first = None })) ≡ true
 new_fits w width on e = rw e (rw (eq_self width) (is_same_self on))
 
-at_names : (lines : List Entry) (i : ℕ) (inside : Bool) (cover : Option Place) (width : ℕ) (inputs : List (List ℕ)) (output : List ℕ) → HasForm lines i (Names width inputs output) → IsTied lines i inside cover → IsTied lines (suc i) inside (Some (record { width = width; first = None }))
+at_names : (lines : List Entry) (i : ℕ) (inside : Bool) (cover : Option OpenCover) (width : ℕ) (inputs : List (List ℕ)) (output : List ℕ) → HasForm lines i (Names width inputs output) → IsTied lines i inside cover → IsTied lines (suc i) inside (Some (record { width = width; first = None }))
 at_names lines i inside cover width inputs output has t = record {
   opened = λ e. open_on lines i (t.opened e) (λ end. absurd (cc (has, end)));
   closed = λ o. t.closed (open_back lines i o (λ name h. absurd (cc (has, h))));
@@ -115,13 +115,13 @@ at_row lines i inside width first row on has may t = record {
   ];
 }
 
-at_row_of : (lines : List Entry) (i : ℕ) (inside : Bool) (cover : Option Place) (row : List Lit) (on : Bool) → HasForm lines i (Row row on) → row_fits (length row) on cover ≡ true → IsTied lines i inside cover → IsTied lines (suc i) inside (with_row on cover)
+at_row_of : (lines : List Entry) (i : ℕ) (inside : Bool) (cover : Option OpenCover) (row : List Lit) (on : Bool) → HasForm lines i (Row row on) → row_fits (length row) on cover ≡ true → IsTied lines i inside cover → IsTied lines (suc i) inside (with_row on cover)
 at_row_of lines i inside None row on has may t = absurd (cc may)
-at_row_of lines i inside (Some place) row on has may t = at_row lines i inside place.width place.first row on has may t
+at_row_of lines i inside (Some opened) row on has may t = at_row lines i inside opened.width opened.first row on has may t
 
 -- a line more
-tied : (lines : List Entry) (i : ℕ) (inside : Bool) (cover : Option Place) (form : Form) → HasForm lines i form → may_stand form inside cover ≡ true → IsTied lines i inside cover → IsTied lines (suc i) (opens form inside) (covers form cover)
-tied lines i inside cover Passed has may t = at_passed lines i inside cover has t
+tied : (lines : List Entry) (i : ℕ) (inside : Bool) (cover : Option OpenCover) (form : Form) → HasForm lines i form → may_stand form inside cover ≡ true → IsTied lines i inside cover → IsTied lines (suc i) (opens form inside) (covers form cover)
+tied lines i inside cover Skipped has may t = at_passed lines i inside cover has t
 tied lines i inside cover (Model name) has may t = at_model lines i name has
 tied lines i inside cover End has may t = at_end lines i has
 tied lines i inside cover (Item what) has may t = at_item lines i inside cover what has t
@@ -138,8 +138,8 @@ tied_first lines = record {
   fits = λ width on g. absurd (omega (arith, g.earlier));
 }
 
-stands : (lines : List Entry) (i : ℕ) (inside : Bool) (cover : Option Place) (form : Form) → may_stand form inside cover ≡ true → IsTied lines i inside cover → Stands lines i form
-stands lines i inside cover Passed may t = tt
+stands : (lines : List Entry) (i : ℕ) (inside : Bool) (cover : Option OpenCover) (form : Form) → may_stand form inside cover ≡ true → IsTied lines i inside cover → Stands lines i form
+stands lines i inside cover Skipped may t = tt
 stands lines i inside cover (Model name) may t = tt
 stands lines i inside cover End may t = t.opened may
 stands lines i inside cover (Item what) may t = t.opened may
@@ -150,8 +150,8 @@ stands lines i inside cover (Wrong kind) may t = absurd (cc may)
 cannot : (bit : Bool) → bit ≡ false → bit ≡ true → ⊥
 cannot bit a b = absurd (cc (a, b))
 
-faulty : (lines : List Entry) (i : ℕ) (inside : Bool) (cover : Option Place) (form : Form) → may_stand form inside cover ≡ false → IsTied lines i inside cover → Stands lines i form → ⊥
-faulty lines i inside cover Passed may t s = absurd (cc may)
+faulty : (lines : List Entry) (i : ℕ) (inside : Bool) (cover : Option OpenCover) (form : Form) → may_stand form inside cover ≡ false → IsTied lines i inside cover → Stands lines i form → ⊥
+faulty lines i inside cover Skipped may t s = absurd (cc may)
 faulty lines i inside cover (Model name) may t s = absurd (cc may)
 faulty lines i inside cover End may t s = cannot inside may (t.closed s)
 faulty lines i inside cover (Item what) may t s = cannot inside may (t.closed s)
@@ -176,15 +176,15 @@ stand_before lines i form has stands before k other below there = elim (up_to k 
 ]
 
 -- what the first fault says
-abbrev pub Decided : List Entry → Option (ℕ × Kind) → Type 0
+abbrev pub Decided : List Entry → Option (ℕ × LineFault) → Type 0
 Decided lines None = StandsBefore lines (length lines)
 Decided lines (Some fault) = IsFirstFault lines fault.0 fault.1
 
-turn : (c : Bool) (lines : List Entry) (i : ℕ) (line : Entry) (inside : Bool) (cover : Option Place) (later : Option (ℕ × Kind)) → may_stand line.form inside cover ≡ c → slice_get lines i ≡ Some line → IsTied lines i inside cover → StandsBefore lines i → (may_stand line.form inside cover ≡ true → Decided lines later) → Decided lines (if c then later else Some (line.line, kind_of line.form))
+turn : (c : Bool) (lines : List Entry) (i : ℕ) (line : Entry) (inside : Bool) (cover : Option OpenCover) (later : Option (ℕ × LineFault)) → may_stand line.form inside cover ≡ c → slice_get lines i ≡ Some line → IsTied lines i inside cover → StandsBefore lines i → (may_stand line.form inside cover ≡ true → Decided lines later) → Decided lines (if c then later else Some (line.line, line_fault_of line.form))
 turn true lines i line inside cover later may at t s next = next may
 turn false lines i line inside cover later may at t s next = record { place = i; entry = line; here = at; faulty = faulty lines i inside cover line.form may t; least = s; numbered = refl; called = refl }
 
-walk : (lines rest : List Entry) (i : ℕ) (inside : Bool) (cover : Option Place) → drop i lines ≡ rest → IsTied lines i inside cover → StandsBefore lines i → Decided lines (fault_from inside cover rest)
+walk : (lines rest : List Entry) (i : ℕ) (inside : Bool) (cover : Option OpenCover) → drop i lines ≡ rest → IsTied lines i inside cover → StandsBefore lines i → Decided lines (fault_from inside cover rest)
 walk lines [] i inside cover d t s = λ k form below has. s k form (omega (arith, below, ap length d, length-drop i lines)) has
 walk lines (line ∷ rest) i inside cover d t s =
     let at = here lines i line rest d in

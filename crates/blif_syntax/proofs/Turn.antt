@@ -6,9 +6,9 @@ use Rattle.blif_lines.specs.declared.lines.Line.{Line}
 use Rattle.blif_syntax.specs.declared.draft.Draft.{Draft}
 use Rattle.blif_syntax.specs.declared.form.Entry.{Entry}
 use Rattle.blif_syntax.specs.declared.models.Model.{Model}
-use Rattle.blif_syntax.specs.declared.place.Place.{Place}
+use Rattle.blif_syntax.specs.declared.open_cover.OpenCover.{OpenCover}
 use Rattle.blif_syntax.specs.Answer.{entry_of, entries_of}
-use Rattle.blif_syntax.specs.Drafts.{line_added, place_of}
+use Rattle.blif_syntax.specs.private.Drafts.{line_added, open_cover_of}
 use Rattle.blif_syntax.specs.Places.{may_stand, first_fault}
 use Rattle.blif_syntax.specs.Spelled.{models_of}
 use Rattle.blif_syntax.proofs.Faults.{fault_after, fault_step, whole}
@@ -25,12 +25,12 @@ next_entry lines i line entry h g e = ap entries_of (drop_more lines i line h) �
 pub read_begin : (models : List Model) (lines : List Line) → models ≡ [] → Decide (record { models = models; model = None; cover = None }) lines lines
 read_begin models lines e = (whole (entries_of lines), ap (λ ms. ms ++ models_of (entries_of lines)) e)
 
-stands_here : (entry : Entry) (draft : Draft) (inside stands bit : Bool) (place : Option Place) → inside ≡ is_some draft.model → place ≡ place_of draft.cover → stands ≡ may_stand entry.form inside place → stands ≡ bit → may_stand entry.form (is_some draft.model) (place_of draft.cover) ≡ bit
+stands_here : (entry : Entry) (draft : Draft) (inside stands bit : Bool) (place : Option OpenCover) → inside ≡ is_some draft.model → place ≡ open_cover_of draft.cover → stands ≡ may_stand entry.form inside place → stands ≡ bit → may_stand entry.form (is_some draft.model) (open_cover_of draft.cover) ≡ bit
 stands_here entry draft inside stands bit place o p s b =
-    ap (λ x. may_stand entry.form x (place_of draft.cover)) (sym o) ∙ ap (λ x. may_stand entry.form inside x) (sym p) ∙ sym s ∙ b
+    ap (λ x. may_stand entry.form x (open_cover_of draft.cover)) (sym o) ∙ ap (λ x. may_stand entry.form inside x) (sym p) ∙ sym s ∙ b
 
 -- a line that may stand
-pub read_turn : (lines : List Line) (i : ℕ) (line : Line) (entry : Entry) (draft next : Draft) (inside stands : Bool) (place : Option Place) → i < length lines → line ≡ get_or lines i line → entry ≡ entry_of line → inside ≡ is_some draft.model → place ≡ place_of draft.cover → stands ≡ may_stand entry.form inside place → stands ≡ true → next ≡ line_added draft entry.line entry.form → Decide draft (drop i lines) lines → Decide next (drop (i + 1) lines) lines
+pub read_turn : (lines : List Line) (i : ℕ) (line : Line) (entry : Entry) (draft next : Draft) (inside stands : Bool) (place : Option OpenCover) → i < length lines → line ≡ get_or lines i line → entry ≡ entry_of line → inside ≡ is_some draft.model → place ≡ open_cover_of draft.cover → stands ≡ may_stand entry.form inside place → stands ≡ true → next ≡ line_added draft entry.line entry.form → Decide draft (drop i lines) lines → Decide next (drop (i + 1) lines) lines
 read_turn lines i line entry draft next inside stands place h g e o p s b n inv =
     let rest = entries_of (drop (i + 1) lines) in
     let here : entries_of (drop i lines) ≡ entry ∷ rest = next_entry lines i line entry h g e in

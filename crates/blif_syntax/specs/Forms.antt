@@ -1,4 +1,4 @@
--- What the words of a line spell, wherever the line stands.
+-- Meaning. What the words of a line spell, wherever the line stands.
 use Rattle.std.specs.Prelude.{ℕ, suc, ◌-◌, ◌∷◌, [], List, length, take, drop, map, slice_get, Bool, Option, Some, None, if◌then◌else◌, nat_eq, ◌&&◌, bytes_eq, codes}
 use Rattle.std.specs.List.{list_all}
 use Rattle.blif_lines.specs.Lines.{before, is_filled}
@@ -8,9 +8,9 @@ use Rattle.blif_syntax.specs.declared.models.LatchKind.{LatchKind}
 use Rattle.blif_syntax.specs.declared.models.LatchKind.TheVariants.{Plain}
 use Rattle.blif_syntax.specs.declared.models.What.TheVariants as what
 use Rattle.blif_syntax.specs.declared.form.Form.{Form}
-use Rattle.blif_syntax.specs.declared.form.Form.TheVariants.{Passed, Model, End, Item, Names, Row, Wrong}
-use Rattle.blif_syntax.specs.declared.form.Kind.TheVariants.{Bad, Unknown, LeftOut}
-use Rattle.blif_syntax.specs.Words.{begins_with_dot, control_of, init_of, is_bit, is_literal, is_one_of, kind_named, left_out_types, left_out_words, literal_of, passed_words}
+use Rattle.blif_syntax.specs.declared.form.Form.TheVariants.{Skipped, Model, End, Item, Names, Row, Wrong}
+use Rattle.blif_syntax.specs.declared.form.LineFault.TheVariants.{Bad, Unknown, LeftOut}
+use Rattle.blif_syntax.specs.Words.{begins_with_dot, control_of, init_of, is_bit, is_literal, is_one_of, kind_named, left_out_types, left_out_words, literal_of, skipped_words}
 
 -- a line that has no form
 abbrev pub bad : Form
@@ -103,7 +103,7 @@ use_of (model ∷ words) = use_with model (bindings_of words)
 abbrev pub form_of : List (List ℕ) → Form
 form_of [] = bad
 form_of (first ∷ words) =
-    if is_one_of passed_words first then Passed
+    if is_one_of skipped_words first then Skipped
     else if bytes_eq first (codes ".model") then model_of words
     else if bytes_eq first (codes ".inputs") then Item (what.Inputs words)
     else if bytes_eq first (codes ".outputs") then Item (what.Outputs words)

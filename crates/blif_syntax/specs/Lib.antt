@@ -4,6 +4,7 @@ pub mod Places
 pub mod Spelled
 pub mod Answer
 pub mod Rules
+pub mod Covered
 pub mod Written
-pub mod Drafts
 pub mod Sayable
+pub mod private

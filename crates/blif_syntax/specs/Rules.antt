@@ -1,11 +1,11 @@
--- Where a line may stand, in plain terms, and the law that the first fault is by these.
+-- Meaning in plain terms, and a law: where a line may stand, and that the first fault is by these.
 use Rattle.std.specs.Prelude.{◌≡◌, ◌⊎◌, ◌<◌, ℕ, [], List, length, map, Bool, Some, None, slice_get}
 use Rattle.net_core.specs.declared.cover.Lit.{Lit}
 use Rattle.blif_syntax.specs.declared.form.Entry.{Entry}
 use Rattle.blif_syntax.specs.declared.form.Form.{Form}
-use Rattle.blif_syntax.specs.declared.form.Form.TheVariants.{Passed, Model, End, Item, Names, Row, Wrong}
-use Rattle.blif_syntax.specs.declared.form.Kind.{Kind}
-use Rattle.blif_syntax.specs.Places.{first_fault, kind_of}
+use Rattle.blif_syntax.specs.declared.form.Form.TheVariants.{Skipped, Model, End, Item, Names, Row, Wrong}
+use Rattle.blif_syntax.specs.declared.form.LineFault.{LineFault}
+use Rattle.blif_syntax.specs.Places.{first_fault, line_fault_of}
 
 -- the line at place k has this form
 abbrev pub HasForm : List Entry → ℕ → Form → Type 0
@@ -20,18 +20,18 @@ pub record IsOpen (lines : List Entry) (i : ℕ) : Type 0 where
   pub unended : (k : ℕ) → start < k → k < i → HasForm lines k End → ⊥
 
 -- A row of this width and output character belongs to a cover at place i: a `.names` line of this width stands before it,
--- and between them stand only lines that are passed over, and rows with this output character.
+-- and between them stand only lines that are skipped, and rows with this output character.
 pub record GoesOn (lines : List Entry) (i width : ℕ) (on : Bool) : Type 0 where
   pub head : ℕ
   pub inputs : List (List ℕ)
   pub output : List ℕ
   pub earlier : head < i
   pub heads : HasForm lines head (Names width inputs output)
-  pub between : (k : ℕ) → head < k → k < i → HasForm lines k Passed ⊎ ((row : List Lit) × HasForm lines k (Row row on))
+  pub between : (k : ℕ) → head < k → k < i → HasForm lines k Skipped ⊎ ((row : List Lit) × HasForm lines k (Row row on))
 
 -- a line of this form may stand at place i
 abbrev pub Stands : List Entry → ℕ → Form → Type 0
-Stands lines i Passed = Unit {0}
+Stands lines i Skipped = Unit {0}
 Stands lines i (Model name) = Unit {0}
 Stands lines i End = IsOpen lines i
 Stands lines i (Item what) = IsOpen lines i
@@ -44,16 +44,16 @@ abbrev pub StandsBefore : List Entry → ℕ → Type 0
 StandsBefore lines i = (k : ℕ) (form : Form) → k < i → HasForm lines k form → Stands lines k form
 
 -- the first line that may not stand has this number and this kind
-pub record IsFirstFault (lines : List Entry) (number : ℕ) (kind : Kind) : Type 0 where
+pub record IsFirstFault (lines : List Entry) (number : ℕ) (kind : LineFault) : Type 0 where
   pub place : ℕ
   pub entry : Entry
   pub here : slice_get lines place ≡ Some entry
   pub faulty : Stands lines place entry.form → ⊥
   pub least : StandsBefore lines place
   pub numbered : entry.line ≡ number
-  pub called : kind_of entry.form ≡ kind
+  pub called : line_fault_of entry.form ≡ kind
 
 -- Law: the first fault is that of the first line that may not stand, and where there is none each line may.
 pub record FirstFaultIsLeast : Type 0 where
-  pub some : (lines : List Entry) (number : ℕ) (kind : Kind) → first_fault [] lines ≡ Some (number, kind) → IsFirstFault lines number kind
+  pub some : (lines : List Entry) (number : ℕ) (kind : LineFault) → first_fault [] lines ≡ Some (number, kind) → IsFirstFault lines number kind
   pub none : (lines : List Entry) → first_fault [] lines ≡ None → StandsBefore lines (length lines)

@@ -1,4 +1,4 @@
--- What lines spell; what belongs to a line is read from the lines behind it.
+-- Meaning. What lines spell; what belongs to a line is read from the lines behind it.
 use Rattle.std.specs.Prelude.{ℕ, ◌∷◌, [], List, map, Bool, true}
 use Rattle.net_core.specs.declared.cover.Lit.{Lit}
 use Rattle.blif_syntax.specs.declared.models.Item.{Item}
@@ -8,9 +8,9 @@ use Rattle.blif_syntax.specs.declared.form.Entry.{Entry}
 use Rattle.blif_syntax.specs.declared.form.Form.{Form}
 use Rattle.blif_syntax.specs.declared.form.Form.TheVariants as form
 
--- the rows, each with its output character, up to the first line that is neither a row nor passed over
+-- the rows, each with its output character, up to the first line that is neither a row nor skipped
 abbrev pub rows_with : Form → List (List Lit × Bool) → List (List Lit × Bool)
-rows_with form.Passed later = later
+rows_with form.Skipped later = later
 rows_with (form.Row row on) later = (row, on) ∷ later
 rows_with other later = []
 

@@ -1,4 +1,4 @@
--- The first words of lines, and single words that have a meaning. Source: the Berkeley description of BLIF.
+-- Meaning. The first words of lines, and single words that have a meaning. Source: the Berkeley description of BLIF.
 use Rattle.std.specs.Prelude.{ℕ, ◌∷◌, [], List, Bool, false, Option, Some, None, if◌then◌else◌, nat_eq, ◌||◌, bytes_eq, codes}
 use Rattle.std.specs.List.{list_any}
 use Rattle.net_core.specs.declared.cover.Lit.{Lit}
@@ -12,9 +12,9 @@ use Rattle.blif_syntax.specs.declared.models.LatchKind.TheVariants as kinds
 abbrev pub is_one_of : List (List ℕ) → List ℕ → Bool
 is_one_of words word = list_any (bytes_eq word) words
 
--- lines with these first words are passed over unread
-abbrev pub passed_words : List (List ℕ)
-passed_words =
+-- lines with these first words are skipped unread
+abbrev pub skipped_words : List (List ℕ)
+skipped_words =
     codes ".area" ∷ codes ".delay" ∷ codes ".wire_load_slope" ∷ codes ".wire" ∷ codes ".input_arrival"
     ∷ codes ".default_input_arrival" ∷ codes ".output_required" ∷ codes ".default_output_required" ∷ codes ".input_drive"
     ∷ codes ".default_input_drive" ∷ codes ".output_load" ∷ codes ".default_output_load" ∷ codes ".max_input_load"

@@ -1,11 +1,11 @@
--- Models written out as lines, and the law that these are read back.
+-- Law: models that are written out as lines are read back; and how they are written.
 use Rattle.std.specs.Prelude.{◌≡◌, ◌≢◌, ℕ, ◌++◌, ◌∷◌, [], List, length, map, All, Bool, true, Option, Some, None, IsTrue, not, if◌then◌else◌, codes}
 use Rattle.std.specs.List.{flat_map, list_any}
 use Rattle.blif_lines.specs.declared.lines.Line.{Line}
 use Rattle.blif_lines.specs.Lines.{is_filled}
-use Rattle.net_core.specs.declared.cover.Cover.{Cover}
 use Rattle.net_core.specs.declared.cover.Lit.{Lit}
 use Rattle.net_core.specs.declared.cover.Lit.TheVariants as lit
+use Rattle.net_core.specs.Cover.{IsCover}
 use Rattle.net_core.specs.declared.raw.Init.{Init}
 use Rattle.net_core.specs.declared.raw.Init.TheVariants as init
 use Rattle.blif_syntax.specs.declared.models.Item.{Item}
@@ -83,12 +83,6 @@ model_lines model =
 abbrev pub written : List Model → List Line
 written models = flat_map model_lines models
 
--- a cover with rows of the inputs' width; one without rows says where the bit is 1
-pub record IsCover (width : ℕ) (cover : Cover) : Type 0 where
-  pub inputs : cover.inputs ≡ width
-  pub rows : All (λ row. length row ≡ width) cover.rows
-  pub on : cover.rows ≡ [] → cover.on ≡ true
-
 -- neither side of a binding is empty, and the formal has no `=`
 pub record IsBinding (binding : List ℕ × List ℕ) : Type 0 where
   pub formal : IsTrue (is_filled binding.0)
@@ -97,7 +91,7 @@ pub record IsBinding (binding : List ℕ × List ℕ) : Type 0 where
 
 -- what a line can say: a latch without a type has no control, and no control is called NIL
 abbrev pub IsSayable : What → Type 0
-IsSayable (Names inputs output cover) = IsCover (length inputs) cover
+IsSayable (Names inputs output cover) = (cover.inputs ≡ length inputs) × IsCover cover
 IsSayable (Latch input output Plain control init) = control ≡ None
 IsSayable (Latch input output kind control init) = control ≢ Some (codes "NIL")
 IsSayable (Subckt model formals) = All IsBinding formals

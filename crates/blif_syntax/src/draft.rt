@@ -1,10 +1,12 @@
+//! What is read so far of a netlist; begin with `line_added`.
+
 ghost use Rattle.std.specs.Prelude.{◌≡◌, [], None, IfOk};
 ghost use Rattle.blif_syntax.specs.Places.{first_or};
-ghost use Rattle.blif_syntax.specs.Drafts.{place_of, row_added, cover_item, closed_items, closed, item_added, model_added, line_behind, line_added};
+ghost use Rattle.blif_syntax.specs.private.Drafts.{open_cover_of, row_added, cover_item, closed_items, closed, item_added, model_added, line_behind, line_added};
 
 use crate::form::{Entry, Form};
 use crate::models::{Item, Model, What};
-use crate::place::{Place, first_or};
+use crate::open_cover::{OpenCover, first_or};
 use net_core::{Cover, Row};
 use std::alloc::{AllocError, Global};
 use ste_base::{Items, Name};
@@ -16,7 +18,7 @@ pub struct Pending {
     pub line: u32,
     pub inputs: Items<Name>,
     pub output: Name,
-    pub place: Place,
+    pub opened: OpenCover,
     pub rows: Items<Row>,
 }
 
@@ -29,12 +31,12 @@ pub struct Draft {
 }
 
 /// The cover that a row may go on with.
-pub fn place_of(cover: &Option<Pending>) -> Option<Place>
-    ensures { result ≡ place_of cover.now }
+pub fn open_cover_of(cover: &Option<Pending>) -> Option<OpenCover>
+    ensures { result ≡ open_cover_of cover.now }
 {
     match cover {
         None => None,
-        Some(cover) => Some(cover.place),
+        Some(cover) => Some(cover.opened),
     }
 }
 
@@ -47,7 +49,7 @@ fn row_added(row: Row, on: bool, cover: Option<Pending>) -> Result<Option<Pendin
             line,
             inputs,
             output,
-            place,
+            opened,
             mut rows,
         },
     ) = cover
@@ -59,9 +61,9 @@ fn row_added(row: Row, on: bool, cover: Option<Pending>) -> Result<Option<Pendin
         line,
         inputs,
         output,
-        place: Place {
-            width: place.width,
-            first: Some(first_or(place.first, on)),
+        opened: OpenCover {
+            width: opened.width,
+            first: Some(first_or(opened.first, on)),
         },
         rows,
     }))
@@ -75,12 +77,12 @@ fn cover_item(cover: Pending) -> Item
         line,
         inputs,
         output,
-        place,
+        opened,
         rows,
     } = cover;
     let cover = Cover {
-        inputs: place.width,
-        on: first_or(place.first, true),
+        inputs: opened.width,
+        on: first_or(opened.first, true),
         rows,
     };
     Item {
@@ -134,7 +136,8 @@ fn model_added(models: Items<Model>, model: Option<Model>) -> Result<Items<Model
 
 /// The models, when the last line is read.
 pub fn models_of(draft: Draft) -> Result<Items<Model>, AllocError>
-    ensures { IfOk result (λ models. models ≡ model_added draft.models (closed draft.model draft.cover)) }
+    ensures { IfOk result (λ models. models
+        ≡ model_added draft.models (closed draft.model draft.cover)) }
 {
     let Draft {
         models,
@@ -167,7 +170,7 @@ fn line_behind(
                 line,
                 inputs,
                 output,
-                place: Place { width, first: None },
+                opened: OpenCover { width, first: None },
                 rows: Items::new(alloc),
             }),
         }),
@@ -204,7 +207,7 @@ pub fn line_added(alloc: Global, draft: Draft, entry: Entry) -> Result<Draft, Al
     } = draft;
     let Entry { line, form } = entry;
     match form {
-        Form::Passed => Ok(Draft {
+        Form::Skipped => Ok(Draft {
             models,
             model,
             cover,

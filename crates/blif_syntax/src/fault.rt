@@ -1,3 +1,5 @@
+//! Why a netlist is refused; begin with `BlifFault`.
+
 ghost use Rattle.std.specs.Prelude.{◌≡◌};
 ghost use Rattle.blif_syntax.specs.declared.fault.BlifFault.TheVariants.{OutOfMemory};
 

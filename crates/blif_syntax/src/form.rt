@@ -1,10 +1,12 @@
+//! The forms of lines; begin with `Form`.
+
 use crate::models::What;
 use net_core::Row;
 use ste_base::{Items, Name};
 
 /// What is wrong with a faulty line.
 #[derive(Debug, Drop)]
-pub enum Kind {
+pub enum LineFault {
     /// It has no form, or stands where it may not.
     Bad,
     /// Its first word, which is this one, begins with a dot and is none that is known.
@@ -16,8 +18,8 @@ pub enum Kind {
 /// What the words of a line spell, wherever the line stands.
 #[derive(Debug, Drop)]
 pub enum Form {
-    /// A line that is passed over.
-    Passed,
+    /// A line that is skipped unread.
+    Skipped,
     /// A line that starts a model of this name.
     Model(Name),
     /// A line that ends a model.
@@ -29,7 +31,7 @@ pub enum Form {
     /// A cover row: its literals, and its output character.
     Row(Row, bool),
     /// A line that may stand nowhere.
-    Wrong(Kind),
+    Wrong(LineFault),
 }
 
 /// A line with its form.

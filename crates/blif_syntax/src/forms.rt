@@ -1,13 +1,15 @@
+//! The form of a line by its words; begin with `entry_of`.
+
 ghost use Rattle.std.specs.Prelude.{◌≡◌, ◌<◌, ◌^◌, IfOk, length};
 ghost use Rattle.blif_syntax.specs.Forms.{model_of, names_of, end_of, form_of};
 ghost use Rattle.blif_syntax.specs.Answer.{entry_of};
 
-use crate::form::{Entry, Form, Kind};
+use crate::form::{Entry, Form, LineFault};
 use crate::latches::latch_of;
 use crate::models::What;
 use crate::rows::row_of;
 use crate::uses::use_of;
-use crate::words::{begins_with_dot, copies, is, is_left_out, is_passed};
+use crate::words::{begins_with_dot, copies, is, is_left_out, is_skipped};
 use blif_lines::Line;
 use std::alloc::{AllocError, Global};
 use ste_base::Name;
@@ -19,7 +21,7 @@ fn model_of(alloc: Global, words: &[Name]) -> Result<Form, AllocError>
     match words {
         [] => Ok(Form::Model(Name::from_bytes(alloc, b"")?)),
         [name] => Ok(Form::Model(name.clone()?)),
-        _ => Ok(Form::Wrong(Kind::Bad)),
+        _ => Ok(Form::Wrong(LineFault::Bad)),
     }
 }
 
@@ -34,7 +36,7 @@ fn names_of(alloc: Global, words: &[Name]) -> Result<Form, AllocError>
             copies(alloc, inputs)?,
             output.clone()?,
         )),
-        [] => Ok(Form::Wrong(Kind::Bad)),
+        [] => Ok(Form::Wrong(LineFault::Bad)),
     }
 }
 
@@ -45,7 +47,7 @@ fn end_of(words: &[Name]) -> Form
     if words.is_empty() {
         Form::End
     } else {
-        Form::Wrong(Kind::Bad)
+        Form::Wrong(LineFault::Bad)
     }
 }
 
@@ -55,11 +57,11 @@ fn form_of(alloc: Global, words: &[Name]) -> Result<Form, AllocError>
     ensures { IfOk result (λ form. form ≡ form_of words.now) }
 {
     let [first, rest @ ..] = words else {
-        return Ok(Form::Wrong(Kind::Bad));
+        return Ok(Form::Wrong(LineFault::Bad));
     };
     let word = first.bytes();
-    if is_passed(word) {
-        Ok(Form::Passed)
+    if is_skipped(word) {
+        Ok(Form::Skipped)
     } else if is(word, ".model") {
         model_of(alloc, rest)
     } else if is(word, ".inputs") {
@@ -77,9 +79,9 @@ fn form_of(alloc: Global, words: &[Name]) -> Result<Form, AllocError>
     } else if is(word, ".end") {
         Ok(end_of(rest))
     } else if is_left_out(word) {
-        Ok(Form::Wrong(Kind::LeftOut(first.clone()?)))
+        Ok(Form::Wrong(LineFault::LeftOut(first.clone()?)))
     } else if begins_with_dot(word) {
-        Ok(Form::Wrong(Kind::Unknown(first.clone()?)))
+        Ok(Form::Wrong(LineFault::Unknown(first.clone()?)))
     } else {
         row_of(alloc, word, rest)
     }

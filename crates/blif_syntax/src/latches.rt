@@ -1,8 +1,10 @@
+//! What the words of a `.latch` line say; begin with `latch_of`.
+
 ghost use Rattle.std.specs.Prelude.{◌≡◌, IfOk};
 ghost use Rattle.blif_syntax.specs.Words.{init_of, kind_named, control_of};
 ghost use Rattle.blif_syntax.specs.Forms.{latch_with, latch_typed, latch_of};
 
-use crate::form::{Form, Kind};
+use crate::form::{Form, LineFault};
 use crate::models::{LatchKind, What};
 use crate::words::{is, is_left_out_type};
 use net_core::Init;
@@ -65,7 +67,7 @@ fn latch_with(
             control,
             init,
         })),
-        _ => Ok(Form::Wrong(Kind::Bad)),
+        _ => Ok(Form::Wrong(LineFault::Bad)),
     }
 }
 
@@ -77,10 +79,11 @@ fn latch_typed(
     control: &Name,
     init: Option<Init>,
 ) -> Result<Form, AllocError>
-    ensures { IfOk result (λ form. form ≡ latch_typed input.now output.now kind.now control.now init) }
+    ensures { IfOk result (λ form. form
+        ≡ latch_typed input.now output.now kind.now control.now init) }
 {
     if is_left_out_type(kind.bytes()) {
-        return Ok(Form::Wrong(Kind::LeftOut(kind.clone()?)));
+        return Ok(Form::Wrong(LineFault::LeftOut(kind.clone()?)));
     }
     latch_with(
         input,
@@ -124,6 +127,6 @@ pub fn latch_of(words: &[Name]) -> Result<Form, AllocError>
             control,
             init_of(init.bytes()),
         ),
-        _ => Ok(Form::Wrong(Kind::Bad)),
+        _ => Ok(Form::Wrong(LineFault::Bad)),
     }
 }

@@ -8,7 +8,7 @@ mod forms;
 mod latches;
 pub mod laws;
 pub mod models;
-pub mod place;
+pub mod open_cover;
 pub mod read;
 mod rows;
 mod uses;

@@ -1,3 +1,5 @@
+//! What a netlist says; begin with `Models`.
+
 ghost use Rattle.std.specs.Prelude.{◌<◌, length};
 
 use net_core::{Cover, Init};

@@ -1,25 +1,26 @@
-ghost use Rattle.std.specs.Prelude.{◌≡◌, ◌<◌, ◌^◌, All, length};
-ghost use Rattle.blif_syntax.specs.Answer.{IsAnswer, entries_of};
-ghost use Rattle.blif_syntax.specs.Drafts.{fault_of};
-ghost use Rattle.blif_syntax.specs.Places.{kind_of};
+//! From lines to models; begin with `read_models`.
 
-use crate::draft::{Draft, line_added, models_of, place_of};
+ghost use Rattle.std.specs.Prelude.{◌≡◌, ◌<◌, ◌^◌, All, length};
+ghost use Rattle.blif_syntax.specs.Answer.{IsAnswer, entries_of, fault_of};
+ghost use Rattle.blif_syntax.specs.Places.{line_fault_of};
+
+use crate::draft::{Draft, line_added, models_of, open_cover_of};
 use crate::fault::BlifFault;
-use crate::form::{Form, Kind};
+use crate::form::{Form, LineFault};
 use crate::forms::entry_of;
 use crate::models::Models;
-use crate::place::may_stand;
+use crate::open_cover::may_stand;
 use blif_lines::Line;
 use std::alloc::Global;
 use ste_base::Items;
 
 /// The fault of a line of this number and form, which may not stand where it does.
 fn fault_of(line: u32, form: Form) -> BlifFault
-    ensures { result ≡ fault_of line (kind_of form) }
+    ensures { result ≡ fault_of line (line_fault_of form) }
 {
     match form {
-        Form::Wrong(Kind::Unknown(word)) => BlifFault::UnknownWord { line, word },
-        Form::Wrong(Kind::LeftOut(word)) => BlifFault::LeftOut { line, word },
+        Form::Wrong(LineFault::Unknown(word)) => BlifFault::UnknownWord { line, word },
+        Form::Wrong(LineFault::LeftOut(word)) => BlifFault::LeftOut { line, word },
         _ => BlifFault::BadLine { line },
     }
 }
@@ -43,7 +44,11 @@ pub fn read_models(alloc: Global, lines: &[Line]) -> Result<Models, BlifFault>
     };
     for line in lines {
         let entry = entry_of(alloc, line)?;
-        if !may_stand(&entry.form, draft.model.is_some(), place_of(&draft.cover)) {
+        if !may_stand(
+            &entry.form,
+            draft.model.is_some(),
+            open_cover_of(&draft.cover),
+        ) {
             return Err(fault_of(entry.line, entry.form));
         }
         draft = line_added(alloc, draft, entry)?;

@@ -1,9 +1,11 @@
+//! What the words of a row of a cover say; begin with `row_of`.
+
 ghost use Rattle.std.specs.Prelude.{◌≡◌, ◌∷◌, [], IfOk, map};
 ghost use Rattle.std.specs.List.{list_all};
 ghost use Rattle.blif_syntax.specs.Words.{is_bit, is_literal, literal_of};
 ghost use Rattle.blif_syntax.specs.Forms.{row_of, row_with};
 
-use crate::form::{Form, Kind};
+use crate::form::{Form, LineFault};
 use net_core::Lit;
 use std::alloc::{AllocError, Global};
 use ste_base::Name;
@@ -59,7 +61,7 @@ fn row_with(alloc: Global, characters: &[u8], output: &[u8]) -> Result<Form, All
             literals_of(alloc, characters)?.into(),
             *byte == b'1',
         )),
-        _ => Ok(Form::Wrong(Kind::Bad)),
+        _ => Ok(Form::Wrong(LineFault::Bad)),
     }
 }
 
@@ -70,6 +72,6 @@ pub fn row_of(alloc: Global, first: &[u8], words: &[Name]) -> Result<Form, Alloc
     match words {
         [] => row_with(alloc, b"", first),
         [output] if !first.is_empty() => row_with(alloc, first, output.bytes()),
-        _ => Ok(Form::Wrong(Kind::Bad)),
+        _ => Ok(Form::Wrong(LineFault::Bad)),
     }
 }

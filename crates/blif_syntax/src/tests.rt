@@ -1,3 +1,5 @@
+//! Texts with their models and faults, in two tables; begin with `models_of_texts`.
+
 ghost use Rattle.std.specs.Prelude.{◌≤◌, length};
 
 use crate::{BlifFault, Item, LatchKind, Model, Models, What, read_models};

@@ -1,8 +1,10 @@
+//! What the words of a `.subckt` line say; begin with `use_of`.
+
 ghost use Rattle.std.specs.Prelude.{◌≡◌, IfOk, suc, take, drop, length, unwrap_or};
 ghost use Rattle.std.specs.List.{position};
 ghost use Rattle.blif_syntax.specs.Forms.{is_equals, binding_with, binding_of, bindings_of, use_of};
 
-use crate::form::{Form, Kind};
+use crate::form::{Form, LineFault};
 use crate::models::What;
 use std::alloc::{AllocError, Global};
 use ste_base::{Items, Name};
@@ -16,8 +18,10 @@ fn equals(word: &[u8]) -> Option<usize>
 
 /// What stands before the first `=` of a word, and what stands behind it; without one all of the word, and nothing.
 fn sides(word: &[u8]) -> (&[u8], &[u8])
-    ensures formal { result.0.now ≡ take (unwrap_or (position is_equals word.now) (length word.now)) word.now }
-    ensures actual { result.1.now ≡ drop (suc (unwrap_or (position is_equals word.now) (length word.now))) word.now }
+    ensures formal { result.0.now
+        ≡ take (unwrap_or (position is_equals word.now) (length word.now)) word.now }
+    ensures actual { result.1.now
+        ≡ drop (suc (unwrap_or (position is_equals word.now) (length word.now))) word.now }
 {
     match equals(word) {
         Some(at) => (&word[..at], &word[at + 1..]),
@@ -71,13 +75,13 @@ pub fn use_of(alloc: Global, words: &[Name]) -> Result<Form, AllocError>
     ensures { IfOk result (λ form. form ≡ use_of words.now) }
 {
     let [model, bindings @ ..] = words else {
-        return Ok(Form::Wrong(Kind::Bad));
+        return Ok(Form::Wrong(LineFault::Bad));
     };
     match bindings_of(alloc, bindings)? {
         Some(formals) => Ok(Form::Item(What::Subckt {
             model: model.clone()?,
             formals,
         })),
-        None => Ok(Form::Wrong(Kind::Bad)),
+        None => Ok(Form::Wrong(LineFault::Bad)),
     }
 }

@@ -1,5 +1,7 @@
+//! The words that lines begin with; begin with `is_skipped`.
+
 ghost use Rattle.std.specs.Prelude.{◌≡◌, IfOk, bytes_eq, refl};
-ghost use Rattle.blif_syntax.specs.Words.{is_one_of, passed_words, left_out_words, left_out_types, begins_with_dot};
+ghost use Rattle.blif_syntax.specs.Words.{is_one_of, skipped_words, left_out_words, left_out_types, begins_with_dot};
 
 use std::alloc::{AllocError, Global};
 use ste_base::{Items, Name};
@@ -11,9 +13,9 @@ pub fn is(word: &[u8], text: &str) -> bool
     word == text.as_bytes()
 }
 
-/// Whether a line with this first word is passed over.
-pub fn is_passed(word: &[u8]) -> bool
-    ensures { result ≡ is_one_of passed_words word.now }
+/// Whether a line with this first word is skipped.
+pub fn is_skipped(word: &[u8]) -> bool
+    ensures { result ≡ is_one_of skipped_words word.now }
 {
     is(word, ".area")
         || is(word, ".delay")

@@ -6,10 +6,10 @@ use Rattle.bool_expr.specs.declared.fault.ExprFault.TheVariants.{BadExpr, TooDee
 use Rattle.bool_expr.specs.Tokens.{tokens_of}
 use Rattle.bool_expr.specs.Tree.{tree_of}
 use Rattle.bool_expr.specs.Grammar.{Expression, spelling, nesting}
-use Rattle.bool_expr.specs.Scan.{scan_from, scan_start}
-use Rattle.bool_expr.specs.Build.{build_from, build_start}
+use Rattle.bool_expr.specs.private.Scan.{scan_from, scan_start}
+use Rattle.bool_expr.specs.private.Build.{build_from, build_start}
 use Rattle.bool_expr.specs.Read.{Spells, IsAnswer, HasCause, first_unknown, place_by, number_in}
-use Rattle.bool_expr.specs.Held.{IsCause}
+use Rattle.bool_expr.specs.private.Held.{IsCause}
 use Rattle.bool_expr.specs.Laws.{OneTextSpellsOneTree}
 use Rattle.bool_expr.proofs.Deep.{expression_depth}
 use Rattle.bool_expr.proofs.Found.{expression_found}

@@ -1,8 +1,10 @@
 pub mod Answered
 pub mod Deep
 pub mod Found
+pub mod Full
 pub mod Parts
 pub mod Places
 pub mod Tokens
 pub mod Trees
 pub mod Turns
+pub mod Values

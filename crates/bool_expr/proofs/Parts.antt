@@ -1,7 +1,7 @@
 -- How the parts of an expression are put together.
 use Rattle.std.proofs.Common.{ℕ, zero, suc, ◌-◌, ◌<◌, ◌≡◌, refl, arith}
 use Rattle.bool_expr.specs.Tree.{Tree, opposite}
-use Rattle.bool_expr.specs.Build.{behind_signs}
+use Rattle.bool_expr.specs.private.Build.{behind_signs}
 
 pub one_sign : (n : ℕ) (part : Tree) → 0 < n → behind_signs (n - 1) (opposite part) ≡ behind_signs n part
 one_sign zero part h = absurd (omega arith)

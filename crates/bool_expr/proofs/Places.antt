@@ -5,7 +5,7 @@ use Rattle.std.proofs.lemmas.Slice.Eq.{bytes_eq-Decides}
 use Rattle.std.proofs.lemmas.List.{take_all}
 use Rattle.std.proofs.Math.Seq.{take-suc}
 use Rattle.bool_expr.specs.Read.{number_from, number_in}
-use Rattle.bool_expr.specs.Held.{with_place}
+use Rattle.bool_expr.specs.private.Held.{with_place}
 
 keeps : (o : Option ℕ) (n : ℕ) → o ≡ with_place o false n
 keeps None n = refl

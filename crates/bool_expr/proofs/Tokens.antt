@@ -2,7 +2,8 @@
 use Rattle.std.proofs.Common.{ℕ, suc, ◌+◌, ◌≡◌, length, ◌-◌, add-one, refl, sym, ap, ◌∙◌, List, [], ◌∷◌, take, drop, arith, Bool, true, false}
 use Rattle.std.specs.List.{prefix_len}
 use Rattle.std.proofs.lemmas.List.{take_rest}
-use Rattle.bool_expr.specs.Tokens.{Token, is_blank, is_letter, is_name_byte, byte_token, word_token, tokens_of, tokens_behind}
+use Rattle.ste_base.specs.Bytes.{is_blank, is_letter}
+use Rattle.bool_expr.specs.Tokens.{Token, is_name_byte, byte_token, word_token, tokens_of, tokens_behind}
 
 -- a blank is in no token
 pub blank_first : (byte : ℕ) (text : List ℕ) → is_blank byte ≡ true → tokens_of (byte ∷ text) ≡ tokens_of text

@@ -5,7 +5,7 @@ use Rattle.bool_expr.specs.declared.token.Sign.TheVariants.{Or, Xor, And}
 use Rattle.bool_expr.specs.Tokens.{Token, sign, closing}
 use Rattle.bool_expr.specs.Tree.{Tree, bit, place, chain}
 use Rattle.bool_expr.specs.Grammar.{Level, factor, chained, Phrase, Expression, literal, named, negated, bracketed, single, joined, spelling, tree, parts}
-use Rattle.bool_expr.specs.Build.{Opened, nothing, with_factor, odd_parts, any_parts, with_sign, closed, build_from, build_start}
+use Rattle.bool_expr.specs.private.Build.{Opened, nothing, with_factor, odd_parts, any_parts, with_sign, closed, build_from, build_start}
 
 -- what stands in the bracket behind a phrase
 abbrev behind : {level : Level} → (List ℕ → ℕ) → Phrase level → Opened → Opened

@@ -6,8 +6,8 @@ use Rattle.bool_expr.specs.declared.fault.ExprFault.TheVariants.{BadExpr, TooDee
 use Rattle.std.specs.Prelude.{is_some, if◌then◌else◌}
 use Rattle.bool_expr.specs.Tokens.{Token, sign, negation, opening, closing, constant, variable, wrong}
 use Rattle.bool_expr.specs.Read.{first_unknown}
-use Rattle.bool_expr.specs.Held.{IsCause}
-use Rattle.bool_expr.specs.Build.{Built, Opened, turn, shut}
+use Rattle.bool_expr.specs.private.Held.{IsCause}
+use Rattle.bool_expr.specs.private.Build.{Built, Opened, turn, shut}
 
 shut_signs : (b : Built) (outer : List Opened) → (shut b outer).inner.signs ≤ suc b.inner.signs
 shut_signs b [] = omega arith

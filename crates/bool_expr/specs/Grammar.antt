@@ -1,4 +1,4 @@
--- The grammar of expressions: which tree a list of tokens spells, and how deep it is nested. The rules are this
+-- Meaning. The grammar of expressions: which tree a list of tokens spells, and how deep it is nested. The rules are this
 -- project's own choice.
 use Rattle.std.specs.Prelude.{ℕ, suc, max, List, [], ◌∷◌, ◌++◌, Bool}
 use Rattle.bool_expr.specs.declared.token.Sign.{Sign}

@@ -1,4 +1,4 @@
--- What the text of an expression is read as over the declared variables.
+-- Meaning. What the text of an expression is read as over the declared variables.
 use Rattle.std.specs.Prelude.{ℕ, suc, ◌<◌, ◌≤◌, ◌≡◌, List, [], ◌∷◌, Option, None, Some, unwrap_or, is_some, if◌then◌else◌, bytes_eq, Result, Ok, Err}
 use Rattle.bool_expr.specs.declared.expr.Expr.{Expr}
 use Rattle.bool_expr.specs.declared.fault.ExprFault.{ExprFault}

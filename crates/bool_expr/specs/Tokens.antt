@@ -1,6 +1,7 @@
--- The tokens of the text of an expression. The rules are this project's own choice.
+-- Meaning. The tokens of the text of an expression. The rules are this project's own choice.
 use Rattle.std.specs.Prelude.{ℕ, List, [], ◌∷◌, codes, Bool, true, false, ◌&&◌, ◌||◌, if◌then◌else◌, nat_eq, nat_le, bytes_eq}
 use Rattle.std.specs.List.{take_while}
+use Rattle.ste_base.specs.Bytes.{is_blank, is_digit, is_letter}
 use Rattle.bool_expr.specs.declared.token.Sign.{Sign}
 use Rattle.bool_expr.specs.declared.token.Sign.TheVariants.{Or, Xor, And}
 
@@ -14,17 +15,9 @@ pub data Token : Type 0 where
   variable : List ℕ → Token
   wrong : Token
 
--- a space, a tab or a carriage return
-abbrev pub is_blank : ℕ → Bool
-is_blank byte = nat_eq byte 32 || nat_eq byte 9 || nat_eq byte 13
-
--- a letter or `_`, with which a variable begins
-abbrev pub is_letter : ℕ → Bool
-is_letter byte = (nat_le 97 byte && nat_le byte 122) || (nat_le 65 byte && nat_le byte 90) || nat_eq byte 95
-
--- a letter, `_` or a digit, with which a variable goes on
+-- a letter, `_` or a digit: a variable begins with a letter or `_`, and goes on with these
 abbrev pub is_name_byte : ℕ → Bool
-is_name_byte byte = is_letter byte || (nat_le 48 byte && nat_le byte 57)
+is_name_byte byte = is_letter byte || is_digit byte
 
 -- the word is one that task files keep for themselves
 abbrev pub is_kept : List ℕ → Bool

@@ -1,4 +1,4 @@
--- The tree of an expression, without where it lies in memory.
+-- Meaning. The tree of an expression, without where it lies in memory.
 use Rattle.std.specs.Prelude.{ℕ, List, [], ◌∷◌, Bool}
 use Rattle.bool_expr.specs.declared.token.Sign.{Sign}
 use Rattle.bool_expr.specs.declared.token.Sign.TheVariants.{Or, Xor, And}
@@ -39,3 +39,21 @@ tree_step (Any parts) = under Or (all_of parts.items)
 -- the tree that an expression is
 abbrev pub tree_of : Expr → Tree
 tree_of expr = fold-Expr Tree tree_step expr
+
+-- there are two or more trees
+abbrev pub AreTwoOrMore : Trees → Type 0
+AreTwoOrMore none = ⊥
+AreTwoOrMore (more part none) = ⊥
+AreTwoOrMore (more one (more other parts)) = Unit {0}
+
+-- each list of the tree has two or more parts
+abbrev mutual
+  pub IsFull : Tree → Type 0
+  IsFull (bit b) = Unit {0}
+  IsFull (place n) = Unit {0}
+  IsFull (opposite part) = IsFull part
+  IsFull (under sign parts) = AreTwoOrMore parts × AreFull parts
+
+  pub AreFull : Trees → Type 0
+  AreFull none = Unit {0}
+  AreFull (more part parts) = IsFull part × AreFull parts

@@ -1,9 +1,11 @@
+//! The tree of an expression, token by token; begin with `expr_of`.
+
 ghost use Rattle.std.specs.Prelude.{◌≡◌, ◌<◌, ◌^◌, ◌∷◌, [], IfOk, IfErr, None, map, ◌++◌};
 ghost use Rattle.bool_expr.specs.Tokens.{tokens_of, negation};
 ghost use Rattle.bool_expr.specs.Tree.{tree_of, chain};
 ghost use Rattle.bool_expr.specs.Read.{place_by, first_unknown};
-ghost use Rattle.bool_expr.specs.Held.{token_of, numbers, IsCause};
-ghost use Rattle.bool_expr.specs.Build.{opened, built, nothing, behind_signs, with_factor, shut, with_sign, closed, turn, build_from, build_start};
+ghost use Rattle.bool_expr.specs.private.Held.{token_of, numbers, IsCause};
+ghost use Rattle.bool_expr.specs.private.Build.{opened, built, nothing, behind_signs, with_factor, shut, with_sign, closed, turn, build_from, build_start};
 
 use crate::expr::Expr;
 use crate::fault::ExprFault;
@@ -61,7 +63,8 @@ fn behind_signs(alloc: Global, signs: usize, expr: Expr) -> Result<Expr, AllocEr
 
 /// The parts of a chain of `^`, with the chain of `&` that is open.
 fn odd_parts(mut odd: Vec<Expr>, all: Vec<Expr>) -> Result<Vec<Expr>, AllocError>
-    ensures { IfOk result (λ parts. map tree_of parts.items ≡ map tree_of odd.items ++ chain Sign.And (map tree_of all.items) ∷ []) }
+    ensures { IfOk result (λ parts. map tree_of parts.items ≡ map tree_of odd.items
+        ++ chain Sign.And (map tree_of all.items) ∷ []) }
 {
     odd.push(chain(Sign::And, all))?;
     Ok(odd)
@@ -69,7 +72,9 @@ fn odd_parts(mut odd: Vec<Expr>, all: Vec<Expr>) -> Result<Vec<Expr>, AllocError
 
 /// The parts of a chain of `|`, with the chains of `^` and `&` that are open.
 fn any_parts(mut any: Vec<Expr>, odd: Vec<Expr>, all: Vec<Expr>) -> Result<Vec<Expr>, AllocError>
-    ensures { IfOk result (λ parts. map tree_of parts.items ≡ map tree_of any.items ++ chain Sign.Xor (map tree_of odd.items ++ chain Sign.And (map tree_of all.items) ∷ []) ∷ []) }
+    ensures { IfOk result (λ parts. map tree_of parts.items ≡ map tree_of any.items
+        ++ chain Sign.Xor (map tree_of odd.items
+        ++ chain Sign.And (map tree_of all.items) ∷ []) ∷ []) }
 {
     any.push(chain(Sign::Xor, odd_parts(odd, all)?))?;
     Ok(any)
@@ -166,7 +171,8 @@ impl Build {
 
     /// Behind one more factor.
     fn with_factor(self, alloc: Global, part: Expr) -> Result<Build, AllocError>
-        ensures { IfOk result (λ build. built build ≡ record (built self) { inner = with_factor (tree_of part) (opened self.inner) }) }
+        ensures { IfOk result (λ build. built build
+            ≡ record (built self) { inner = with_factor (tree_of part) (opened self.inner) }) }
     {
         let Build { inner, outer } = self;
         Ok(Build {
@@ -177,7 +183,8 @@ impl Build {
 
     /// Behind an opening bracket.
     fn open(self, alloc: Global) -> Result<Build, AllocError>
-        ensures { IfOk result (λ build. built build ≡ record { inner = nothing; outer = opened self.inner ∷ map opened self.outer.items }) }
+        ensures { IfOk result (λ build. built build
+            ≡ record { inner = nothing; outer = opened self.inner ∷ map opened self.outer.items }) }
     {
         let Build { inner, mut outer } = self;
         outer.push_front(inner)?;
@@ -189,7 +196,8 @@ impl Build {
 
     /// Behind a closing bracket.
     fn close(self, alloc: Global) -> Result<Build, AllocError>
-        ensures { IfOk result (λ build. built build ≡ shut (built self) (map opened self.outer.items)) }
+        ensures { IfOk result (λ build. built build
+            ≡ shut (built self) (map opened self.outer.items)) }
     {
         let Build { inner, mut outer } = self;
         let Some(around) = outer.pop_front() else {
@@ -219,9 +227,12 @@ impl Build {
         token: Token<'_>,
     ) -> Result<Build, ExprFault>
         requires { self.inner.signs < 2 ^ 63 }
-        ensures ok { IfOk result (λ build. built build ≡ turn (place_by (numbers places.now)) (built self) (token_of token.entry)) }
-        ensures known { IfOk result (λ _. first_unknown (numbers places.now) (token_of token.entry ∷ []) ≡ None) }
-        ensures err { IfErr result (λ fault. IsCause (numbers places.now) (token_of token.entry ∷ []) fault) }
+        ensures ok { IfOk result (λ build. built build
+            ≡ turn (place_by (numbers places.now)) (built self) (token_of token.entry)) }
+        ensures known { IfOk result (λ _.
+            first_unknown (numbers places.now) (token_of token.entry ∷ []) ≡ None) }
+        ensures err { IfErr result (λ fault.
+            IsCause (numbers places.now) (token_of token.entry ∷ []) fault) }
     {
         match token {
             Token::Sign(sign) => {
@@ -244,8 +255,10 @@ impl Build {
 /// The expression that a text spells, where it spells one, and its variables are declared.
 #[tactic(auto, using(crate::proofs::Turns::turn_signs, crate::proofs::Turns::first_known))]
 pub fn expr_of(alloc: Global, text: &[u8], places: &HashMap<Name, u32>) -> Result<Expr, ExprFault>
-    ensures ok { IfOk result (λ expr. tree_of expr ≡ build_from (place_by (numbers places.now)) build_start (tokens_of text.now)) }
-    ensures known { IfOk result (λ _. first_unknown (numbers places.now) (tokens_of text.now) ≡ None) }
+    ensures ok { IfOk result (λ expr. tree_of expr
+        ≡ build_from (place_by (numbers places.now)) build_start (tokens_of text.now)) }
+    ensures known { IfOk result (λ _. first_unknown (numbers places.now) (tokens_of text.now)
+        ≡ None) }
     ensures err { IfErr result (λ fault. IsCause (numbers places.now) (tokens_of text.now) fault) }
 {
     let mut build = Build::new(alloc);

@@ -1,3 +1,5 @@
+//! Why a text is refused; begin with `ExprFault`.
+
 ghost use Rattle.std.specs.Prelude.{◌≡◌};
 ghost use Rattle.bool_expr.specs.declared.fault.ExprFault.TheVariants.{OutOfMemory};
 

@@ -1,7 +1,9 @@
+//! Whether tokens make an expression, and how deep it is nested; begin with `nesting`.
+
 ghost use Rattle.std.specs.Prelude.{◌≡◌, ◌≤◌, Option, None, Some, IfOk, if◌then◌else◌};
 ghost use Rattle.bool_expr.specs.Tokens.{tokens_of, opening, closing};
-ghost use Rattle.bool_expr.specs.Held.{token_of};
-ghost use Rattle.bool_expr.specs.Scan.{scanned, step, scan_from, scan_start, deeper, behind_factor, ended};
+ghost use Rattle.bool_expr.specs.private.Held.{token_of};
+ghost use Rattle.bool_expr.specs.private.Scan.{scanned, step, scan_from, scan_start, deeper, behind_factor, ended};
 
 use crate::token::{Token, next_token};
 use std::alloc::{AllocError, Global};
@@ -45,7 +47,8 @@ impl Scan {
 
     /// Behind a constant or a variable; false where none may stand here.
     fn factor(&mut self) -> bool
-        ensures { behind_factor (scanned self.old) ≡ (if result then Some (scanned self.new) else None) }
+        ensures { behind_factor (scanned self.old)
+            ≡ (if result then Some (scanned self.new) else None) }
     {
         if !self.wants_factor {
             return false;
@@ -58,7 +61,8 @@ impl Scan {
 
     /// Behind an opening bracket; false where none may stand here.
     fn open(&mut self) -> Result<bool, AllocError>
-        ensures { IfOk result (λ fits. step 101 (scanned self.old) opening ≡ (if fits then Some (scanned self.new) else None)) }
+        ensures { IfOk result (λ fits. step 101 (scanned self.old) opening
+            ≡ (if fits then Some (scanned self.new) else None)) }
     {
         if !self.wants_factor {
             return Ok(false);
@@ -71,7 +75,8 @@ impl Scan {
 
     /// Behind a closing bracket; false where none may stand here.
     fn close(&mut self) -> bool
-        ensures { step 101 (scanned self.old) closing ≡ (if result then Some (scanned self.new) else None) }
+        ensures { step 101 (scanned self.old) closing
+            ≡ (if result then Some (scanned self.new) else None) }
     {
         if self.wants_factor {
             return false;
@@ -86,7 +91,8 @@ impl Scan {
 
     /// Behind one more token; false where it may not stand here.
     fn step(&mut self, token: Token<'_>) -> Result<bool, AllocError>
-        ensures { IfOk result (λ fits. step 101 (scanned self.old) (token_of token.entry) ≡ (if fits then Some (scanned self.new) else None)) }
+        ensures { IfOk result (λ fits. step 101 (scanned self.old) (token_of token.entry)
+            ≡ (if fits then Some (scanned self.new) else None)) }
     {
         match token {
             Token::Sign(_) => {

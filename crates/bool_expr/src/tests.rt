@@ -1,3 +1,5 @@
+//! Texts with their trees and faults, in one table; begin with `trees_of_texts`.
+
 use crate::{Expr, ExprFault, read_expr, value};
 use std::alloc::{AllocError, Global};
 use std::test::Fail;

@@ -1,7 +1,12 @@
+//! The tokens of a text; begin with `next_token`.
+
 ghost use Rattle.std.specs.Prelude.{◌≡◌, ◌<◌, ◌≤◌, ◌∷◌, [], ℕ, List, length, IfSome, IfNone, false};
 ghost use Rattle.std.specs.List.{prefix_len};
-ghost use Rattle.bool_expr.specs.Tokens.{is_blank, is_letter, is_name_byte, is_kept, byte_token, word_token, tokens_of};
-ghost use Rattle.bool_expr.specs.Held.{token_of};
+ghost use Rattle.ste_base.specs.Bytes.{is_blank};
+ghost use Rattle.bool_expr.specs.Tokens.{is_name_byte, is_kept, byte_token, word_token, tokens_of};
+ghost use Rattle.bool_expr.specs.private.Held.{token_of};
+
+use ste_base::{is_blank, is_digit, is_letter};
 
 /// A sign between the parts of a chain.
 #[derive(Clone, Copy)]
@@ -25,25 +30,11 @@ pub enum Token<'a> {
     Wrong,
 }
 
-/// Whether a byte is a space, a tab or a carriage return.
-fn is_blank(byte: u8) -> bool
-    ensures { result ≡ is_blank byte }
-{
-    byte == b' ' || byte == b'\t' || byte == b'\r'
-}
-
-/// Whether a byte is a letter or `_`.
-fn is_letter(byte: u8) -> bool
-    ensures { result ≡ is_letter byte }
-{
-    (b'a' <= byte && byte <= b'z') || (b'A' <= byte && byte <= b'Z') || byte == b'_'
-}
-
 /// Whether a byte is a letter, `_` or a digit.
 fn is_name_byte(byte: u8) -> bool
     ensures { result ≡ is_name_byte byte }
 {
-    is_letter(byte) || (b'0' <= byte && byte <= b'9')
+    is_letter(byte) || is_digit(byte)
 }
 
 /// Whether a word is one that task files keep for themselves.
@@ -108,7 +99,8 @@ fn word_length(text: &[u8]) -> usize
 
 /// The first token of a text, and what stands behind it.
 pub fn next_token(text: &[u8]) -> Option<(Token<'_>, &[u8])>
-    ensures some { IfSome result (λ read. tokens_of text.now ≡ token_of read.0 ∷ tokens_of read.1.now) }
+    ensures some { IfSome result (λ read. tokens_of text.now
+        ≡ token_of read.0 ∷ tokens_of read.1.now) }
     ensures shorter { IfSome result (λ read. length read.1.now < length text.now) }
     ensures none { IfNone result (tokens_of text.now ≡ []) }
 {

@@ -1,8 +1,10 @@
+//! The places of variables by name; begin with `places`.
+
 ghost use Rattle.std.specs.Prelude.{◌≡◌, ◌<◌, ◌^◌, ◌∷◌, [], List, ℕ, length, IfOk, IfErr, OnOk, IsTrue, is_some, bytes_eq};
 ghost use Rattle.bool_expr.specs.Tokens.{variable};
 ghost use Rattle.bool_expr.specs.Tree.{tree_of, place};
 ghost use Rattle.bool_expr.specs.Read.{number_in, place_by};
-ghost use Rattle.bool_expr.specs.Held.{numbers, with_place, IsCause};
+ghost use Rattle.bool_expr.specs.private.Held.{numbers, with_place, IsCause};
 
 use crate::expr::Expr;
 use crate::fault::ExprFault;
@@ -13,7 +15,8 @@ use ste_base::{Name, VarId};
 /// Adds the number of a variable, where its name has none.
 #[tactic(auto, using(crate::proofs::Places::put, crate::proofs::Places::kept))]
 fn add_place(places: &mut HashMap<Name, u32>, name: &Name, place: u32) -> Result<(), AllocError>
-    ensures { OnOk result ((word : List ℕ) → numbers places.new word ≡ with_place (numbers places.old word) (bytes_eq name.now word) place) }
+    ensures { OnOk result ((word : List ℕ) → numbers places.new word
+        ≡ with_place (numbers places.old word) (bytes_eq name.now word) place) }
 {
     if places.get(name).is_none() {
         places.insert(name.clone()?, place)?;
@@ -39,9 +42,11 @@ pub fn variable_of(
     places: &HashMap<Name, u32>,
     word: &[u8],
 ) -> Result<Expr, ExprFault>
-    ensures ok { IfOk result (λ expr. tree_of expr ≡ place (place_by (numbers places.now) word.now)) }
+    ensures ok { IfOk result (λ expr. tree_of expr
+        ≡ place (place_by (numbers places.now) word.now)) }
     ensures known { IfOk result (λ _. IsTrue (is_some (numbers places.now word.now))) }
-    ensures err { IfErr result (λ fault. IsCause (numbers places.now) (variable word.now ∷ []) fault) }
+    ensures err { IfErr result (λ fault.
+        IsCause (numbers places.now) (variable word.now ∷ []) fault) }
 {
     let name = Name::from_bytes(alloc, word)?;
     match places.get(&name) {

@@ -1,5 +1,5 @@
 -- Which words the gates and the latches of a model have: all are signals.
-use Rattle.std.proofs.Common.{ℕ, List, [], ◌∷◌, ◌++◌, map, length, arith}
+use Rattle.std.proofs.Common.{◌≡◌, ℕ, List, [], ◌∷◌, ◌++◌, map, length, arith}
 use Rattle.std.specs.Prelude.{All, flat_map, filter_map, option_to_list}
 use Rattle.std.specs.List.{cons_option}
 use Rattle.std.proofs.lemmas.List.Elements.{All-nil, All-cons, All-tail}
@@ -7,7 +7,8 @@ use Rattle.blif_syntax.specs.declared.models.Item.{Item}
 use Rattle.blif_syntax.specs.declared.models.Model.{Model}
 use Rattle.blif_syntax.specs.declared.models.What.{What}
 use Rattle.blif_syntax.specs.declared.models.What.TheVariants.{Inputs, Outputs, Clock, Names, Latch, Subckt}
-use Rattle.blif_syntax.specs.Written.{IsCover, IsSayable}
+use Rattle.net_core.specs.Cover.{IsCover}
+use Rattle.blif_syntax.specs.Covered.{IsCovered}
 use Rattle.flat_net.specs.Lines.{GateLine, LatchLine, gate_lines, gate_of, input_words, inputs_of, latch_lines, latch_of, output_words, outputs_of, signal_words, signals}
 use Rattle.flat_net.proofs.Mentions.{Within, also, both_within, cons_within, in_left, in_right, is_first, later, mentioned, mentions_within, on_right}
 
@@ -118,9 +119,9 @@ outputs_named model = mentions_within (flat_map (λ item. output_words item.what
 
 -- ---- covers
 abbrev pub HasCover : GateLine → Type 0
-HasCover line = IsCover (length line.inputs) line.cover
+HasCover line = (line.cover.inputs ≡ length line.inputs) × IsCover line.cover
 
-covers_with : (what : What) (gates : List GateLine) → IsSayable what → All HasCover gates → All HasCover (cons_option (gate_of what) gates)
+covers_with : (what : What) (gates : List GateLine) → IsCovered what → All HasCover gates → All HasCover (cons_option (gate_of what) gates)
 covers_with (Inputs names) gates h f = f
 covers_with (Outputs names) gates h f = f
 covers_with (Clock names) gates h f = f
@@ -128,8 +129,8 @@ covers_with (Names inputs output cover) gates h f = All-cons HasCover (record { 
 covers_with (Latch input output kind control init) gates h f = f
 covers_with (Subckt model formals) gates h f = f
 
-pub sayable_covers : (items : List Item) → All (λ item. IsSayable item.what) items → All HasCover (filter_map (λ item. gate_of item.what) items)
-sayable_covers [] h = All-nil HasCover
-sayable_covers (item ∷ items) h =
+pub covered_gates : (items : List Item) → All (λ item. IsCovered item.what) items → All HasCover (filter_map (λ item. gate_of item.what) items)
+covered_gates [] h = All-nil HasCover
+covered_gates (item ∷ items) h =
     covers_with item.what (filter_map (λ other. gate_of other.what) items) (h 0 item (omega arith))
-    (sayable_covers items (All-tail (λ (other : Item). IsSayable other.what) item items h))
+    (covered_gates items (All-tail (λ (other : Item). IsCovered other.what) item items h))

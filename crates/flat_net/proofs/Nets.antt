@@ -18,14 +18,15 @@ use Rattle.net_core.specs.declared.raw.RawNet.{RawNet}
 use Rattle.net_core.specs.Flat.{IsInRange, HasOneDriver, IsListedInOrder}
 use Rattle.blif_syntax.specs.declared.models.Model.{Model}
 use Rattle.blif_syntax.specs.Words.{is_one_of}
-use Rattle.blif_syntax.specs.Written.{IsSayable}
+use Rattle.net_core.specs.Cover.{IsCover}
+use Rattle.blif_syntax.specs.Covered.{IsCovered}
 use Rattle.flat_net.specs.declared.flat.FlatNet.{FlatNet}
 use Rattle.flat_net.specs.Lines.{GateLine, LatchLine, gate_lines, inputs_of, latch_lines, outputs_of, signals}
 use Rattle.flat_net.specs.Flat.{flat_of, gates_from, latch_at, net_of}
 use Rattle.flat_net.specs.Supported.{are_distinct, are_in_order, driven, is_clocked_once, is_driven_once, is_narrow, is_supported_model, is_use}
 use Rattle.flat_net.proofs.Mentions.{Within, distinct_apart, distinct_right, each_of_words, in_left, in_rest, in_right, nets_apart, nets_differ, number_below}
 use Rattle.flat_net.proofs.Distinct.{distinct_left, distinct_pairs, none_apart}
-use Rattle.flat_net.proofs.Named.{HasCover, gate_outputs_named, gate_words, gates_named, inputs_named, latch_inputs_named, latch_outputs_named, outputs_named, sayable_covers}
+use Rattle.flat_net.proofs.Named.{HasCover, gate_outputs_named, gate_words, gates_named, inputs_named, latch_inputs_named, latch_outputs_named, outputs_named, covered_gates}
 
 -- the outputs of gates and of latches, by line
 abbrev gate_outputs : List GateLine → List (List ℕ)
@@ -107,10 +108,14 @@ widths_agree : (names : List (List ℕ)) (n : ℕ) (before : List Cover) (lines 
 widths_agree names n before [] e h = All-nil (λ (gate : Gate). (cover : Cover) → slice_get (before ++ []) gate.cover ≡ Some cover → cover.inputs ≡ length gate.inputs)
 widths_agree names n before (line ∷ lines) e h =
     All-cons (λ (gate : Gate). (cover : Cover) → slice_get (before ++ line.cover ∷ covers lines) gate.cover ≡ Some cover → cover.inputs ≡ length gate.inputs) _ (gates_from names (suc n) lines)
-    (λ cover g. ap (λ (c : Cover). c.inputs) (cover_after before line.cover cover (covers lines) n e g) ∙ (h 0 line (omega arith)).inputs ∙ sym (length-map line.inputs (net_of names)))
+    (λ cover g. ap (λ (c : Cover). c.inputs) (cover_after before line.cover cover (covers lines) n e g) ∙ (h 0 line (omega arith)).0 ∙ sym (length-map line.inputs (net_of names)))
     (rw (append_assoc before (line.cover ∷ []) (covers lines)) at (widths_agree names (suc n) (before ++ line.cover ∷ []) lines (omega (arith, length_push before line.cover, e)) (All-tail HasCover line lines h)))
 
-pub in_range : (model : Model) → All (λ item. IsSayable item.what) model.items → IsInRange (flat_of model)
+sound_covers : (lines : List GateLine) → All HasCover lines → All IsCover (covers lines)
+sound_covers [] h = All-nil IsCover
+sound_covers (line ∷ lines) h = All-cons IsCover line.cover (covers lines) (h 0 line (omega arith)).1 (sound_covers lines (All-tail HasCover line lines h))
+
+pub in_range : (model : Model) → All (λ item. IsCovered item.what) model.items → IsInRange (flat_of model)
 in_range model h =
     let names = signals model in
     let gates = gate_lines model in
@@ -128,7 +133,8 @@ in_range model h =
       latch_outputs = each_of_words names (λ id. id.0 < length names) (λ (latch : Latch). latch.output) (map (latch_at names) latches) (latch_outputs latches) (latch_nets names latches)
           (λ word m. number_below names word (latch_outputs_named model word m));
       covers = λ k d l. let low = covers_below names 0 gates k d l in omega (arith, low, length-map gates (λ (line : GateLine). line.cover));
-      widths = widths_agree names 0 [] gates refl (sayable_covers model.items h);
+      sound = sound_covers gates (covered_gates model.items h);
+      widths = widths_agree names 0 [] gates refl (covered_gates model.items h);
     }
 
 -- ---- one driver

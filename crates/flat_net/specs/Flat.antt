@@ -1,4 +1,4 @@
--- The flat net of one model: its nets are its signals, numbered by first mention, and its gates and latches are numbered
+-- Meaning. The flat net of one model: its nets are its signals, numbered by first mention, and its gates and latches are numbered
 -- by line. A control has no effect on its latch.
 use Rattle.std.specs.Prelude.{ℕ, suc, ◌∷◌, [], List, length, map, bytes_eq}
 use Rattle.std.specs.List.{position_or_len}

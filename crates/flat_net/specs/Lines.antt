@@ -1,4 +1,4 @@
--- What the lines of a model say of its signals. Source: the Berkeley description of BLIF.
+-- Meaning. What the lines of a model say of its signals. Source: the Berkeley description of BLIF.
 use Rattle.std.specs.Prelude.{ℕ, ◌++◌, ◌∷◌, [], List, map, Option, Some, None, flat_map, filter_map, option_to_list, bytes_eq}
 use Rattle.indexmap.specs.IndexSet.{insert_all}
 use Rattle.net_core.specs.declared.cover.Cover.{Cover}

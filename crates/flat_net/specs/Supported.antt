@@ -1,4 +1,4 @@
--- The netlists that are flattened so far.
+-- Meaning. The netlists that are flattened so far.
 use Rattle.std.specs.Prelude.{ℕ, ◌&&◌, ◌++◌, ◌∷◌, [], List, length, map, filter_map, Bool, true, false, not, Option, Some, None, nat_eq, nat_le, bytes_eq}
 use Rattle.std.specs.Bool.{beq}
 use Rattle.std.specs.List.{list_all, list_any}

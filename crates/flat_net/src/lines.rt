@@ -1,3 +1,5 @@
+//! The gates and latches of a model, by line; begin with `gate_lines`.
+
 ghost use Rattle.std.specs.Prelude.{◌≡◌, IfOk};
 ghost use Rattle.flat_net.specs.Lines.{gate_lines, gate_of, latch_lines, latch_of};
 

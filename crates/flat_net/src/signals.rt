@@ -1,3 +1,5 @@
+//! The signals of a model, in the order of their first mention; begin with `signals`.
+
 ghost use Rattle.std.specs.Prelude.{◌≡◌, OnOk, IfOk, bytes_eq, map};
 ghost use Rattle.indexmap.specs.IndexSet.{insert_key, insert_all};
 ghost use Rattle.flat_net.specs.Lines.{input_words, inputs_of, output_words, outputs_of, signal_words, signals};
@@ -27,7 +29,8 @@ fn add_all(set: &mut IndexSet<Name>, names: &[Name]) -> Result<(), AllocError>
 
 /// Adds the actual of each binding.
 fn add_actuals(set: &mut IndexSet<Name>, formals: &[(Name, Name)]) -> Result<(), AllocError>
-    ensures { OnOk result (set.new.keys ≡ insert_all bytes_eq set.old.keys (map (λ binding. binding.1) formals.now)) }
+    ensures { OnOk result (set.new.keys
+        ≡ insert_all bytes_eq set.old.keys (map (λ binding. binding.1) formals.now)) }
 {
     for binding in formals {
         add(set, &binding.1)?;
@@ -37,7 +40,8 @@ fn add_actuals(set: &mut IndexSet<Name>, formals: &[(Name, Name)]) -> Result<(),
 
 /// Adds the words of a line that name signals.
 fn add_signals(set: &mut IndexSet<Name>, what: &What) -> Result<(), AllocError>
-    ensures { OnOk result (set.new.keys ≡ insert_all bytes_eq set.old.keys (signal_words what.now)) }
+    ensures { OnOk result (set.new.keys
+        ≡ insert_all bytes_eq set.old.keys (signal_words what.now)) }
 {
     match what {
         What::Inputs(names) | What::Outputs(names) | What::Clock(names) => {
@@ -76,7 +80,8 @@ fn add_inputs(set: &mut IndexSet<Name>, what: &What) -> Result<(), AllocError>
 
 /// Adds the words of a line that are outputs.
 fn add_outputs(set: &mut IndexSet<Name>, what: &What) -> Result<(), AllocError>
-    ensures { OnOk result (set.new.keys ≡ insert_all bytes_eq set.old.keys (output_words what.now)) }
+    ensures { OnOk result (set.new.keys
+        ≡ insert_all bytes_eq set.old.keys (output_words what.now)) }
 {
     match what {
         What::Outputs(names) => add_all(set, names.as_slice()),

@@ -1,3 +1,5 @@
+//! Which models are flattened; begin with `is_supported_model`.
+
 ghost use Rattle.std.specs.Prelude.{◌≡◌, ◌++◌, IfOk, OnOk, bytes_eq, filter_map, length, map, nat_eq, nat_le};
 ghost use Rattle.std.specs.List.{list_all, list_any};
 ghost use Rattle.indexmap.specs.IndexSet.{insert_all};
@@ -44,7 +46,8 @@ fn are_narrow(lines: &[GateLine]) -> bool
 
 /// Adds the outputs of the gates.
 fn add_gates(set: &mut IndexSet<Name>, lines: &[GateLine]) -> Result<(), AllocError>
-    ensures { OnOk result (set.new.keys ≡ insert_all bytes_eq set.old.keys (map (λ line. line.output) lines.now)) }
+    ensures { OnOk result (set.new.keys
+        ≡ insert_all bytes_eq set.old.keys (map (λ line. line.output) lines.now)) }
 {
     for line in lines {
         add(set, line.output)?;
@@ -54,7 +57,8 @@ fn add_gates(set: &mut IndexSet<Name>, lines: &[GateLine]) -> Result<(), AllocEr
 
 /// Adds the outputs of the latches.
 fn add_latches(set: &mut IndexSet<Name>, lines: &[LatchLine]) -> Result<(), AllocError>
-    ensures { OnOk result (set.new.keys ≡ insert_all bytes_eq set.old.keys (map (λ line. line.output) lines.now)) }
+    ensures { OnOk result (set.new.keys
+        ≡ insert_all bytes_eq set.old.keys (map (λ line. line.output) lines.now)) }
 {
     for line in lines {
         add(set, line.output)?;
@@ -94,7 +98,8 @@ fn is_rising(line: &LatchLine) -> Option<bool>
 
 /// For each latch with a type, whether it is `re`.
 fn types_of(alloc: Global, lines: &[LatchLine]) -> Result<Vec<bool>, AllocError>
-    ensures { IfOk result (λ types. types.items ≡ filter_map (λ line. is_rising line.kind) lines.now) }
+    ensures { IfOk result (λ types. types.items
+        ≡ filter_map (λ line. is_rising line.kind) lines.now) }
 {
     lines
         .iter()

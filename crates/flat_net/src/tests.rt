@@ -1,5 +1,8 @@
+//! Netlists with their flat nets, in one table; begin with `flat_nets`.
+
 ghost use Rattle.std.specs.Prelude.{◌≡◌, ◌≢◌, ◌<◌, ◌^◌, All, IfOk, IfSome, Some, codes, length};
-ghost use Rattle.blif_syntax.specs.Written.{AreSayable, IsCover, IsSayable};
+ghost use Rattle.net_core.specs.Cover.{IsCover};
+ghost use Rattle.blif_syntax.specs.Covered.{AreCovered, IsCovered};
 
 use crate::{FlatNet, flatten};
 use blif_syntax::{Item, LatchKind, Model, Models, What};
@@ -119,7 +122,8 @@ fn ones(alloc: Global, width: u32) -> Result<Row, AllocError>
 
 /// A cover with a row of ones.
 fn cover(alloc: Global, width: u32, on: bool) -> Result<Cover, AllocError>
-    ensures { IfOk result (λ cover. IsCover width cover) }
+    ensures wide { IfOk result (λ cover. cover.inputs ≡ width) }
+    ensures sound { IfOk result IsCover }
 {
     let mut rows = Items::new(alloc);
     rows.push(ones(alloc, width)?)?;
@@ -132,7 +136,7 @@ fn cover(alloc: Global, width: u32, on: bool) -> Result<Cover, AllocError>
 
 /// A gate: its inputs, then its output.
 fn gate(alloc: Global, words: &[&[u8]], on: bool) -> Result<What, AllocError>
-    ensures { IfOk result (λ what. IsSayable what) }
+    ensures { IfOk result (λ what. IsCovered what) }
 {
     let Some((output, inputs)) = words.split_last() else {
         return Ok(What::Inputs(Items::new(alloc)));
@@ -168,7 +172,7 @@ fn control_of(alloc: Global, word: &[u8]) -> Result<Option<Name>, AllocError>
 
 /// A latch.
 fn latch(alloc: Global, words: &[&[u8]]) -> Result<What, AllocError>
-    ensures { IfOk result (λ what. IsSayable what) }
+    ensures { IfOk result (λ what. IsCovered what) }
 {
     match words {
         [input, output, init] => Ok(What::Latch {
@@ -202,7 +206,7 @@ fn latch(alloc: Global, words: &[&[u8]]) -> Result<What, AllocError>
 
 /// What a line says, by its kind and the words behind it.
 fn what_of(alloc: Global, kind: &[u8], words: &[&[u8]]) -> Result<What, AllocError>
-    ensures { IfOk result (λ what. IsSayable what) }
+    ensures { IfOk result (λ what. IsCovered what) }
 {
     match kind.first() {
         Some(b'o') => Ok(What::Outputs(names(alloc, words)?)),
@@ -220,7 +224,7 @@ fn what_of(alloc: Global, kind: &[u8], words: &[&[u8]]) -> Result<What, AllocErr
 
 /// The item of a line.
 fn item_of(alloc: Global, line: &[u8]) -> Result<Item, AllocError>
-    ensures { IfOk result (λ item. IsSayable item.what) }
+    ensures { IfOk result (λ item. IsCovered item.what) }
 {
     let words = line.split(|b| *b == b' ').collect::<Vec<&[u8]>>(alloc)?;
     let what = match words.split_first() {
@@ -232,7 +236,7 @@ fn item_of(alloc: Global, line: &[u8]) -> Result<Item, AllocError>
 
 /// The model of a text.
 fn model_of(alloc: Global, text: &[u8]) -> Result<Model, AllocError>
-    ensures { IfOk result (λ model. All (λ item. IsSayable item.what) model.items) }
+    ensures { IfOk result (λ model. All (λ item. IsCovered item.what) model.items) }
 {
     let mut items = Items::new(alloc);
     for line in text.split(|b| *b == b';') {
@@ -247,7 +251,7 @@ fn model_of(alloc: Global, text: &[u8]) -> Result<Model, AllocError>
 
 /// The models of a text; None where there is none.
 fn models_of(alloc: Global, text: &[u8]) -> Result<Option<Models>, AllocError>
-    ensures { IfOk result (λ found. IfSome found (λ models. AreSayable models.models)) }
+    ensures { IfOk result (λ found. IfSome found (λ models. AreCovered models.models)) }
 {
     let mut models = Items::new(alloc);
     for model in text.split(|b| *b == b'&') {
@@ -356,7 +360,7 @@ fn flat_nets(rt: HostRuntime) -> Result<(), Fail> {
 
 /// A netlist of one model with this many inputs.
 fn many_inputs(alloc: Global, count: u32) -> Result<Models, AllocError>
-    ensures { IfOk result (λ models. AreSayable models.models) }
+    ensures { IfOk result (λ models. AreCovered models.models) }
 {
     let mut names = Items::new(alloc);
     for number in 0..count {

@@ -1,10 +1,10 @@
 pub mod Cover
 pub mod Run
+pub mod Sets
 pub mod Possible
+pub mod OneRun
 pub mod Flat
 pub mod Source
 pub mod Loop
 pub mod Cases
-pub mod Asks
-pub mod Search
-pub mod Written
+pub mod private

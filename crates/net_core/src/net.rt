@@ -1,3 +1,5 @@
+//! Flat nets in a settled (topological) order; begin with `order`.
+
 ghost use Rattle.std.specs.Prelude.{◌≡◌, ◌<◌, Err, Some, length, not, position, IfOk, OnOk, slice_get};
 ghost use Rattle.net_core.specs.Run.{IsSettled};
 ghost use Rattle.net_core.specs.Source.{AreSources, source_of};
@@ -82,7 +84,8 @@ impl Net {
 
     /// The gates' numbers in an order in which each gate follows those that drive its inputs.
     pub fn settled(&self) -> &[u32]
-        ensures { result.now ≡ self.now.settled }
+        ensures same { result.now ≡ self.now.settled }
+        ensures order { IsSettledOrder self.now.raw result.now }
     {
         self.settled.as_slice()
     }

@@ -5,9 +5,10 @@ use Rattle.std.proofs.lemmas.List.{get_or_default, get_or-set_same, get_or-set_o
 use Rattle.std.proofs.lemmas.List.Elements.{All-push, All-contains, Contains-append_left, Contains-get_or, Contains-push}
 use Rattle.std.proofs.lemmas.Bool.{cases_eq}
 use Rattle.net_core.specs.declared.bit_set.BitSet.{BitSet}
-use Rattle.net_core.specs.Possible.{Cut, IsIn, both, only}
+use Rattle.net_core.specs.Run.{Cut}
+use Rattle.net_core.specs.Sets.{IsIn, both, only}
 use Rattle.net_core.proofs.Possible.{is_only, in_only}
-use Rattle.plain_check.specs.Sets.{set_at, Allows}
+use Rattle.plain_check.specs.private.Sets.{set_at, Allows}
 
 pub all_init : {X : Type 0} (P : X → Type 0) (xs : List X) (y : X) → All P (xs ++ y ∷ []) → All P xs
 all_init P xs y all = λ k d l. All-contains P (xs ++ y ∷ []) (get_or xs k d) all (Contains-append_left xs (y ∷ []) (get_or xs k d) (Contains-get_or xs k d l))

@@ -7,9 +7,10 @@ use Rattle.std.proofs.lemmas.List.Folds.{list_any-append}
 use Rattle.net_core.specs.declared.bit_set.BitSet.{BitSet}
 use Rattle.net_core.specs.declared.cover.Cover.{Cover}
 use Rattle.net_core.specs.Cover.{cover_bit}
-use Rattle.net_core.specs.Possible.{IsIn, MayGive, has}
-use Rattle.plain_check.specs.Choices.{lists_of}
-use Rattle.plain_check.specs.Sets.{fits, may_give_one, may_give_zero}
+use Rattle.net_core.specs.Sets.{IsIn, has}
+use Rattle.net_core.specs.Possible.{MayGive}
+use Rattle.plain_check.specs.private.Choices.{lists_of}
+use Rattle.plain_check.specs.private.Sets.{fits, may_give_one, may_give_zero}
 
 -- what holds of some list of so many bits, with a bit in front or without
 any_in_front : (p : List Bool → Bool) (bit : Bool) (lists : List (List Bool)) → list_any p (map (λ bits. bit ∷ bits) lists) ≡ list_any (λ bits. p (bit ∷ bits)) lists

@@ -11,10 +11,11 @@ use Rattle.net_core.specs.declared.raw.RawNet.{RawNet}
 use Rattle.net_core.specs.Cover.{cover_bit}
 use Rattle.net_core.specs.Run.{gate_bit, bit_of}
 use Rattle.net_core.specs.Flat.{IsInRange, HasOneDriver, IsSettledOrder}
-use Rattle.net_core.specs.Possible.{Cut, IsIn, MayGive, ArePossible, both}
+use Rattle.net_core.specs.Sets.{IsIn, both}
+use Rattle.net_core.specs.Possible.{Asked, MayGive, ArePossible}
 use Rattle.net_core.proofs.Possible.{same_set}
 use Rattle.net_core.proofs.Ordered.{place_of}
-use Rattle.plain_check.specs.Sets.{set_at, Allows, AreLatched, AreSets}
+use Rattle.plain_check.specs.private.Sets.{set_at, Allows, AreLatched, AreSets}
 use Rattle.plain_check.proofs.Latched.{by_index}
 
 -- the inputs' sets, where each is known
@@ -37,21 +38,23 @@ one_gate gates apart j k d e l m same =
       ]
     ]
 
-module _ (net : RawNet) (order : List ℕ) (held : List BitSet) (cuts : List Cut) (allowed : List BitSet) (family : ℕ → BitSet) (range : IsInRange net) (one : HasOneDriver net) (is_order : IsSettledOrder net order) (long : length held ≡ length net.latches) (wide : length allowed ≡ net.nets) (allows : Allows cuts allowed) (possible : ArePossible net held cuts family) where
+module _ (net : RawNet) (order : List ℕ) (held : List BitSet) (asked : Asked) (allowed : List BitSet) (family : ℕ → BitSet) (range : IsInRange net) (one : HasOneDriver net) (is_order : IsSettledOrder net order) (long : length held ≡ length net.latches) (wide : length allowed ≡ net.nets) (allows : Allows asked.cuts allowed) (possible : ArePossible net held asked family) where
   -- a gate's output has the gate's set, as far as that is allowed
   gated : (n : ℕ) (gate : Gate) (found left : BitSet) → n < length net.gates → gate ≡ get_or net.gates n gate → ((bit : Bool) → IsIn bit found ↔ MayGive (gate_bit net gate) (map (λ input. family input.0) gate.inputs) bit) → ((bit : Bool) → IsIn bit left ↔ (IsIn bit found × IsIn bit (set_at allowed gate.output.0))) → left ≡ family gate.output.0
   gated n gate found left l is gives meets =
       let id = gate.output.0 in
       let inside : id < net.nets = subst (λ (x : Gate). x.output.0 < net.nets) (sym is) (range.gate_outputs n gate l) in
       same_set left (family id)
-      (λ bit h. let parts = (meets bit).0 h in (possible id bit).1 (record {
-        by_gate = λ k d m e. subst (λ (x : Gate). MayGive (gate_bit net x) (map (λ input. family input.0) x.inputs) bit) (is ∙ sym (one_gate net.gates one.gates k n d gate m l (e ∙ ap (λ (x : Gate). x.output.0) is))) ((gives bit).0 parts.0);
-        by_latch = by_index id bit net.latches held long (λ k m d e. absurd (one.apart k d m n gate l (sym (ap (λ (x : Gate). x.output.0) is) ∙ sym e)));
-        by_cut = (allows id bit (omega arith)).0 parts.1;
+      (λ bit h. let parts = (meets bit).0 h in (possible.each id bit).1 (record {
+        source = record {
+          by_gate = λ k d m e. subst (λ (x : Gate). MayGive (gate_bit net x) (map (λ input. family input.0) x.inputs) bit) (is ∙ sym (one_gate net.gates one.gates k n d gate m l (e ∙ ap (λ (x : Gate). x.output.0) is))) ((gives bit).0 parts.0);
+          by_latch = by_index id bit net.latches held long (λ k m d e. absurd (one.apart k d m n gate l (sym (ap (λ (x : Gate). x.output.0) is) ∙ sym e)));
+        };
+        left = (allows id bit (omega arith)).0 parts.1;
       }))
-      (λ bit h. let may = (possible id bit).0 h in (meets bit).1 (
-        (gives bit).1 (subst (λ (x : Gate). MayGive (gate_bit net x) (map (λ input. family input.0) x.inputs) bit) (sym is) (may.by_gate n gate l (sym (ap (λ (x : Gate). x.output.0) is)))),
-        (allows id bit (omega arith)).1 may.by_cut,
+      (λ bit h. let may = (possible.each id bit).0 h in (meets bit).1 (
+        (gives bit).1 (subst (λ (x : Gate). MayGive (gate_bit net x) (map (λ input. family input.0) x.inputs) bit) (sym is) (may.source.by_gate n gate l (sym (ap (λ (x : Gate). x.output.0) is)))),
+        (allows id bit (omega arith)).1 may.left,
       ))
 
   -- one gate more has its set

@@ -8,9 +8,10 @@ use Rattle.net_core.specs.declared.bit_set.BitSet.{BitSet}
 use Rattle.net_core.specs.declared.raw.Latch.{Latch}
 use Rattle.net_core.specs.declared.raw.RawNet.{RawNet}
 use Rattle.net_core.specs.Flat.{HasOneDriver}
-use Rattle.net_core.specs.Possible.{Cut, IsIn, ArePossible, both}
+use Rattle.net_core.specs.Sets.{IsIn, both}
+use Rattle.net_core.specs.Possible.{Asked, ArePossible}
 use Rattle.net_core.proofs.Possible.{same_set}
-use Rattle.plain_check.specs.Sets.{set_at, Allows, NoGate, AreLatched}
+use Rattle.plain_check.specs.private.Sets.{set_at, Allows, NoGate, AreLatched}
 
 -- each latch may give the bit, where only those that drive the net have to
 pub by_index : (id : ℕ) (bit : Bool) (latches : List Latch) (held : List BitSet) → length held ≡ length latches → ((k : ℕ) → k < length latches → (l : Latch) → (get_or latches k l).output.0 ≡ id → IsIn bit (set_at held k)) → AllZip (λ latch set. latch.output.0 ≡ id → IsIn bit set) latches held
@@ -26,47 +27,51 @@ may_at id bit (x ∷ latches) (y ∷ held) zero d all l = all.0
 may_at id bit (x ∷ latches) (y ∷ held) (suc n) d all l = may_at id bit latches held n d all.1 (omega arith)
 
 -- a net that nothing drives may have what is allowed
-pub undriven : (net : RawNet) (held : List BitSet) (cuts : List Cut) (allowed : List BitSet) (family : ℕ → BitSet) (id : ℕ) → length held ≡ length net.latches → length allowed ≡ net.nets → Allows cuts allowed → ArePossible net held cuts family → id < net.nets → NoGate net id → ((k : ℕ) (d : Latch) → k < length net.latches → (get_or net.latches k d).output.0 ≢ id) → set_at allowed id ≡ family id
-undriven net held cuts allowed family id long wide allows possible l no_gate no_latch =
+pub undriven : (net : RawNet) (held : List BitSet) (asked : Asked) (allowed : List BitSet) (family : ℕ → BitSet) (id : ℕ) → length held ≡ length net.latches → length allowed ≡ net.nets → Allows asked.cuts allowed → ArePossible net held asked family → id < net.nets → NoGate net id → ((k : ℕ) (d : Latch) → k < length net.latches → (get_or net.latches k d).output.0 ≢ id) → set_at allowed id ≡ family id
+undriven net held asked allowed family id long wide allows possible l no_gate no_latch =
     same_set (set_at allowed id) (family id)
-    (λ bit h. (possible id bit).1 (record {
-      by_gate = λ k d m e. absurd (no_gate k d m e);
-      by_latch = by_index id bit net.latches held long (λ k m d e. absurd (no_latch k d m e));
-      by_cut = (allows id bit (omega arith)).0 h;
+    (λ bit h. (possible.each id bit).1 (record {
+      source = record {
+        by_gate = λ k d m e. absurd (no_gate k d m e);
+        by_latch = by_index id bit net.latches held long (λ k m d e. absurd (no_latch k d m e));
+      };
+      left = (allows id bit (omega arith)).0 h;
     }))
-    (λ bit h. (allows id bit (omega arith)).1 ((possible id bit).0 h).by_cut)
+    (λ bit h. (allows id bit (omega arith)).1 ((possible.each id bit).0 h).left)
 
 -- a latch output may have what its latch holds, where that is allowed
-latched : (net : RawNet) (held : List BitSet) (cuts : List Cut) (allowed : List BitSet) (family : ℕ → BitSet) (n : ℕ) (latch : Latch) (a b found : BitSet) → HasOneDriver net → length held ≡ length net.latches → length allowed ≡ net.nets → latch.output.0 < net.nets → Allows cuts allowed → ArePossible net held cuts family → n < length net.latches → latch ≡ get_or net.latches n latch → ((bit : Bool) → IsIn bit found ↔ (IsIn bit (get_or held n a) × IsIn bit (get_or allowed latch.output.0 b))) → found ≡ family latch.output.0
-latched net held cuts allowed family n latch a b found one long wide inside allows possible l is meets_read =
+latched : (net : RawNet) (held : List BitSet) (asked : Asked) (allowed : List BitSet) (family : ℕ → BitSet) (n : ℕ) (latch : Latch) (a b found : BitSet) → HasOneDriver net → length held ≡ length net.latches → length allowed ≡ net.nets → latch.output.0 < net.nets → Allows asked.cuts allowed → ArePossible net held asked family → n < length net.latches → latch ≡ get_or net.latches n latch → ((bit : Bool) → IsIn bit found ↔ (IsIn bit (get_or held n a) × IsIn bit (get_or allowed latch.output.0 b))) → found ≡ family latch.output.0
+latched net held asked allowed family n latch a b found one long wide inside allows possible l is meets_read =
     let id = latch.output.0 in
     let first : get_or held n a ≡ set_at held n = get_or_default held n a both (omega arith) in
     let second : get_or allowed id b ≡ set_at allowed id = get_or_default allowed id b both (omega arith) in
     let meets : (bit : Bool) → IsIn bit found ↔ (IsIn bit (set_at held n) × IsIn bit (set_at allowed id)) = λ bit. rw (← first, ← second) (meets_read bit) in
     same_set found (family id)
-    (λ bit h. let parts = (meets bit).0 h in (possible id bit).1 (record {
-      by_gate = λ k d m e. absurd (one.apart n latch l k d m (e ∙ ap (λ (x : Latch). x.output.0) is));
-      by_latch = by_index id bit net.latches held long (λ k m d e. elim (cases_lt n k) [
-        | inl less ↦ absurd (one.latches n k latch less m (sym (ap (λ (x : Latch). x.output.0) is) ∙ sym (ap (λ (x : Latch). x.output.0) (get_or_default net.latches k latch d m) ∙ e)))
-        | inr more ↦ elim (cases_lt k n) [
-          | inl less ↦ absurd (one.latches k n latch less l ((ap (λ (x : Latch). x.output.0) (get_or_default net.latches k latch d m) ∙ e) ∙ ap (λ (x : Latch). x.output.0) is))
-          | inr same ↦ let at : n ≡ k = omega arith in subst (λ (j : ℕ). IsIn bit (set_at held j)) at parts.0
-        ]
-      ]);
-      by_cut = (allows id bit (omega arith)).0 parts.1;
+    (λ bit h. let parts = (meets bit).0 h in (possible.each id bit).1 (record {
+      source = record {
+        by_gate = λ k d m e. absurd (one.apart n latch l k d m (e ∙ ap (λ (x : Latch). x.output.0) is));
+        by_latch = by_index id bit net.latches held long (λ k m d e. elim (cases_lt n k) [
+          | inl less ↦ absurd (one.latches n k latch less m (sym (ap (λ (x : Latch). x.output.0) is) ∙ sym (ap (λ (x : Latch). x.output.0) (get_or_default net.latches k latch d m) ∙ e)))
+          | inr more ↦ elim (cases_lt k n) [
+            | inl less ↦ absurd (one.latches k n latch less l ((ap (λ (x : Latch). x.output.0) (get_or_default net.latches k latch d m) ∙ e) ∙ ap (λ (x : Latch). x.output.0) is))
+            | inr same ↦ let at : n ≡ k = omega arith in subst (λ (j : ℕ). IsIn bit (set_at held j)) at parts.0
+          ]
+        ]);
+      };
+      left = (allows id bit (omega arith)).0 parts.1;
     }))
-    (λ bit h. let may = (possible id bit).0 h in (meets bit).1 (
-      may_at id bit net.latches held n latch may.by_latch l (sym (ap (λ (x : Latch). x.output.0) is)),
-      (allows id bit (omega arith)).1 may.by_cut,
+    (λ bit h. let may = (possible.each id bit).0 h in (meets bit).1 (
+      may_at id bit net.latches held n latch may.source.by_latch l (sym (ap (λ (x : Latch). x.output.0) is)),
+      (allows id bit (omega arith)).1 may.left,
     ))
 
 -- one latch more has its set
-pub latch_done : (net : RawNet) (held : List BitSet) (cuts : List Cut) (allowed : List BitSet) (family : ℕ → BitSet) (n : ℕ) (latch : Latch) (a b found : BitSet) (sets : List BitSet) → HasOneDriver net → length held ≡ length net.latches → length allowed ≡ net.nets → length sets ≡ net.nets → latch.output.0 < net.nets → Allows cuts allowed → ArePossible net held cuts family → n < length net.latches → latch ≡ get_or net.latches n latch → ((bit : Bool) → IsIn bit found ↔ (IsIn bit (get_or held n a) × IsIn bit (get_or allowed latch.output.0 b))) → AreLatched net n family sets → AreLatched net (n + 1) family (set sets latch.output.0 found)
-latch_done net held cuts allowed family n latch a b found sets one long wide size inside allows possible l is meets before id m no_gate none =
+pub latch_done : (net : RawNet) (held : List BitSet) (asked : Asked) (allowed : List BitSet) (family : ℕ → BitSet) (n : ℕ) (latch : Latch) (a b found : BitSet) (sets : List BitSet) → HasOneDriver net → length held ≡ length net.latches → length allowed ≡ net.nets → length sets ≡ net.nets → latch.output.0 < net.nets → Allows asked.cuts allowed → ArePossible net held asked family → n < length net.latches → latch ≡ get_or net.latches n latch → ((bit : Bool) → IsIn bit found ↔ (IsIn bit (get_or held n a) × IsIn bit (get_or allowed latch.output.0 b))) → AreLatched net n family sets → AreLatched net (n + 1) family (set sets latch.output.0 found)
+latch_done net held asked allowed family n latch a b found sets one long wide size inside allows possible l is meets before id m no_gate none =
     elim (cases_eq id latch.output.0) [
       | inl here ↦
           ap (λ (k : ℕ). get_or (set sets latch.output.0 found) k both) here ∙ get_or-set_same sets latch.output.0 found both (omega arith)
-          ∙ latched net held cuts allowed family n latch a b found one long wide inside allows possible l is meets ∙ ap family (sym here)
+          ∙ latched net held asked allowed family n latch a b found one long wide inside allows possible l is meets ∙ ap family (sym here)
       | inr other ↦
           get_or-set_other sets latch.output.0 id found both other ∙ before id m no_gate (λ k d h p same. elim (cases_lt n k) [
             | inl after ↦ none k d (omega arith) p same
@@ -76,6 +81,6 @@ latch_done net held cuts allowed family n latch a b found sets one long wide siz
     ]
 
 -- at first no latch has its set, and what nothing drives has what is allowed
-pub latches_begin : (net : RawNet) (held : List BitSet) (cuts : List Cut) (allowed : List BitSet) (family : ℕ → BitSet) → length held ≡ length net.latches → length allowed ≡ net.nets → Allows cuts allowed → ArePossible net held cuts family → AreLatched net 0 family allowed
-latches_begin net held cuts allowed family long wide allows possible id l no_gate none =
-    undriven net held cuts allowed family id long wide allows possible l no_gate (λ k d m. none k d (omega arith) m)
+pub latches_begin : (net : RawNet) (held : List BitSet) (asked : Asked) (allowed : List BitSet) (family : ℕ → BitSet) → length held ≡ length net.latches → length allowed ≡ net.nets → Allows asked.cuts allowed → ArePossible net held asked family → AreLatched net 0 family allowed
+latches_begin net held asked allowed family long wide allows possible id l no_gate none =
+    undriven net held asked allowed family id long wide allows possible l no_gate (λ k d m. none k d (omega arith) m)

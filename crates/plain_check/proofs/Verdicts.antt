@@ -5,8 +5,7 @@ use Rattle.std.specs.List.{AllZip, list_all, list_any}
 use Rattle.std.proofs.lemmas.Bool.{and_parts, and_from, or_cases, or_left, or_right}
 use Rattle.net_core.specs.declared.bit_set.BitSet.{BitSet}
 use Rattle.net_core.specs.declared.raw.RawNet.{RawNet}
-use Rattle.net_core.specs.Run.{IsSettled}
-use Rattle.net_core.specs.Possible.{Cut}
+use Rattle.net_core.specs.Run.{IsSettled, Cut}
 use Rattle.ste_model.specs.declared.task.Assertion.{Assertion}
 use Rattle.ste_model.specs.Asked.{asked_at, depth}
 use Rattle.ste_model.specs.Found.{FailsStrongly, FailsWeakly, IsContradictory, IsFound, IsStrong, IsWeak, IsVerdictOf}
@@ -14,8 +13,8 @@ use Rattle.ste_model.proofs.Tables.{same_table}
 use Rattle.ste_model.proofs.Findings.{verdict_from}
 use Rattle.plain_check.specs.declared.found.Outcome.{Outcome}
 use Rattle.plain_check.specs.declared.found.Outcome.TheVariants.{Contradictory, Strong, Weak, Fine}
-use Rattle.plain_check.specs.Choices.{lists_of}
-use Rattle.plain_check.specs.Outcome.{IsOutcome, is_strong, is_weak, is_contradictory, verdict_of}
+use Rattle.plain_check.specs.private.Choices.{lists_of}
+use Rattle.plain_check.specs.private.Outcome.{IsOutcome, is_strong, is_weak, is_contradictory, verdict_of}
 
 -- one list of bits more has its outcome
 pub zip_more : {X Y : Type 0} (R : X → Y → Type 0) (xs : List X) (ys : List Y) (i : ℕ) (x : X) (y : Y) → i < length xs → x ≡ get_or xs i x → AllZip R (take i xs) ys → R x y → AllZip R (take (i + 1) xs) (ys ++ y ∷ [])
@@ -75,8 +74,8 @@ module _ (net : RawNet) (task : Assertion) (settled : IsSettled net) where
   apart : (Fails : (ℕ → BitSet) → Cut → Type 0) (bits : List Bool) → IsFound Fails net task bits → IsContradictory net task bits → ⊥
   apart Fails bits found none =
       let empty = none.2 in
-      let same = same_table net task.reset (asked_at task.ant bits) (depth task) settled none.0 found.0 none.1 found.1 empty.0 empty.1 empty.2 in
-      found.2 (empty.0, empty.1, empty.2, empty.3, sym same ∙ empty.4)
+      let same = same_table net task.reset (asked_at task bits) (depth task) settled none.0 found.0 none.1 found.1 empty.0 empty.2.0 empty.1 in
+      found.2 (empty.0, empty.1, (empty.2.0, empty.2.1, sym same ∙ empty.2.2))
 
   strong_from : (bits : List Bool) (o : Outcome) → IsTrue (is_strong o) → IsOutcome net task bits o → IsStrong net task bits
   strong_from bits Strong e is = is

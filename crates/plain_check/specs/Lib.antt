@@ -1,3 +1,1 @@
-pub mod Choices
-pub mod Sets
-pub mod Outcome
+pub mod private

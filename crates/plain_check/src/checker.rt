@@ -1,12 +1,14 @@
+//! The verdict, by going through all assignments; begin with `verdict`.
+
 ghost use Rattle.std.specs.Prelude.{◌≡◌, ◌<◌, ◌≤◌, ℕ, Bool, List, length, All, IfOk, slice_index_or};
 ghost use Rattle.std.specs.List.{AllZip, list_all, list_any};
 ghost use Rattle.ste_model.specs.Asked.{depth as depth_of, latest};
 ghost use Rattle.ste_model.specs.Found.{IsTableOf, IsVerdictOf};
-ghost use Rattle.plain_check.specs.Choices.{lists_of};
-ghost use Rattle.plain_check.specs.Outcome.{IsOutcome, is_contradictory, is_strong, is_weak, table_of, verdict_of};
+ghost use Rattle.plain_check.specs.private.Choices.{AreChoices, lists_of};
+ghost use Rattle.plain_check.specs.private.Outcome.{IsOutcome, is_contradictory, is_strong, is_weak, table_of, verdict_of};
 
 use crate::choices::lists_of;
-use crate::found::{Outcome, fails_somewhere, has_empty};
+use crate::found::{Failure, Outcome, fails_somewhere, has_empty};
 use crate::table::table;
 use net_core::{BitSet, Net};
 use std::alloc::{AllocError, Global};
@@ -33,7 +35,7 @@ fn depth(task: &Assertion) -> Time
 /// For each number of inputs from 0 to 8, all lists of so many bits.
 fn all_choices(alloc: Global) -> Result<Vec<Items<Items<bool>>>, AllocError>
     ensures long { IfOk result (λ choices. length choices.items ≡ 9) }
-    ensures each { IfOk result (λ choices. (k : ℕ) (d : List (List Bool)) → k < length choices.items → slice_index_or choices.items k d ≡ lists_of k) }
+    ensures each { IfOk result (λ choices. AreChoices choices.items) }
 {
     let mut choices = Vec::new(alloc);
     for width in 0..9 {
@@ -59,9 +61,9 @@ fn outcome_of(
     let _ = net;
     if has_empty(rows) {
         Outcome::Contradictory
-    } else if fails_somewhere(true, rows, task.con.as_slice(), bits, depth) {
+    } else if fails_somewhere(Failure::Strong, rows, task.con.as_slice(), bits, depth) {
         Outcome::Strong
-    } else if fails_somewhere(false, rows, task.con.as_slice(), bits, depth) {
+    } else if fails_somewhere(Failure::Weak, rows, task.con.as_slice(), bits, depth) {
         Outcome::Weak
     } else {
         Outcome::Fine
@@ -76,7 +78,7 @@ fn outcome(
     task: &Assertion,
     bits: &[bool],
 ) -> Result<Outcome, AllocError>
-    requires choices { (k : ℕ) (d : List (List Bool)) → k < length choices.now → slice_index_or choices.now k d ≡ lists_of k }
+    requires choices { AreChoices choices.now }
     requires widths { All (λ gate. length gate.inputs < length choices.now) net.now.raw.gates }
     requires in_range { All (λ quint. quint.node.0 < net.now.raw.nets) task.now.ant }
     ensures { IfOk result (λ outcome. IsOutcome net.now.raw task.now bits.now outcome) }
@@ -95,7 +97,8 @@ fn outcomes(
 ) -> Result<Vec<Outcome>, AllocError>
     requires widths { All (λ gate. length gate.inputs ≤ 8) net.now.raw.gates }
     requires in_range { All (λ quint. quint.node.0 < net.now.raw.nets) task.now.ant }
-    ensures { IfOk result (λ outcomes. AllZip (IsOutcome net.now.raw task.now) (lists_of vars) outcomes.items) }
+    ensures { IfOk result (λ outcomes.
+        AllZip (IsOutcome net.now.raw task.now) (lists_of vars) outcomes.items) }
 {
     let choices = all_choices(alloc)?;
     let assignments = lists_of(alloc, vars)?;

@@ -1,5 +1,7 @@
+//! All lists of so many bits; begin with `lists_of`.
+
 ghost use Rattle.std.specs.Prelude.{◌≡◌, ◌++◌, ◌∷◌, map, IfOk, OnOk};
-ghost use Rattle.plain_check.specs.Choices.{lists_of};
+ghost use Rattle.plain_check.specs.private.Choices.{lists_of};
 
 use std::alloc::{AllocError, Global};
 use ste_base::Items;
@@ -11,7 +13,8 @@ fn add_with_front(
     lists: &[Items<bool>],
     longer: &mut Vec<Items<bool>>,
 ) -> Result<(), AllocError>
-    ensures { OnOk result (longer.new.items ≡ longer.old.items ++ map (λ bits. bit ∷ bits) lists.now) }
+    ensures { OnOk result (longer.new.items ≡ longer.old.items
+        ++ map (λ bits. bit ∷ bits) lists.now) }
 {
     for bits in lists {
         let mut list = Vec::new(alloc);

@@ -1,8 +1,10 @@
+//! What is found in a possible table; begin with `fails_somewhere`.
+
 ghost use Rattle.std.specs.Prelude.{◌≡◌, ◌<◌, ℕ, [], false, length, IsTrue, slice_index_or};
 ghost use Rattle.std.specs.List.{list_any};
 ghost use Rattle.ste_model.specs.Asked.{quint_at};
-ghost use Rattle.plain_check.specs.Outcome.{fails, fails_at, fails_cut, has_empty, is_contradictory, is_empty, is_strong, is_weak};
-ghost use Rattle.plain_check.specs.Sets.{set_at};
+ghost use Rattle.plain_check.specs.private.Outcome.{fails, fails_at, fails_cut, has_empty, is_contradictory, is_empty, is_strong, is_weak};
+ghost use Rattle.plain_check.specs.private.Sets.{set_at};
 
 use crate::sources::applies;
 use crate::table::set_at;
@@ -40,6 +42,13 @@ impl Outcome {
     }
 }
 
+/// How a value fails on a set: strongly where the set is exactly the opposite bit, weakly where it has both bits.
+#[derive(Clone, Copy, Debug, PartialEq, Eq)]
+pub enum Failure {
+    Strong,
+    Weak,
+}
+
 /// Whether some set of a row has no bit.
 fn row_has_empty(row: &[BitSet]) -> bool
     ensures { result ≡ list_any is_empty row.now }
@@ -54,52 +63,53 @@ pub fn has_empty(rows: &[Items<BitSet>]) -> bool
     rows.iter().any(|row| row_has_empty(row.as_slice()))
 }
 
-/// Whether a value fails on a set: strongly where the set is exactly the opposite bit, weakly where it has both bits.
-fn fails(strongly: bool, set: BitSet, value: bool) -> bool
-    ensures { result ≡ fails strongly set value }
+/// Whether a value fails so on a set.
+fn fails(failure: Failure, set: BitSet, value: bool) -> bool
+    ensures { result ≡ fails failure set value }
 {
-    if strongly {
-        set.has(!value) && !set.has(value)
-    } else {
-        set.has(false) && set.has(true)
+    match failure {
+        Failure::Strong => set.has(!value) && !set.has(value),
+        Failure::Weak => set.has(false) && set.has(true),
     }
 }
 
-/// Whether a quintuple fails at a time.
-fn quint_fails(strongly: bool, row: &[BitSet], quint: &Quint, bits: &[bool], t: Time) -> bool
-    ensures { result ≡ fails_cut strongly (set_at row.now) (quint_at bits.now t quint.now) }
+/// Whether a quintuple fails so at a time.
+fn quint_fails(failure: Failure, row: &[BitSet], quint: &Quint, bits: &[bool], t: Time) -> bool
+    ensures { result ≡ fails_cut failure (set_at row.now) (quint_at bits.now t quint.now) }
 {
     applies(quint, bits, t)
         && fails(
-            strongly,
+            failure,
             set_at(row, quint.node.0),
             value(&quint.value, bits),
         )
 }
 
-/// Whether some quintuple fails at a time.
-fn fails_at(strongly: bool, row: &[BitSet], quints: &[Quint], bits: &[bool], t: Time) -> bool
-    ensures { result ≡ fails_at strongly row.now quints.now bits.now t }
+/// Whether some quintuple fails so at a time.
+fn fails_at(failure: Failure, row: &[BitSet], quints: &[Quint], bits: &[bool], t: Time) -> bool
+    ensures { result ≡ fails_at failure row.now quints.now bits.now t }
 {
     quints
         .iter()
-        .any(|quint| quint_fails(strongly, row, quint, bits, t))
+        .any(|quint| quint_fails(failure, row, quint, bits, t))
 }
 
-/// Whether some quintuple fails at some time of a table with a row for each time below the depth.
+/// Whether some quintuple fails so at some time of a table with a row for each time below the depth.
 pub fn fails_somewhere(
-    strongly: bool,
+    failure: Failure,
     rows: &[Items<BitSet>],
     quints: &[Quint],
     bits: &[bool],
     depth: Time,
 ) -> bool
     requires { length rows.now ≡ depth }
-    ensures some { IsTrue result → (t : ℕ) × (t < depth) × IsTrue (fails_at strongly (slice_index_or rows.now t []) quints.now bits.now t) }
-    ensures none { result ≡ false → (t : ℕ) → t < depth → fails_at strongly (slice_index_or rows.now t []) quints.now bits.now t ≡ false }
+    ensures some { IsTrue result → (t : ℕ) × (t < depth)
+        × IsTrue (fails_at failure (slice_index_or rows.now t []) quints.now bits.now t) }
+    ensures none { result ≡ false → (t : ℕ) → t < depth →
+        fails_at failure (slice_index_or rows.now t []) quints.now bits.now t ≡ false }
 {
     for t in 0..depth {
-        if fails_at(strongly, rows[t as usize].as_slice(), quints, bits, t) {
+        if fails_at(failure, rows[t as usize].as_slice(), quints, bits, t) {
             return true;
         }
     }

@@ -1,9 +1,13 @@
+//! The sets of gates, over all choices of bits; begin with `place_gates`.
+
 ghost use Rattle.std.specs.Prelude.{◌≡◌, ◌<◌, ◌≤◌, ◌+◌, ◌↔◌, [], Bool, ℕ, List, length, map, All, IfOk, OnOk, slice_index_or};
 ghost use Rattle.net_core.specs.declared.bit_set.BitSet.{BitSet as Set};
 ghost use Rattle.net_core.specs.Cover.{cover_bit};
-ghost use Rattle.net_core.specs.Possible.{Cut, ArePossible, IsIn, MayGive};
-ghost use Rattle.plain_check.specs.Choices.{lists_of};
-ghost use Rattle.plain_check.specs.Sets.{Allows, AreSets, fits, may_give_one, may_give_zero, set_at};
+ghost use Rattle.net_core.specs.Run.{Cut};
+ghost use Rattle.net_core.specs.Sets.{IsIn};
+ghost use Rattle.net_core.specs.Possible.{Asked, ArePossible, MayGive};
+ghost use Rattle.plain_check.specs.private.Choices.{AreChoices, lists_of};
+ghost use Rattle.plain_check.specs.private.Sets.{Allows, AreSets, fits, may_give_one, may_give_zero, set_at};
 
 use net_core::{BitSet, Cover, Net, eval};
 use std::alloc::{AllocError, Global};
@@ -62,12 +66,16 @@ pub fn place_gates(
     allowed: &[BitSet],
     sets: &mut Vec<BitSet>,
 ) -> Result<(), AllocError>
-    requires choices { (k : ℕ) (d : List (List Bool)) → k < length choices.now → slice_index_or choices.now k d ≡ lists_of k }
+    requires choices { AreChoices choices.now }
     requires widths { All (λ gate. length gate.inputs < length choices.now) net.now.raw.gates }
     requires allowed { length allowed.now ≡ net.now.raw.nets }
     requires long { length sets.old.items ≡ net.now.raw.nets }
     ensures long { OnOk result (length sets.new.items ≡ net.now.raw.nets) }
-    ensures sets { OnOk result ((held : List Set) (cuts : List Cut) (family : ℕ → Set) → length held ≡ length net.now.raw.latches → Allows cuts allowed.now → ArePossible net.now.raw held cuts family → AreSets net.now.raw net.now.settled 0 family sets.old.items → AreSets net.now.raw net.now.settled (length net.now.settled) family sets.new.items) }
+    ensures sets { OnOk result ((held : List Set) (asked : Asked) (family : ℕ → Set) →
+        length held ≡ length net.now.raw.latches → Allows asked.cuts allowed.now →
+        ArePossible net.now.raw held asked family →
+        AreSets net.now.raw net.now.settled 0 family sets.old.items →
+        AreSets net.now.raw net.now.settled (length net.now.settled) family sets.new.items) }
 {
     for (n, number) in net.settled().iter().enumerate() {
         let gate = &net.gates()[*number as usize];

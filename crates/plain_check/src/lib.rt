@@ -9,3 +9,6 @@ mod sources;
 mod table;
 
 pub use checker::verdict;
+
+#[cfg(test)]
+mod tests;

@@ -1,8 +1,11 @@
+//! What is asked of nets, and the sets of latch outputs; begin with `allowed_at`.
+
 ghost use Rattle.std.specs.Prelude.{◌≡◌, ◌<◌, ◌++◌, ◌∷◌, [], ℕ, List, length, All, IfOk};
 ghost use Rattle.net_core.specs.declared.bit_set.BitSet.{BitSet as Set};
-ghost use Rattle.net_core.specs.Possible.{Cut, ArePossible};
-ghost use Rattle.ste_model.specs.Asked.{asked_at, quint_at};
-ghost use Rattle.plain_check.specs.Sets.{Allows, AreLatched};
+ghost use Rattle.net_core.specs.Run.{Cut};
+ghost use Rattle.net_core.specs.Possible.{Asked, ArePossible};
+ghost use Rattle.ste_model.specs.Asked.{cuts_at, quint_at};
+ghost use Rattle.plain_check.specs.private.Sets.{Allows, AreLatched};
 
 use bool_expr::value;
 use net_core::{BitSet, Net};
@@ -21,7 +24,8 @@ pub fn applies(quint: &Quint, bits: &[bool], t: Time) -> bool
 fn cut(allowed: &mut Vec<BitSet>, quint: &Quint, bits: &[bool], t: Time)
     requires { quint.now.node.0 < length allowed.old.items }
     ensures long { length allowed.new.items ≡ length allowed.old.items }
-    ensures allows { (cuts : List Cut) → Allows cuts allowed.old.items → Allows (cuts ++ quint_at bits.now t quint.now ∷ []) allowed.new.items }
+    ensures allows { (cuts : List Cut) → Allows cuts allowed.old.items →
+        Allows (cuts ++ quint_at bits.now t quint.now ∷ []) allowed.new.items }
 {
     if applies(quint, bits, t) {
         let net = quint.node.0 as usize;
@@ -40,7 +44,7 @@ pub fn allowed_at(
 ) -> Result<Vec<BitSet>, AllocError>
     requires { All (λ quint. quint.node.0 < nets) quints.now }
     ensures long { IfOk result (λ allowed. length allowed.items ≡ nets) }
-    ensures allows { IfOk result (λ allowed. Allows (asked_at quints.now bits.now t) allowed.items) }
+    ensures allows { IfOk result (λ allowed. Allows (cuts_at quints.now bits.now t) allowed.items) }
 {
     let mut allowed = vec![in alloc; BitSet::both(); nets as usize]?;
     for quint in quints {
@@ -55,7 +59,10 @@ pub fn place_latches(net: &Net, held: &[BitSet], allowed: &[BitSet], sets: &mut 
     requires allowed { length allowed.now ≡ net.now.raw.nets }
     requires long { length sets.old.items ≡ net.now.raw.nets }
     ensures long { length sets.new.items ≡ net.now.raw.nets }
-    ensures sets { (cuts : List Cut) (family : ℕ → Set) → Allows cuts allowed.now → ArePossible net.now.raw held.now cuts family → AreLatched net.now.raw 0 family sets.old.items → AreLatched net.now.raw (length net.now.raw.latches) family sets.new.items }
+    ensures sets { (asked : Asked) (family : ℕ → Set) → Allows asked.cuts allowed.now →
+        ArePossible net.now.raw held.now asked family →
+        AreLatched net.now.raw 0 family sets.old.items →
+        AreLatched net.now.raw (length net.now.raw.latches) family sets.new.items }
 {
     for (k, latch) in net.latches().iter().enumerate() {
         let output = latch.output.0 as usize;

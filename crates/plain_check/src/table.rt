@@ -1,17 +1,20 @@
+//! The possible table, time by time; begin with `table`.
+
 ghost use Rattle.std.specs.Prelude.{◌≡◌, ◌<◌, ◌≤◌, ℕ, Bool, List, length, All, IfOk, slice_index_or};
 ghost use Rattle.net_core.specs.Possible.{ArePossible};
 ghost use Rattle.ste_model.specs.Asked.{asked_at};
-ghost use Rattle.ste_model.specs.Table.{IsPossible, first_set, first_sets, next_sets};
-ghost use Rattle.plain_check.specs.Choices.{lists_of};
-ghost use Rattle.plain_check.specs.Outcome.{table_of};
-ghost use Rattle.plain_check.specs.Sets.{set_at};
+ghost use Rattle.net_core.specs.Sets.{first_set, first_sets, next_sets};
+ghost use Rattle.ste_model.specs.Table.{IsPossible};
+ghost use Rattle.plain_check.specs.private.Choices.{AreChoices, lists_of};
+ghost use Rattle.plain_check.specs.private.Outcome.{table_of};
+ghost use Rattle.plain_check.specs.private.Sets.{set_at};
 
 use crate::gates::place_gates;
 use crate::sources::{allowed_at, place_latches};
 use net_core::{BitSet, Init, Latch, Net};
 use std::alloc::{AllocError, Global};
 use ste_base::{Items, Time};
-use ste_model::{Assertion, Quint};
+use ste_model::Assertion;
 
 /// The first values of a latch.
 fn first_set(reset: bool, latch: &Latch) -> BitSet
@@ -61,18 +64,19 @@ fn sets_at(
     net: &Net,
     choices: &[Items<Items<bool>>],
     held: &[BitSet],
-    quints: &[Quint],
+    task: &Assertion,
     bits: &[bool],
     t: Time,
 ) -> Result<Items<BitSet>, AllocError>
-    requires choices { (k : ℕ) (d : List (List Bool)) → k < length choices.now → slice_index_or choices.now k d ≡ lists_of k }
+    requires choices { AreChoices choices.now }
     requires widths { All (λ gate. length gate.inputs < length choices.now) net.now.raw.gates }
     requires held { length held.now ≡ length net.now.raw.latches }
-    requires in_range { All (λ quint. quint.node.0 < net.now.raw.nets) quints.now }
+    requires in_range { All (λ quint. quint.node.0 < net.now.raw.nets) task.now.ant }
     ensures long { IfOk result (λ row. length row ≡ net.now.raw.nets) }
-    ensures possible { IfOk result (λ row. ArePossible net.now.raw held.now (asked_at quints.now bits.now t) (set_at row)) }
+    ensures possible { IfOk result (λ row.
+        ArePossible net.now.raw held.now (asked_at task.now bits.now t) (set_at row)) }
 {
-    let allowed = allowed_at(alloc, net.nets(), quints, bits, t)?;
+    let allowed = allowed_at(alloc, net.nets(), task.ant.as_slice(), bits, t)?;
     let mut sets = allowed.as_slice().to_vec(alloc)?;
     place_latches(net, held, &allowed, &mut sets);
     place_gates(alloc, net, choices, &allowed, &mut sets)?;
@@ -88,17 +92,18 @@ pub fn table(
     bits: &[bool],
     depth: Time,
 ) -> Result<Vec<Items<BitSet>>, AllocError>
-    requires choices { (k : ℕ) (d : List (List Bool)) → k < length choices.now → slice_index_or choices.now k d ≡ lists_of k }
+    requires choices { AreChoices choices.now }
     requires widths { All (λ gate. length gate.inputs < length choices.now) net.now.raw.gates }
     requires in_range { All (λ quint. quint.node.0 < net.now.raw.nets) task.now.ant }
     ensures long { IfOk result (λ rows. length rows.items ≡ depth) }
     ensures wide { IfOk result (λ rows. All (λ row. length row ≡ net.now.raw.nets) rows.items) }
-    ensures possible { IfOk result (λ rows. IsPossible net.now.raw task.now.reset (asked_at task.now.ant bits.now) depth (table_of rows.items)) }
+    ensures possible { IfOk result (λ rows.
+        IsPossible net.now.raw task.now.reset (asked_at task.now bits.now) depth (table_of rows.items)) }
 {
     let mut rows = Vec::new(alloc);
     let mut held = first_sets(alloc, net, task.reset)?;
     for t in 0..depth {
-        let row = sets_at(alloc, net, choices, &held, task.ant.as_slice(), bits, t)?;
+        let row = sets_at(alloc, net, choices, &held, task, bits, t)?;
         held = next_sets(alloc, net, row.as_slice())?;
         rows.push(row)?;
     }

@@ -4,15 +4,14 @@ use Rattle.std.specs.Prelude.{◌≢◌, IsSomeAnd, IsTrue, MatchResult, ⊤}
 use Rattle.std.specs.FinMap.{get}
 use Rattle.blif_lines.specs.declared.lines.Line.{Line}
 use Rattle.blif_lines.specs.Lines.{lines_of}
-use Rattle.blif_syntax.specs.Answer.{IsAnswer, entries_of}
-use Rattle.blif_syntax.specs.Drafts.{fault_of}
+use Rattle.blif_syntax.specs.Answer.{IsAnswer, entries_of, fault_of}
 use Rattle.blif_syntax.specs.Places.{first_fault}
 use Rattle.blif_syntax.specs.Spelled.{models_of}
-use Rattle.blif_syntax.specs.Written.{AreSayable}
+use Rattle.blif_syntax.specs.Covered.{AreCovered}
 use Rattle.blif_syntax.specs.declared.fault.BlifFault.{BlifFault}
 use Rattle.blif_syntax.specs.declared.fault.BlifFault.TheVariants.{BadLine, UnknownWord, LeftOut, NoModel, OutOfMemory}
 use Rattle.blif_syntax.specs.declared.form.Entry.{Entry}
-use Rattle.blif_syntax.specs.declared.form.Kind.{Kind}
+use Rattle.blif_syntax.specs.declared.form.LineFault.{LineFault}
 use Rattle.blif_syntax.specs.declared.models.Model.{Model}
 use Rattle.blif_syntax.specs.declared.models.Models.{Models}
 use Rattle.blif_syntax.proofs.Sound.{read_is_sayable}
@@ -33,14 +32,14 @@ use Rattle.net_core.specs.declared.raw.RawNet.{RawNet}
 use Rattle.ste_program.proofs.Fetched.{held_silent, held_where_told, of_held, of_text, tasks_held_silent}
 
 -- what the reader of netlists gives, of the lines of a text
-pub models_read : (text : List ℕ) (lines : List Line) (models : Models) → lines ≡ lines_of text → IsAnswer (entries_of lines) (Ok models) → 0 < length models.models → IsNetlist text models.models × AreSayable models.models
+pub models_read : (text : List ℕ) (lines : List Line) (models : Models) → lines ≡ lines_of text → IsAnswer (entries_of lines) (Ok models) → 0 < length models.models → IsNetlist text models.models × AreCovered models.models
 models_read text lines models same h some = (
   record { sound = subst (λ (ls : List Line). first_fault [] (entries_of ls) ≡ None) same h.0; spelled = subst (λ (ls : List Line). models.models ≡ models_of (entries_of ls)) same h.1; some = some },
-  subst (λ (ms : List Model). AreSayable ms) (sym h.1) (read_is_sayable lines h.0),
+  subst (λ (ms : List Model). AreCovered ms) (sym h.1) (read_is_sayable.covered lines h.0),
 )
 
 -- the fault by number and kind of the first faulty line, or that there is no model
-abbrev fault_at : Option (ℕ × Kind) → BlifFault
+abbrev fault_at : Option (ℕ × LineFault) → BlifFault
 fault_at None = NoModel
 fault_at (Some (line, kind)) = fault_of line kind
 

@@ -1,6 +1,6 @@
 //! All that a check needs, or the first refusal: `prepare`. Each `?` is a stage of the order of refusals.
 ghost use Rattle.std.specs.Prelude.{◌≡◌, ◌≢◌, ◌≤◌, ◌<◌, ◌^◌, length, IfOk, IfSome, IfNone, IsTrue, All, MatchResult};
-ghost use Rattle.blif_syntax.specs.Written.{AreSayable};
+ghost use Rattle.blif_syntax.specs.Covered.{AreCovered};
 ghost use Rattle.ste_program.specs.declared.task.TaskText.{TaskText as Task};
 ghost use Rattle.ste_program.specs.Answer.{WhyUnprepared};
 ghost use Rattle.ste_program.specs.Netlist.{IsNetlist};
@@ -38,7 +38,7 @@ pub struct Prepared {
 fn models_of(alloc: Global, text: &[u8]) -> Result<Models, Refusal>
     requires { length text.now ≤ greatest }
     ensures { MatchResult result
-        (λ models. IsNetlist text.now models.models × AreSayable models.models)
+        (λ models. IsNetlist text.now models.models × AreCovered models.models)
         (λ found. WhyNoModels text.now found) }
 {
     let lines = logical_lines(alloc, text)?;
@@ -60,7 +60,7 @@ fn read_task(alloc: Global, text: &[u8], names: &[Name]) -> Result<Option<TaskTe
 
 /// The net of these models, and the task that a text spells over it.
 fn bind(alloc: Global, models: &Models, text: &[u8]) -> Result<Prepared, Refusal>
-    requires { AreSayable models.now.models }
+    requires { AreCovered models.now.models }
     ensures { MatchResult result
         (λ made. IsBound models.now.models text.now made.net.raw made.names made.task)
         (λ found. WhyUnbound models.now.models text.now found) }

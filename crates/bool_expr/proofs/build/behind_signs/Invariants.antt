@@ -1,6 +1,6 @@
 use Rattle.std.proofs.Common.{◌≡◌}
 use Rattle.bool_expr.specs.Tree.{tree_of}
-use Rattle.bool_expr.specs.Build.{behind_signs}
+use Rattle.bool_expr.specs.private.Build.{behind_signs}
 use Rattle.bool_expr.proofs.build.behind_signs.Given as goal
 
 -- the `!` that are left decide

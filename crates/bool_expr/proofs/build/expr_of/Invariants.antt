@@ -1,8 +1,8 @@
 use Rattle.std.proofs.Common.{◌≡◌, ◌≤◌, ◌+◌, length}
 use Rattle.bool_expr.specs.Tokens.{tokens_of}
 use Rattle.bool_expr.specs.Read.{place_by, first_unknown}
-use Rattle.bool_expr.specs.Held.{numbers}
-use Rattle.bool_expr.specs.Build.{built, build_from, build_start}
+use Rattle.bool_expr.specs.private.Held.{numbers}
+use Rattle.bool_expr.specs.private.Build.{built, build_from, build_start}
 use Rattle.bool_expr.proofs.build.expr_of.Given as goal
 
 -- the tokens that are left decide, and no more `!` stand before the next factor than bytes are read

@@ -1,5 +1,6 @@
 use Rattle.std.proofs.Common.{arith}
 use Rattle.bool_expr.proofs.Answered.{none_spelled, some_spelled, depth_of, answered, caused}
+use Rattle.bool_expr.proofs.Full.{full_answer}
 use Rattle.bool_expr.proofs.read.read_expr.Goals as goal
 
 pub returns-in_default-clause-exact : goal.returns-in_default-clause-exact
@@ -30,3 +31,6 @@ returns-clause-cause c =
     caused c.args.vars.now c.args.text.now c.expr_of.result d.0 d.1
     (answered c.args.vars.now c.args.text.now c.in-Some.depth _ c.expr_of.result c.if-depth-gt-MAX_NESTING.false c.in_ok-places.ensures c.expr_of.ensures.ok c.expr_of.ensures.known c.expr_of.ensures.err d.0 d.1
     (depth_of c.args.text.now c.in_ok-depth.field-0 c.in-Some.depth c.in_ok-depth.ensures c.in-Some.is d.0 d.1))
+
+pub returns-clause-full : goal.returns-clause-full
+returns-clause-full c = full_answer c.args.vars.now c.args.text.now c.expr_of.result (returns-clause-cause c)

@@ -1,6 +1,6 @@
 use Rattle.std.proofs.Common.{◌≡◌, length}
 use Rattle.bool_expr.specs.Tokens.{tokens_of}
-use Rattle.bool_expr.specs.Scan.{scanned, scan_from, scan_start}
+use Rattle.bool_expr.specs.private.Scan.{scanned, scan_from, scan_start}
 use Rattle.bool_expr.proofs.scan.nesting.Given as goal
 
 -- the tokens that are left decide

@@ -1,6 +1,6 @@
 use Rattle.std.proofs.Common.{◌≡◌, ℕ, List, take}
 use Rattle.bool_expr.specs.Read.{number_in}
-use Rattle.bool_expr.specs.Held.{numbers}
+use Rattle.bool_expr.specs.private.Held.{numbers}
 use Rattle.bool_expr.proofs.vars.places.Given as goal
 
 -- the numbers are those in the variables so far

@@ -2,18 +2,18 @@ use Rattle.std.proofs.Common.{◌≤◌, List, length, get_or, sym, ap, ◌∙�
 use Rattle.std.specs.Prelude.{All}
 use Rattle.net_core.specs.Flat.{IsInRange, HasOneDriver, IsListedInOrder}
 use Rattle.blif_syntax.specs.declared.models.Model.{Model}
-use Rattle.blif_syntax.specs.Written.{IsSayable}
+use Rattle.blif_syntax.specs.Covered.{IsCovered}
 use Rattle.flat_net.proofs.Nets.{answered, in_range, one_driver, in_order, narrow}
 use Rattle.flat_net.proofs.flat.flatten.Goals as goal
 
-abbrev AllSayable : Model → Type 0
-AllSayable model = All (λ item. IsSayable item.what) model.items
+abbrev AllCovered : Model → Type 0
+AllCovered model = All (λ item. IsCovered item.what) model.items
 
 pub returns-in-len1-clause-in_range : goal.returns-in-len1-clause-in_range
 returns-in-len1-clause-in_range c =
     let at = c.model-item.is ∙ ap (λ (models : List Model). get_or models 0 c.model-item.result) c.as_slice.ensures in
-    let sayable : AllSayable c.model-item.result = subst AllSayable (sym at) (c.requires.sayable 0 c.model-item.result c.args.models.now.some) in
-    answered c.model-item.result IsInRange (λ _. in_range c.model-item.result sayable) c.flatten_model.result c.flatten_model.ensures.some
+    let covered : AllCovered c.model-item.result = subst AllCovered (sym at) (c.requires 0 c.model-item.result c.args.models.now.some) in
+    answered c.model-item.result IsInRange (λ _. in_range c.model-item.result covered) c.flatten_model.result c.flatten_model.ensures.some
 
 pub returns-in-len1-clause-one_driver : goal.returns-in-len1-clause-one_driver
 returns-in-len1-clause-one_driver c = answered c.model-item.result HasOneDriver (one_driver c.model-item.result) c.flatten_model.result c.flatten_model.ensures.some

@@ -1,6 +1,6 @@
 use Rattle.std.specs.Prelude.{All}
-use Rattle.blif_syntax.specs.Written.{IsSayable}
+use Rattle.blif_syntax.specs.Covered.{IsCovered}
 use Rattle.flat_net.proofs.tests.model_of.Given as goal
 
 abbrev pub invariant-loop-line : goal.invariant-loop-line
-invariant-loop-line l = All (λ item. IsSayable item.what) l.items
+invariant-loop-line l = All (λ item. IsCovered item.what) l.items

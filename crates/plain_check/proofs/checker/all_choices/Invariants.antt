@@ -1,5 +1,5 @@
 use Rattle.std.proofs.Common.{◌≡◌, ◌<◌, ℕ, Bool, List, length, get_or}
-use Rattle.plain_check.specs.Choices.{lists_of}
+use Rattle.plain_check.specs.private.Choices.{lists_of}
 use Rattle.plain_check.proofs.checker.all_choices.Given as goal
 
 -- the lists so far stand at their own widths

@@ -1,7 +1,7 @@
 use Rattle.std.proofs.Common.{◌+◌, Bool, List, sym, subst, take}
 use Rattle.std.specs.List.{AllZip}
 use Rattle.plain_check.specs.declared.found.Outcome.{Outcome}
-use Rattle.plain_check.specs.Outcome.{IsOutcome}
+use Rattle.plain_check.specs.private.Outcome.{IsOutcome}
 use Rattle.plain_check.proofs.Verdicts.{zip_more}
 use Rattle.plain_check.proofs.checker.outcomes.Goals as goal
 

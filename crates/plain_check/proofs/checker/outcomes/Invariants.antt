@@ -1,6 +1,6 @@
 use Rattle.std.proofs.Common.{take}
 use Rattle.std.specs.List.{AllZip}
-use Rattle.plain_check.specs.Outcome.{IsOutcome}
+use Rattle.plain_check.specs.private.Outcome.{IsOutcome}
 use Rattle.plain_check.proofs.checker.outcomes.Given as goal
 
 -- the assignments so far have their outcomes

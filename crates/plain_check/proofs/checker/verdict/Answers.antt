@@ -1,7 +1,7 @@
 use Rattle.std.proofs.Common.{◌∙◌, ap, sym, subst}
 use Rattle.net_core.proofs.Ordered.{settled_by_order}
 use Rattle.ste_model.specs.Found.{IsVerdictOf}
-use Rattle.plain_check.specs.Outcome.{verdict_of}
+use Rattle.plain_check.specs.private.Outcome.{verdict_of}
 use Rattle.plain_check.proofs.Verdicts.{verdict_is}
 use Rattle.plain_check.proofs.checker.verdict.Goals as goal
 

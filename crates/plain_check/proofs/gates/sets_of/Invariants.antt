@@ -1,5 +1,5 @@
 use Rattle.std.proofs.Common.{◌≡◌, map, take}
-use Rattle.plain_check.specs.Sets.{set_at}
+use Rattle.plain_check.specs.private.Sets.{set_at}
 use Rattle.plain_check.proofs.gates.sets_of.Given as goal
 
 abbrev pub invariant-loop-net : goal.invariant-loop-net

@@ -1,5 +1,5 @@
 use Rattle.std.proofs.Common.{◌∙◌, ap, sym}
-use Rattle.net_core.specs.Possible.{only}
+use Rattle.net_core.specs.Sets.{only}
 use Rattle.ste_model.specs.Asked.{quint_at}
 use Rattle.plain_check.proofs.Allowed.{allows_cut, allows_skipped}
 use Rattle.plain_check.proofs.sources.cut.Goals as goal

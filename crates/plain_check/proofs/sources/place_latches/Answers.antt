@@ -16,10 +16,10 @@ loop-k-preserved c =
     let long = length-set c.loop-k.sets.items latch.output.0 c.meet-set.result ∙ c.loop-k.invariant.long in
     record {
       long = rw same long;
-      sets = λ cuts family allows possible begin. rw same (latch_done c.args.net.now.raw c.args.held.now cuts c.args.allowed.now family c.loop-k.k latch none none c.meet-set.result c.loop-k.sets.items
+      sets = λ asked family allows possible begin. rw same (latch_done c.args.net.now.raw c.args.held.now asked c.args.allowed.now family c.loop-k.k latch none none c.meet-set.result c.loop-k.sets.items
           c.args.net.now.one_driver c.requires.held c.requires.allowed c.loop-k.invariant.long (c.args.net.now.in_range.latch_outputs c.loop-k.k d within) allows possible within
-          (get_or_default c.args.net.now.raw.latches c.loop-k.k d latch within) (rw same at c.meet-set.ensures) (c.loop-k.invariant.sets cuts family allows possible begin));
+          (get_or_default c.args.net.now.raw.latches c.loop-k.k d latch within) (rw same at c.meet-set.ensures) (c.loop-k.invariant.sets asked family allows possible begin));
     }
 
 pub returns-clause-sets : goal.returns-clause-sets
-returns-clause-sets c = λ cuts family allows possible begin id l no_gate none. c.loop-k.invariant.sets cuts family allows possible begin id l no_gate (λ k d m. none k d (let same = ap length c.latches-latch-items.ensures in omega arith))
+returns-clause-sets c = λ asked family allows possible begin id l no_gate none. c.loop-k.invariant.sets asked family allows possible begin id l no_gate (λ k d m. none k d (let same = ap length c.latches-latch-items.ensures in omega arith))

@@ -5,11 +5,11 @@ use Rattle.net_core.specs.declared.bit_set.BitSet.{BitSet}
 use Rattle.net_core.specs.declared.raw.Latch.{Latch}
 use Rattle.net_core.specs.Possible.{ArePossible}
 use Rattle.std.specs.Prelude.{All}
-use Rattle.ste_model.specs.declared.task.Quint.{Quint}
 use Rattle.ste_model.specs.Asked.{asked_at}
-use Rattle.ste_model.specs.Table.{IsPossible, latch_sets, next_sets}
-use Rattle.plain_check.specs.Outcome.{table_of}
-use Rattle.plain_check.specs.Sets.{set_at}
+use Rattle.net_core.specs.Sets.{next_sets}
+use Rattle.ste_model.specs.Table.{IsPossible, latch_sets}
+use Rattle.plain_check.specs.private.Outcome.{table_of}
+use Rattle.plain_check.specs.private.Sets.{set_at}
 use Rattle.plain_check.proofs.Tabled.{more_rows, held_next}
 use Rattle.plain_check.proofs.table.table.Goals as goal
 
@@ -21,15 +21,15 @@ loop-t-preserved c =
     let rows = c.loop-t.rows.items in
     let t = c.loop-t.t in
     let pushed : c.push.new.self.items ≡ rows ++ row ∷ [] = c.in_ok-push.ensures.items in
-    let next : c.in_ok-held-2.held.items ≡ next_sets net (set_at row) = c.in_ok-held-2.ensures ∙ ap (λ (r : List BitSet). next_sets net (set_at r)) c.as_slice-in-loop-t.ensures in
-    let here : ArePossible net c.loop-t.held.items (asked_at task.ant c.args.bits.now t) (set_at row) =
-    subst (λ (held : List BitSet). ArePossible net held (asked_at task.ant c.args.bits.now t) (set_at row)) c.deref.ensures.value
-    (subst (λ (quints : List Quint). ArePossible net c.deref.result.now (asked_at quints c.args.bits.now t) (set_at row)) c.as_slice.ensures c.in_ok-row.ensures.possible) in
+    let next : c.in_ok-held-2.held.items ≡ next_sets net (set_at row) = c.in_ok-held-2.ensures ∙ ap (λ (r : List BitSet). next_sets net (set_at r)) c.as_slice.ensures in
+    let here : ArePossible net c.loop-t.held.items (asked_at task c.args.bits.now t) (set_at row) =
+    subst (λ (held : List BitSet). ArePossible net held (asked_at task c.args.bits.now t) (set_at row)) c.deref.ensures.value
+    c.in_ok-row.ensures.possible in
     record {
       long = ap length pushed ∙ (let more = length-append rows (row ∷ []) in omega (arith, more, c.loop-t.invariant.long));
       wide = subst (All (λ (r : List BitSet). length r ≡ net.nets)) (sym pushed) (All-push (λ (r : List BitSet). length r ≡ net.nets) rows row c.loop-t.invariant.wide c.in_ok-row.ensures.long);
       count = ap length next ∙ length-map net.latches (λ (latch : Latch). set_at row latch.input.0);
       held = next ∙ held_next net task.reset rows row t c.loop-t.invariant.long ∙ ap (λ (r : List (List BitSet)). latch_sets net task.reset (table_of r) (t + 1)) (sym pushed);
-      possible = subst (λ (r : List (List BitSet)). IsPossible net task.reset (asked_at task.ant c.args.bits.now) (t + 1) (table_of r)) (sym pushed)
-          (more_rows net task.reset (asked_at task.ant c.args.bits.now) rows c.loop-t.held.items row t c.loop-t.invariant.long c.loop-t.invariant.held c.loop-t.invariant.possible here);
+      possible = subst (λ (r : List (List BitSet)). IsPossible net task.reset (asked_at task c.args.bits.now) (t + 1) (table_of r)) (sym pushed)
+          (more_rows net task.reset (asked_at task c.args.bits.now) rows c.loop-t.held.items row t c.loop-t.invariant.long c.loop-t.invariant.held c.loop-t.invariant.possible here);
     }

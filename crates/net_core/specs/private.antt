@@ -1,0 +1,4 @@
+-- Definitions that serve private functions.
+pub mod Search
+pub mod Asks
+pub mod Written

@@ -1,0 +1,4 @@
+-- Definitions that serve private functions.
+pub mod Choices
+pub mod Sets
+pub mod Outcome

@@ -1,0 +1,36 @@
+//! The laws of this crate: each is the contract of a function that does nothing.
+
+ghost use Rattle.ste_model.specs.Assignments.{AssignmentsAreOrdered};
+ghost use Rattle.ste_model.specs.Breaks.{MeetsOrBreaks};
+ghost use Rattle.ste_model.specs.Found.{FindingsAreTold, OneVerdict, PassHolds};
+ghost use Rattle.ste_model.specs.Table.{OneTable};
+
+/// Of two assignments of the same variables that are not one, exactly one stands before the other.
+pub fn assignments_are_ordered()
+    ensures { AssignmentsAreOrdered }
+{}
+
+/// There is exactly one possible table of each length.
+pub fn one_table()
+    ensures { OneTable }
+{}
+
+/// A run meets the consequent, or breaks it at some place, and not both.
+pub fn meets_or_breaks()
+    ensures { MeetsOrBreaks }
+{}
+
+/// Some function of the assignments tells each finding.
+pub fn findings_are_told()
+    ensures { FindingsAreTold }
+{}
+
+/// An assertion has exactly one verdict.
+pub fn one_verdict()
+    ensures { OneVerdict }
+{}
+
+/// An assertion with the verdict pass, or contradictory antecedent, holds.
+pub fn pass_holds()
+    ensures { PassHolds }
+{}
