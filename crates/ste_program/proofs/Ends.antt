@@ -13,11 +13,11 @@ use Rattle.net_core.proofs.Ordered.{settled_by_list}
 use Rattle.ste_model.proofs.Passes.{pass_holds}
 use Rattle.ste_program.specs.Answer.{AskedAll, AskedSome, BrokeOff, IsDecided, NoneRose, Reported, WantedMemory, WasFaulted, WasRefused, WentOut, WhyUnprepared, status_of}
 use Rattle.ste_program.specs.Command.{Command, files_of}
-use Rattle.ste_program.specs.Endings.{IsEnded}
+use Rattle.ste_program.specs.private.Endings.{IsEnded}
 use Rattle.ste_program.specs.Message.{cannot_write, message_of, out_of_memory}
 use Rattle.ste_program.specs.Order.{IsFirst, refusals}
 use Rattle.ste_program.specs.Outside.{FilesState, SinkState, Store, took, with_names}
-use Rattle.ste_program.specs.Prepared.{IsMade, IsNetOf}
+use Rattle.ste_program.specs.private.Prepared.{IsMade, IsNetOf}
 use Rattle.ste_program.specs.Report.{IsReport, IsReportOn, PassHolds}
 use Rattle.ste_program.specs.declared.refusal.File.TheVariants as file
 use Rattle.ste_program.specs.declared.refusal.Refusal.{Refusal}

@@ -8,7 +8,7 @@ use Rattle.ste_program.specs.Command.{Command}
 use Rattle.ste_program.specs.Order.{AllSilent, stages_before}
 use Rattle.ste_program.specs.Outside.{FilesState, IsFetched, IsTooLarge, StandsAt, Store, asked_for, with_name, with_names}
 use Rattle.ste_program.specs.Report.{greatest}
-use Rattle.ste_program.specs.Texts.{WhyNoFile}
+use Rattle.ste_program.specs.private.Texts.{WhyNoFile}
 use Rattle.ste_program.specs.declared.refusal.File.{File}
 use Rattle.ste_program.specs.declared.refusal.File.TheVariants as file
 use Rattle.ste_program.specs.declared.refusal.Refusal.{Refusal}

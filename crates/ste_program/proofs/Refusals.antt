@@ -22,9 +22,9 @@ use Rattle.ste_program.specs.Command.{Command}
 use Rattle.ste_program.specs.Netlist.{IsNetlist, IsNetlistFault, net_lines}
 use Rattle.ste_program.specs.Order.{AllSilent, HaveNoReading, IsFirst, OneRefusal, PreparedIsNotRefused, is_faulty, is_unread, refusals}
 use Rattle.ste_program.specs.Outside.{FilesState, Store}
-use Rattle.ste_program.specs.Prepared.{HasNoTask, IsBound, IsMade, WhyNoModels, WhyUnbound}
+use Rattle.ste_program.specs.private.Prepared.{HasNoTask, IsBound, IsMade, WhyNoModels, WhyUnbound}
 use Rattle.ste_program.specs.Task.{is_task}
-use Rattle.ste_program.specs.Texts.{AreTexts}
+use Rattle.ste_program.specs.private.Texts.{AreTexts}
 use Rattle.ste_program.specs.declared.refusal.Refusal.{Refusal}
 use Rattle.ste_program.specs.declared.refusal.Refusal.TheVariants as refusal
 use Rattle.ste_program.specs.declared.task.TaskText.{TaskText}

@@ -1,4 +1,4 @@
--- How a run of the program ends, from the states of the files (`files`), the output (`out`) and the error sink (`err`)
+-- Meaning. How a run of the program ends, from the states of the files (`files`), the output (`out`) and the error sink (`err`)
 -- before it, and after it (`files'`, `out'`, `err'`). Meaning.
 use Rattle.std.specs.Prelude.{◌≡◌, ◌<◌, ◌≤◌, ◌⊎◌, ℕ, Bool, List, length, take, Option, Some}
 use Rattle.ste_program.specs.Causes.{Rose}

@@ -1,4 +1,4 @@
--- What the words of the command line ask for. Meaning.
+-- Meaning. What the words of the command line ask for.
 use Rattle.std.specs.Prelude.{ℕ, List, [], ◌∷◌, length, codes, Option, Some, None, String, string_bytes, nat_eq, slice_get, cond}
 use Rattle.std.specs.Str.{bytes_eq}
 use Rattle.std.specs.declared.alloc.Global.{Global}

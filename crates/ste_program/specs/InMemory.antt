@@ -1,4 +1,4 @@
--- Where files and sinks in memory fail. A call's number is counted from 1, and stands still at its type's end.
+-- Meaning. Where files and sinks in memory fail. A call's number is counted from 1, and stands still at its type's end.
 use Rattle.std.specs.Prelude.{◌≡◌, ◌≤◌, ◌⊎◌, ◌+◌, ◌-◌, ◌^◌, ℕ, List, None, min}
 use Rattle.std.specs.FinMap.{get}
 use Rattle.std.specs.List.{Contains}

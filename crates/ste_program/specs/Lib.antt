@@ -10,6 +10,4 @@ pub mod Task
 pub mod Report
 pub mod Order
 pub mod Answer
-pub mod Texts
-pub mod Prepared
-pub mod Endings
+pub mod private

@@ -1,5 +1,5 @@
--- The one line on the error sink that tells why there is no report, each with a line feed. Source: this project's own.
--- Meaning.
+-- Meaning. The one line on the error sink that tells why there is no report, each with a line feed. Source: this
+-- project's own choice.
 use Rattle.std.specs.Prelude.{ℕ, List, codes, ◌++◌, Option}
 use Rattle.std.specs.Fmt.{decimal}
 use Rattle.blif_syntax.specs.declared.fault.BlifFault.{BlifFault}

@@ -1,4 +1,4 @@
--- What the text of a netlist spells, and why it spells nothing. Meaning.
+-- Meaning. What the text of a netlist spells, and why it spells nothing.
 use Rattle.std.specs.Prelude.{◌≡◌, ◌≢◌, ◌<◌, [], ℕ, List, length, None, Err}
 use Rattle.blif_lines.specs.Lines.{lines_of}
 use Rattle.blif_syntax.specs.Answer.{IsAnswer, entries_of}

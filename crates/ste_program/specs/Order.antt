@@ -1,5 +1,5 @@
--- The order of refusals: stages, of which each gives a refusal or nothing. The first that gives one decides. Source: this
--- project's own choice. Meaning, and two laws.
+-- Meaning, and two laws. The order of refusals: stages, of which each gives a refusal or nothing; the first that gives
+-- one decides. Source: this project's own choice.
 use Rattle.std.specs.Prelude.{◌≡◌, ◌<◌, ◌⊎◌, ◌∷◌, [], ℕ, List, length, Option, Some, None, IsSomeAnd, ⊤}
 use Rattle.std.specs.FinMap.{get}
 use Rattle.blif_syntax.specs.declared.fault.BlifFault.{BlifFault}

@@ -1,4 +1,4 @@
--- The refusal that goes with a layer's own fault. Meaning.
+-- Meaning. The refusal that goes with a layer's own fault.
 use Rattle.blif_syntax.specs.declared.fault.BlifFault.{BlifFault}
 use Rattle.blif_syntax.specs.declared.fault.BlifFault.TheVariants as fault
 use Rattle.ste_program.specs.declared.refusal.Refusal.{Refusal}

@@ -1,4 +1,4 @@
--- The report on the texts of a netlist and of a task: what is read, and what is written. Meaning, but for the laws.
+-- Meaning, and two laws. The report on the texts of a netlist and of a task: what is read, and what is written.
 use Rattle.std.specs.Prelude.{◌≡◌, ◌≤◌, ◌⊎◌, ◌++◌, ℕ, Bool, true, false, List, length, codes, IsTrue, Option, Some}
 use Rattle.flat_net.specs.Flat.{flat_of}
 use Rattle.flat_net.specs.Lines.{signals, top}

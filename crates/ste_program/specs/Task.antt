@@ -1,5 +1,5 @@
--- The task texts that are read so far: one assertion, whose values are bits, variables and turned variables, without
--- guards. Meaning.
+-- Meaning. The task texts that are read so far: one assertion, whose values are bits, variables and turned variables, without
+-- guards.
 use Rattle.std.specs.Prelude.{◌≡◌, ℕ, ◌==◌, ◌&&◌, ◌||◌, ◌++◌, ◌∷◌, [], Bool, true, false, not, List, length, map, filter, nat_le, nat_lt, codes, if◌then◌else◌}
 use Rattle.std.specs.List.{list_all, position_or_len, AllZip}
 use Rattle.std.specs.Str.{bytes_eq}

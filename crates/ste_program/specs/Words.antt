@@ -1,4 +1,4 @@
--- Texts of plain words: one space stands between two words, and a line feed ends each line.
+-- Meaning. Texts of plain words: one space stands between two words, and a line feed ends each line.
 use Rattle.std.specs.Prelude.{ℕ, ◌==◌, ◌&&◌, ◌++◌, ◌∷◌, [], Bool, true, not, List, length, nat_le, nat_lt}
 use Rattle.std.specs.List.{list_all, list_any, flat_map, join_with_byte}
 use Rattle.std.specs.Str.{bytes_eq}

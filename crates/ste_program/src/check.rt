@@ -1,7 +1,7 @@
 //! The report of a check: `check` gives its bytes, and whether every task passes.
 ghost use Rattle.std.specs.Prelude.{◌≡◌, IfOk};
 ghost use Rattle.blif_syntax.specs.declared.models.Model.{Model};
-ghost use Rattle.ste_program.specs.Prepared.{IsNetOf};
+ghost use Rattle.ste_program.specs.private.Prepared.{IsNetOf};
 ghost use Rattle.ste_program.specs.Report.{IsReportOn, is_pass, report_line, verdict_words};
 
 use crate::prepare::Prepared;

@@ -31,7 +31,8 @@ pub fn line_behind<'a>(
     key: &[u8],
 ) -> Option<(&'a [Name], &'a [Items<Name>])>
     ensures some { IfSome result (λ found. lines.now ≡ (key.now ∷ found.0.now) ∷ found.1.now) }
-    ensures none { IfNone result ((words : List (List ℕ)) (rest : List (List (List ℕ))) → lines.now ≢ (key.now ∷ words) ∷ rest) }
+    ensures none { IfNone result ((words : List (List ℕ)) (rest : List (List (List ℕ))) →
+        lines.now ≢ (key.now ∷ words) ∷ rest) }
 {
     let (line, rest) = lines.split_first()?;
     Some((behind(line.as_slice(), key)?, rest))
@@ -40,7 +41,8 @@ pub fn line_behind<'a>(
 /// The lines before the last, where that is the end.
 pub fn before_end(lines: &[Items<Name>]) -> Option<&[Items<Name>]>
     ensures some { IfSome result (λ body. lines.now ≡ body.now ++ (codes ".end" ∷ []) ∷ []) }
-    ensures none { IfNone result ((body : List (List (List ℕ))) → lines.now ≢ body ++ (codes ".end" ∷ []) ∷ []) }
+    ensures none { IfNone result ((body : List (List (List ℕ))) →
+        lines.now ≢ body ++ (codes ".end" ∷ []) ∷ []) }
 {
     let (end, body) = lines.split_last()?;
     match behind(end.as_slice(), b".end") {

@@ -71,7 +71,8 @@ fn netlist_message(alloc: Global, name: &str, fault: &BlifFault) -> Result<Items
 
 /// The message on a file that could not be read.
 fn cannot_read(alloc: Global, name: &str) -> Result<Items<u8>, AllocError>
-    ensures { IfOk result (λ message. message ≡ codes "stework: cannot read " ++ name.now ++ codes "\n") }
+    ensures { IfOk result (λ message.
+        message ≡ codes "stework: cannot read " ++ name.now ++ codes "\n") }
 {
     let mut message = b"stework: cannot read ".to_vec(alloc)?;
     message.extend_from_slice(name.as_bytes())?;

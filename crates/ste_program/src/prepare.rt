@@ -4,7 +4,7 @@ ghost use Rattle.blif_syntax.specs.Covered.{AreCovered};
 ghost use Rattle.ste_program.specs.declared.task.TaskText.{TaskText as Task};
 ghost use Rattle.ste_program.specs.Answer.{WhyUnprepared};
 ghost use Rattle.ste_program.specs.Netlist.{IsNetlist};
-ghost use Rattle.ste_program.specs.Prepared.{IsBound, IsMade, WhyNoModels, WhyUnbound};
+ghost use Rattle.ste_program.specs.private.Prepared.{IsBound, IsMade, WhyNoModels, WhyUnbound};
 ghost use Rattle.ste_program.specs.Report.{greatest};
 ghost use Rattle.ste_program.specs.Task.{is_task, task_lines};
 ghost use Rattle.ste_program.specs.Words.{text_of};

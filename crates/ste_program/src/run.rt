@@ -1,7 +1,7 @@
 //! The top call: `run` does all that the program does.
 ghost use Rattle.std.specs.Prelude.{◌≡◌, ◌≢◌, ◌≤◌, ◌⊎◌, ℕ, true, false, cond, Some, take};
 ghost use Rattle.ste_program.specs.Answer.{BrokeOff, IsDecided, NoneFell, NoneMoved, NoneRose, Reported, WantedMemory, WasFaulted, WasRefused, WentOut};
-ghost use Rattle.ste_program.specs.Endings.{IsEnded, IsTold};
+ghost use Rattle.ste_program.specs.private.Endings.{IsEnded, IsTold};
 ghost use Rattle.ste_program.specs.Command.{command_of, files_of};
 ghost use Rattle.ste_program.specs.Message.{cannot_write};
 ghost use Rattle.ste_program.specs.Outside.{Store, with_names};

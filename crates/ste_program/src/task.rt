@@ -105,7 +105,8 @@ fn are_variables(words: &[Name]) -> bool
 
 /// Whether these may be the variables of a task.
 fn may_be_declared(vars: &[Name]) -> bool
-    ensures { result ≡ (nat_le (length vars.now) 8 && list_all is_variable vars.now && are_distinct vars.now) }
+    ensures { result
+        ≡ (nat_le (length vars.now) 8 && list_all is_variable vars.now && are_distinct vars.now) }
 {
     vars.len() <= 8 && are_variables(vars) && are_distinct(vars)
 }
@@ -113,7 +114,9 @@ fn may_be_declared(vars: &[Name]) -> bool
 /// The variables on the first line, where it declares some, and the lines behind it; else none, and all lines.
 fn vars_of(lines: &[Items<Name>]) -> (&[Name], &[Items<Name>])
     ensures read { lines.now ≡ vars_lines result.0.now ++ result.1.now }
-    ensures only { (vars : List (List ℕ)) (words : List (List ℕ)) (rest : List (List (List ℕ))) → lines.now ≡ vars_lines vars ++ (codes ".ste" ∷ words) ∷ rest → (vars ≡ result.0.now) × ((codes ".ste" ∷ words) ∷ rest ≡ result.1.now) }
+    ensures only { (vars : List (List ℕ)) (words : List (List ℕ)) (rest : List (List (List ℕ))) →
+        lines.now ≡ vars_lines vars ++ (codes ".ste" ∷ words) ∷ rest
+        → (vars ≡ result.0.now) × ((codes ".ste" ∷ words) ∷ rest ≡ result.1.now) }
 {
     match line_behind(lines, b".vars") {
         Some((vars, rest)) if vars.len() > 0 => (vars, rest),
@@ -123,8 +126,10 @@ fn vars_of(lines: &[Items<Name>]) -> (&[Name], &[Items<Name>])
 
 /// The variable that a word is with its sign turned, where it is one of these.
 fn turned_of(alloc: Global, word: &Name, vars: &[Name]) -> Result<Option<Name>, AllocError>
-    ensures some { IfOk result (λ found. IfSome found (λ name. IsTrue (is_among vars.now name) × (word.now ≡ 33 ∷ name))) }
-    ensures none { IfOk result (λ found. IfNone found ((name : List ℕ) → IsTrue (is_among vars.now name) → word.now ≢ 33 ∷ name)) }
+    ensures some { IfOk result (λ found. IfSome found (λ name.
+        IsTrue (is_among vars.now name) × (word.now ≡ 33 ∷ name))) }
+    ensures none { IfOk result (λ found. IfNone found ((name : List ℕ) →
+        IsTrue (is_among vars.now name) → word.now ≢ 33 ∷ name)) }
 {
     let Some((b'!', rest)) = word.bytes().split_first() else {
         return Ok(None);
@@ -139,8 +144,10 @@ fn turned_of(alloc: Global, word: &Name, vars: &[Name]) -> Result<Option<Name>, 
 
 /// The value that a word is over these variables.
 fn value_of(alloc: Global, word: &Name, vars: &[Name]) -> Result<Option<Value>, AllocError>
-    ensures some { IfOk result (λ found. IfSome found (λ value. IsTrue (is_value vars.now value) × (word.now ≡ value_word value))) }
-    ensures none { IfOk result (λ found. IfNone found ((value : Value) → IsTrue (is_value vars.now value) → word.now ≢ value_word value)) }
+    ensures some { IfOk result (λ found. IfSome found (λ value.
+        IsTrue (is_value vars.now value) × (word.now ≡ value_word value))) }
+    ensures none { IfOk result (λ found. IfNone found ((value : Value) →
+        IsTrue (is_value vars.now value) → word.now ≢ value_word value)) }
 {
     if is_key(word, b"0") {
         return Ok(Some(Value::Const(false)));
@@ -170,7 +177,8 @@ fn side_of(key: &Name) -> Option<Side>
 
 /// The time that a word is: a number of at most 20.
 fn time_of(word: &Name) -> Option<Time>
-    ensures some { IfSome result (λ time. IsTrue (is_number word.now) × (time ≡ number_of word.now) × (time ≤ 20)) }
+    ensures some { IfSome result (λ time.
+        IsTrue (is_number word.now) × (time ≡ number_of word.now) × (time ≤ 20)) }
     ensures none { IfNone result (IsTrue (is_number word.now) → 20 < number_of word.now) }
 {
     match read_number(word.bytes(), 20) {
@@ -181,7 +189,8 @@ fn time_of(word: &Name) -> Option<Time>
 
 /// Whether the words are times, in order.
 fn are_in_order(from: &Name, to: &Name) -> bool
-    ensures { result ≡ (is_number from.now && is_number to.now && nat_le (number_of from.now) (number_of to.now) && nat_le (number_of to.now) 20) }
+    ensures { result
+        ≡ (is_number from.now && is_number to.now && nat_le (number_of from.now) (number_of to.now) && nat_le (number_of to.now) 20) }
 {
     let Some(first) = time_of(from) else {
         return false;
@@ -199,8 +208,10 @@ fn clause_of(
     names: &[Name],
     vars: &[Name],
 ) -> Result<Option<Clause>, AllocError>
-    ensures some { IfOk result (λ found. IfSome found (λ clause. IsTrue (is_clause names.now vars.now clause) × (line.now ≡ clause_line clause))) }
-    ensures none { IfOk result (λ found. IfNone found ((clause : Clause) → IsTrue (is_clause names.now vars.now clause) → line.now ≢ clause_line clause)) }
+    ensures some { IfOk result (λ found. IfSome found (λ clause.
+        IsTrue (is_clause names.now vars.now clause) × (line.now ≡ clause_line clause))) }
+    ensures none { IfOk result (λ found. IfNone found ((clause : Clause) →
+        IsTrue (is_clause names.now vars.now clause) → line.now ≢ clause_line clause)) }
 {
     let [key, node, equals, value, after, from, before, to] = line else {
         return Ok(None);
@@ -233,8 +244,12 @@ fn clauses_of(
     names: &[Name],
     vars: &[Name],
 ) -> Result<Option<Items<Clause>>, AllocError>
-    ensures some { IfOk result (λ found. IfSome found (λ clauses. IsTrue (list_all (is_clause names.now vars.now) clauses) × (lines.now ≡ map clause_line clauses))) }
-    ensures none { IfOk result (λ found. IfNone found ((clauses : List Clause) → IsTrue (list_all (is_clause names.now vars.now) clauses) → lines.now ≢ map clause_line clauses)) }
+    ensures some { IfOk result (λ found. IfSome found (λ clauses.
+        IsTrue (list_all (is_clause names.now vars.now) clauses)
+        × (lines.now ≡ map clause_line clauses))) }
+    ensures none { IfOk result (λ found. IfNone found ((clauses : List Clause) →
+        IsTrue (list_all (is_clause names.now vars.now) clauses)
+        → lines.now ≢ map clause_line clauses)) }
 {
     let mut clauses = Items::new(alloc);
     for line in lines {
@@ -253,8 +268,10 @@ pub fn task_of(
     names: &[Name],
 ) -> Result<Option<TaskText>, AllocError>
     requires { IsTrue (are_plain lines.now) }
-    ensures some { IfOk result (λ found. IfSome found (λ task. IsTrue (is_task names.now task) × (lines.now ≡ task_lines task))) }
-    ensures none { IfOk result (λ found. IfNone found ((task : TaskText) → IsTrue (is_task names.now task) → lines.now ≢ task_lines task)) }
+    ensures some { IfOk result (λ found. IfSome found (λ task.
+        IsTrue (is_task names.now task) × (lines.now ≡ task_lines task))) }
+    ensures none { IfOk result (λ found. IfNone found ((task : TaskText) →
+        IsTrue (is_task names.now task) → lines.now ≢ task_lines task)) }
 {
     let (vars, rest) = vars_of(lines);
     if !may_be_declared(vars) {
@@ -351,8 +368,10 @@ pub fn assertion_of(alloc: Global, names: &[Name], task: &TaskText) -> Result<As
     requires task { IsTrue (is_task names.now task.now) }
     requires few { length names.now < 2 ^ 32 }
     ensures assertion { IfOk result (λ assertion. IsAssertionOf names.now task.now assertion) }
-    ensures nets { IfOk result (λ assertion. All (λ quint. quint.node.0 < length names.now) assertion.ant) }
-    ensures con_nets { IfOk result (λ assertion. All (λ quint. quint.node.0 < length names.now) assertion.con) }
+    ensures nets { IfOk result (λ assertion.
+        All (λ quint. quint.node.0 < length names.now) assertion.ant) }
+    ensures con_nets { IfOk result (λ assertion.
+        All (λ quint. quint.node.0 < length names.now) assertion.con) }
 {
     let mut ant = Items::new(alloc);
     let mut con = Items::new(alloc);

@@ -3,7 +3,7 @@ ghost use Rattle.std.specs.Prelude.{◌≡◌, ◌≤◌, Some, length, MatchRes
 ghost use Rattle.ste_program.specs.Answer.{WhyUnprepared};
 ghost use Rattle.ste_program.specs.Report.{greatest};
 ghost use Rattle.ste_program.specs.Outside.{IsFetched};
-ghost use Rattle.ste_program.specs.Texts.{AreTexts, WhyNoFile};
+ghost use Rattle.ste_program.specs.private.Texts.{AreTexts, WhyNoFile};
 
 use crate::command::Command;
 use crate::io::{FetchFault, Files};

@@ -8,7 +8,8 @@ use ste_base::{Items, Name};
 
 /// The pieces of a text between the bytes that are `mark`.
 fn pieces<'a>(alloc: Global, text: &'a [u8], mark: u8) -> Result<Vec<&'a [u8]>, AllocError>
-    ensures { IfOk result (λ pieces. map (λ piece. piece.now) pieces.items ≡ slice_split (λ b. b == mark) text.now) }
+    ensures { IfOk result (λ pieces.
+        map (λ piece. piece.now) pieces.items ≡ slice_split (λ b. b == mark) text.now) }
 {
     text.split(|b| *b == mark).collect(alloc)
 }
@@ -68,7 +69,8 @@ fn words_of(alloc: Global, line: &[u8]) -> Result<Items<Name>, AllocError>
 
 /// The words of each line, and of what stands behind the last line feed.
 fn all_words(alloc: Global, text: &[u8]) -> Result<Vec<Items<Name>>, AllocError>
-    ensures { IfOk result (λ lines. lines.items ≡ map (slice_split (λ b. b == 32)) (slice_split (λ b. b == 10) text.now)) }
+    ensures { IfOk result (λ lines.
+        lines.items ≡ map (slice_split (λ b. b == 32)) (slice_split (λ b. b == 10) text.now)) }
 {
     let mut lines = Vec::new(alloc);
     for line in pieces(alloc, text, b'\n')?.as_slice() {
@@ -86,8 +88,10 @@ fn is_blank(words: &Items<Name>) -> bool
 
 /// The lines of a text of plain words; None where the text is not of this form.
 pub fn lines_of(alloc: Global, text: &[u8]) -> Result<Option<Vec<Items<Name>>>, AllocError>
-    ensures some { IfOk result (λ found. IfSome found (λ lines. IsTrue (are_plain lines.items) × (text.now ≡ text_of lines.items))) }
-    ensures none { IfOk result (λ found. IfNone found ((lines : List (List (List ℕ))) → IsTrue (are_plain lines) → text.now ≢ text_of lines)) }
+    ensures some { IfOk result (λ found. IfSome found (λ lines.
+        IsTrue (are_plain lines.items) × (text.now ≡ text_of lines.items))) }
+    ensures none { IfOk result (λ found. IfNone found ((lines : List (List (List ℕ))) →
+        IsTrue (are_plain lines) → text.now ≢ text_of lines)) }
 {
     let mut lines = all_words(alloc, text)?;
     let Some(last) = lines.pop() else {

@@ -114,7 +114,8 @@ impl Sink for MemorySink {
     #[tactic(auto, using(crate::proofs::Taken::told_nothing))]
     fn write(&mut self, piece: &[u8]) -> Result<usize, SinkFailed>
         requires { 0 < length piece.now }
-        ensures ok { IfOk result (λ n. (0 < n) × (n ≤ length piece.now) × (⟦<MemorySink as Sink>⟧.state self.new
+        ensures ok { IfOk result (λ n.
+            (0 < n) × (n ≤ length piece.now) × (⟦<MemorySink as Sink>⟧.state self.new
             ≡ took (⟦<MemorySink as Sink>⟧.state self.old) (take n piece.now))) }
         ensures failed { OnErr result
             (WriteFailed (⟦<MemorySink as Sink>⟧.state self.old) (⟦<MemorySink as Sink>⟧.state self.new) []) }

@@ -1,6 +1,6 @@
 use Rattle.std.proofs.Common.{subst, ℕ, List}
 use Rattle.ste_program.specs.Netlist.{IsNetlist}
-use Rattle.ste_program.specs.Prepared.{WhyNoModels}
+use Rattle.ste_program.specs.private.Prepared.{WhyNoModels}
 use Rattle.ste_program.proofs.Handed.{handed}
 use Rattle.ste_program.proofs.Refusals.{bound_or_not, why_faulty_of}
 use Rattle.ste_program.proofs.prepare.prepare.Goals as goal

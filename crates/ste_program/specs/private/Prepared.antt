@@ -1,4 +1,4 @@
--- What the steps before a check know of the texts. For private functions.
+-- For private functions. What the steps before a check know of the texts.
 use Rattle.std.specs.Prelude.{◌≡◌, ◌≢◌, ⊤, ℕ, List, IsTrue, Option, Some}
 use Rattle.blif_syntax.specs.declared.models.Model.{Model}
 use Rattle.flat_net.specs.Flat.{flat_of}

@@ -1,4 +1,4 @@
--- What is known of the two texts of a check once their files were asked for. For private functions.
+-- For private functions. What is known of the two texts of a check once their files were asked for.
 use Rattle.std.specs.Prelude.{◌≡◌, ◌≤◌, ◌⊎◌, ℕ, List, length, Some}
 use Rattle.ste_program.specs.Answer.{AskedAll}
 use Rattle.ste_program.specs.Command.{Command}

@@ -1,4 +1,4 @@
--- How a message goes out, and how a run ends on a refusal. For private functions.
+-- For private functions. How a message goes out, and how a run ends on a refusal.
 use Rattle.std.specs.Prelude.{◌≡◌, ◌⊎◌, ℕ, List, Option}
 use Rattle.ste_program.specs.Answer.{BrokeOff, WentOut, status_of}
 use Rattle.ste_program.specs.Command.{Command}

@@ -1,0 +1,3 @@
+pub mod Texts
+pub mod Prepared
+pub mod Endings
