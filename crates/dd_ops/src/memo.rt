@@ -52,6 +52,20 @@ impl Memo {
                 if few.push(entry) {
                     return Ok(());
                 }
+                self.spill(alloc, entry)
+            }
+            Memo::InMap(map) => insert(map, entry),
+        }
+    }
+
+    /// Puts all into a map, and the entry with them. It stands apart, since it moves a whole memo.
+    #[cold]
+    #[inline(never)]
+    fn spill(&mut self, alloc: Global, entry: Entry) -> Result<(), AllocError>
+        ensures { OnOk result (Adds self.old entry.operands entry.result self.new) }
+    {
+        match self {
+            Memo::InPlace(few) => {
                 let mut map = map_of(alloc, few.as_slice())?;
                 insert(&mut map, entry)?;
                 *self = Memo::InMap(map);
