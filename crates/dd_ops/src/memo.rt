@@ -102,7 +102,8 @@ fn map_of(alloc: Global, entries: &[Entry]) -> Result<HashMap<Operands, Ref>, Al
 
 /// Puts a result into the map.
 fn insert(map: &mut HashMap<Operands, Ref>, entry: Entry) -> Result<(), AllocError>
-    ensures { OnOk result ((y : Operands) → get same_operands map.new y ≡ cond (same_operands entry.operands y) (Some entry.result) (get same_operands map.old y)) }
+    ensures { OnOk result ((y : Operands) → get same_operands map.new y
+        ≡ cond (same_operands entry.operands y) (Some entry.result) (get same_operands map.old y)) }
 {
     match map.insert(entry.operands, entry.result) {
         Ok(_) => Ok(()),
