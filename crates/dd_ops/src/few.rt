@@ -40,7 +40,7 @@ impl Model for Few {
 }
 
 impl Few {
-    ghost use Rattle.std.specs.Prelude.{◌≡◌, ◌++◌, ◌∷◌, [], if◌then◌else◌};
+    ghost use Rattle.std.specs.Prelude.{◌≡◌, ◌++◌, ◌∷◌, [], if◌then◌else◌, ◌↔◌, ◌<◌, IsTrue, length};
 
     pub fn new() -> Few
         ensures { result ≡ [] }
@@ -59,7 +59,8 @@ impl Few {
 
     /// Whether there is a place for the entry, which is then put behind the others.
     pub fn push(&mut self, entry: Entry) -> bool
-        ensures { self.new ≡ (if result then self.old ++ entry ∷ [] else self.old) }
+        ensures list { self.new ≡ (if result then self.old ++ entry ∷ [] else self.old) }
+        ensures room { IsTrue result ↔ (length self.old < 12) }
     {
         if self.count == 12 {
             return false;

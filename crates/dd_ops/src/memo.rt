@@ -52,6 +52,20 @@ impl Memo {
                 if few.push(entry) {
                     return Ok(());
                 }
+                self.spill(alloc, entry)
+            }
+            Memo::InMap(map) => insert(map, entry),
+        }
+    }
+
+    /// Puts all into a map, and the entry with them. It stands apart, since it moves a whole memo.
+    #[cold]
+    #[inline(never)]
+    fn spill(&mut self, alloc: Global, entry: Entry) -> Result<(), AllocError>
+        ensures { OnOk result (Adds self.old entry.operands entry.result self.new) }
+    {
+        match self {
+            Memo::InPlace(few) => {
                 let mut map = map_of(alloc, few.as_slice())?;
                 insert(&mut map, entry)?;
                 *self = Memo::InMap(map);
@@ -88,7 +102,8 @@ fn map_of(alloc: Global, entries: &[Entry]) -> Result<HashMap<Operands, Ref>, Al
 
 /// Puts a result into the map.
 fn insert(map: &mut HashMap<Operands, Ref>, entry: Entry) -> Result<(), AllocError>
-    ensures { OnOk result ((y : Operands) → get same_operands map.new y ≡ cond (same_operands entry.operands y) (Some entry.result) (get same_operands map.old y)) }
+    ensures { OnOk result ((y : Operands) → get same_operands map.new y
+        ≡ cond (same_operands entry.operands y) (Some entry.result) (get same_operands map.old y)) }
 {
     match map.insert(entry.operands, entry.result) {
         Ok(_) => Ok(()),

@@ -44,7 +44,8 @@ impl Ops {
     /// The variable `v`.
     pub fn var<N: Nodes>(&self, nodes: &mut N, v: u32) -> Result<Ref, OpFault>
         requires { v < (N.store nodes.old).vars }
-        ensures { Answer (λ bits. slice_index_or bits v false) (N.store nodes.old) (N.store nodes.new) result }
+        ensures { Answer (λ bits. slice_index_or bits v false)
+            (N.store nodes.old) (N.store nodes.new) result }
     {
         Ok(nodes.mk(v, Ref::FALSE, Ref::TRUE)?)
     }
@@ -52,7 +53,8 @@ impl Ops {
     /// 1 where `a` is 0.
     pub fn not<N: Nodes>(&self, nodes: &mut N, a: Ref) -> Result<Ref, OpFault>
         requires { IsRef (N.store nodes.old) a }
-        ensures { Answer (λ bits. not (function (N.store nodes.old) a bits)) (N.store nodes.old) (N.store nodes.new) result }
+        ensures { Answer (λ bits. not (function (N.store nodes.old) a bits))
+            (N.store nodes.old) (N.store nodes.new) result }
     {
         self.xor(nodes, a, Ref::TRUE)
     }
@@ -61,7 +63,9 @@ impl Ops {
     pub fn and<N: Nodes>(&self, nodes: &mut N, a: Ref, b: Ref) -> Result<Ref, OpFault>
         requires left { IsRef (N.store nodes.old) a }
         requires right { IsRef (N.store nodes.old) b }
-        ensures { Answer (λ bits. function (N.store nodes.old) a bits && function (N.store nodes.old) b bits) (N.store nodes.old) (N.store nodes.new) result }
+        ensures { Answer
+            (λ bits. function (N.store nodes.old) a bits && function (N.store nodes.old) b bits)
+            (N.store nodes.old) (N.store nodes.new) result }
     {
         uncounted::<N, Brand>(self, nodes, Op::And, a, b, Blank::new(1))
     }
@@ -70,7 +74,9 @@ impl Ops {
     pub fn or<N: Nodes>(&self, nodes: &mut N, a: Ref, b: Ref) -> Result<Ref, OpFault>
         requires left { IsRef (N.store nodes.old) a }
         requires right { IsRef (N.store nodes.old) b }
-        ensures { Answer (λ bits. function (N.store nodes.old) a bits || function (N.store nodes.old) b bits) (N.store nodes.old) (N.store nodes.new) result }
+        ensures { Answer
+            (λ bits. function (N.store nodes.old) a bits || function (N.store nodes.old) b bits)
+            (N.store nodes.old) (N.store nodes.new) result }
     {
         uncounted::<N, Brand>(self, nodes, Op::Or, a, b, Blank::new(1))
     }
@@ -79,7 +85,10 @@ impl Ops {
     pub fn xor<N: Nodes>(&self, nodes: &mut N, a: Ref, b: Ref) -> Result<Ref, OpFault>
         requires left { IsRef (N.store nodes.old) a }
         requires right { IsRef (N.store nodes.old) b }
-        ensures { Answer (λ bits. xor_bit (function (N.store nodes.old) a bits) (function (N.store nodes.old) b bits)) (N.store nodes.old) (N.store nodes.new) result }
+        ensures { Answer
+            (λ bits. xor_bit (function (N.store nodes.old) a bits)
+            (function (N.store nodes.old) b bits))
+            (N.store nodes.old) (N.store nodes.new) result }
     {
         uncounted::<N, Brand>(self, nodes, Op::Xor, a, b, Blank::new(1))
     }
@@ -89,7 +98,11 @@ impl Ops {
         requires test { IsRef (N.store nodes.old) c }
         requires left { IsRef (N.store nodes.old) a }
         requires right { IsRef (N.store nodes.old) b }
-        ensures { Answer (λ bits. if function (N.store nodes.old) c bits then function (N.store nodes.old) a bits else function (N.store nodes.old) b bits) (N.store nodes.old) (N.store nodes.new) result }
+        ensures { Answer
+            (λ bits. if function (N.store nodes.old) c bits
+            then function (N.store nodes.old) a bits
+            else function (N.store nodes.old) b bits)
+            (N.store nodes.old) (N.store nodes.new) result }
     {
         let x = Operands {
             first: c,
@@ -112,9 +125,14 @@ impl Ops {
     ) -> Result<Ref, OpFault>
         requires left { IsRef (N.store nodes.old) a }
         requires right { IsRef (N.store nodes.old) b }
-        ensures answer { Answer (λ bits. op_bit op (function (N.store nodes.old) a bits) (function (N.store nodes.old) b bits)) (N.store nodes.old) (N.store nodes.new) result }
-        ensures bound { steps.new ≤ steps.old + (size (N.store nodes.old) a + 2) * (size (N.store nodes.old) b + 2) }
-        ensures counted { length (N.store nodes.new).made + steps.old ≤ length (N.store nodes.old).made + steps.new }
+        ensures answer { Answer
+            (λ bits. op_bit op (function (N.store nodes.old) a bits)
+            (function (N.store nodes.old) b bits))
+            (N.store nodes.old) (N.store nodes.new) result }
+        ensures bound { steps.new
+            ≤ steps.old + (size (N.store nodes.old) a + 2) * (size (N.store nodes.old) b + 2) }
+        ensures counted { length (N.store nodes.new).made + steps.old
+            ≤ length (N.store nodes.old).made + steps.new }
     {
         let x = pair(a, b);
         match op {
@@ -127,7 +145,8 @@ impl Ops {
     /// Whether the function is 0 at every assignment. It takes no memory.
     pub fn is_false<N: Nodes>(&self, nodes: &N, a: Ref) -> bool
         requires { IsRef (N.store nodes.now) a }
-        ensures { IsTrue result ↔ ((bits : List Bool) → length bits ≡ (N.store nodes.now).vars → function (N.store nodes.now) a bits ≡ false) }
+        ensures { IsTrue result ↔ ((bits : List Bool) → length bits ≡ (N.store nodes.now).vars
+            → function (N.store nodes.now) a bits ≡ false) }
     {
         a == Ref::FALSE
     }
@@ -135,7 +154,8 @@ impl Ops {
     /// Whether the function is 1 at every assignment. It takes no memory.
     pub fn is_true<N: Nodes>(&self, nodes: &N, a: Ref) -> bool
         requires { IsRef (N.store nodes.now) a }
-        ensures { IsTrue result ↔ ((bits : List Bool) → length bits ≡ (N.store nodes.now).vars → function (N.store nodes.now) a bits ≡ true) }
+        ensures { IsTrue result ↔ ((bits : List Bool) → length bits ≡ (N.store nodes.now).vars
+            → function (N.store nodes.now) a bits ≡ true) }
     {
         a == Ref::TRUE
     }
@@ -164,7 +184,10 @@ fn uncounted<N: Nodes, L: Ledger>(
     requires some { 0 < blank.parts }
     requires left { IsRef (N.store nodes.old) a }
     requires right { IsRef (N.store nodes.old) b }
-    ensures { Answer (λ bits. op_bit op (function (N.store nodes.old) a bits) (function (N.store nodes.old) b bits)) (N.store nodes.old) (N.store nodes.new) result }
+    ensures { Answer
+        (λ bits. op_bit op (function (N.store nodes.old) a bits)
+        (function (N.store nodes.old) b bits))
+        (N.store nodes.old) (N.store nodes.new) result }
 {
     ops.apply::<N, L>(nodes, op, a, b, &mut Steps::new(blank))
 }
@@ -180,7 +203,8 @@ fn chosen<N: Nodes, L: Ledger>(
     requires all { blank.parts ≡ L.parts }
     requires some { 0 < blank.parts }
     requires refs { AreRefs (N.store nodes.old) x }
-    ensures { Answer (named choice_rule (N.store nodes.old) x) (N.store nodes.old) (N.store nodes.new) result }
+    ensures { Answer (named choice_rule (N.store nodes.old) x)
+        (N.store nodes.old) (N.store nodes.new) result }
 {
     answer::<Choice, N, L>(alloc, nodes, x, &mut Steps::new(blank))
 }
