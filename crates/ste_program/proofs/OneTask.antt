@@ -12,7 +12,8 @@ use Rattle.ste_program.specs.declared.task.Value.TheVariants.{Const, Variable, N
 use Rattle.ste_program.specs.declared.task.Clause.{Clause}
 use Rattle.ste_program.specs.declared.task.TaskText.{TaskText}
 use Rattle.ste_program.specs.Words.{is_among}
-use Rattle.ste_program.specs.Task.{value_word, side_word, clause_line, vars_lines, task_lines, is_letter, is_variable, is_value, is_clause, is_task}
+use Rattle.ste_base.specs.Bytes.{is_letter}
+use Rattle.ste_program.specs.Task.{value_word, side_word, clause_line, vars_lines, task_lines, is_variable, is_value, is_clause, is_task}
 use Rattle.std.proofs.lemmas.Bool.{and_parts}
 use Rattle.ste_program.proofs.Quints.{task_parts}
 

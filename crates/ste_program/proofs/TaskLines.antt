@@ -14,7 +14,8 @@ use Rattle.ste_program.specs.declared.task.Side.TheVariants.{Consequent}
 use Rattle.ste_program.specs.declared.task.Value.TheVariants.{Const}
 use Rattle.ste_program.specs.declared.task.Clause.{Clause}
 use Rattle.ste_program.specs.Words.{is_among}
-use Rattle.ste_program.specs.Task.{clause_line, side_word, value_word, is_digit, is_value, is_number, is_clause}
+use Rattle.ste_base.specs.Bytes.{is_digit}
+use Rattle.ste_program.specs.Task.{clause_line, side_word, value_word, is_value, is_number, is_clause}
 
 digit_test : (byte : ℕ) → Decides (is_digit byte) (IsAsciiDigit byte)
 digit_test byte = (λ h. grind (arith, nat_tests), λ h. grind (arith, nat_tests))

@@ -1,8 +1,9 @@
 -- Meaning. The task texts that are read so far: one assertion, whose values are bits, variables and turned variables, without
 -- guards.
-use Rattle.std.specs.Prelude.{◌≡◌, ℕ, ◌==◌, ◌&&◌, ◌||◌, ◌++◌, ◌∷◌, [], Bool, true, false, not, List, length, map, filter, nat_le, nat_lt, codes, if◌then◌else◌}
+use Rattle.std.specs.Prelude.{◌≡◌, ℕ, ◌&&◌, ◌||◌, ◌++◌, ◌∷◌, [], Bool, true, false, not, List, length, map, filter, nat_le, nat_lt, codes, if◌then◌else◌}
 use Rattle.std.specs.List.{list_all, position_or_len, AllZip}
 use Rattle.std.specs.Str.{bytes_eq}
+use Rattle.ste_base.specs.Bytes.{is_digit, is_letter}
 use Rattle.ste_base.specs.Number.{number_of}
 use Rattle.bool_expr.specs.Tree.{Tree, tree_of}
 use Rattle.bool_expr.specs.Tree as tree
@@ -47,14 +48,6 @@ vars_lines (name ∷ names) = (codes ".vars" ∷ name ∷ names) ∷ []
 -- the lines of a task
 abbrev pub task_lines : TaskText → List (List (List ℕ))
 task_lines task = vars_lines task.vars ++ (codes ".ste" ∷ task.name ∷ []) ∷ (map clause_line task.clauses ++ (codes ".end" ∷ []) ∷ [])
-
--- a letter or an underscore
-abbrev pub is_letter : ℕ → Bool
-is_letter byte = (nat_le 65 byte && nat_le byte 90) || (nat_le 97 byte && nat_le byte 122) || byte == 95
-
--- a decimal digit
-abbrev pub is_digit : ℕ → Bool
-is_digit byte = nat_le 48 byte && nat_le byte 57
 
 -- a letter or an underscore, followed by letters, underscores and digits; but not when, from or to
 abbrev pub is_variable : List ℕ → Bool

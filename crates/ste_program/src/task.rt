@@ -2,6 +2,7 @@
 ghost use Rattle.std.specs.Prelude.{◌≡◌, ◌≢◌, ◌≤◌, ◌<◌, ◌^◌, ◌&&◌, ◌||◌, ℕ, Bool, List, map, codes, IfOk, IfSome, IfNone, IsTrue, OnErr, All, [], ◌∷◌, ◌++◌, length, false, nat_le, slice_index_or, if◌then◌else◌};
 ghost use Rattle.std.specs.List.{list_all, position, position_or_len};
 ghost use Rattle.std.specs.Str.{bytes_eq};
+ghost use Rattle.ste_base.specs.Bytes.{is_digit, is_letter};
 ghost use Rattle.ste_base.specs.Number.{number_of};
 ghost use Rattle.bool_expr.specs.Tree.{place, tree_of};
 ghost use Rattle.ste_program.specs.declared.task.Value.{Value};
@@ -9,12 +10,12 @@ ghost use Rattle.ste_program.specs.declared.task.Clause.{Clause};
 ghost use Rattle.ste_program.specs.declared.task.Side.{Side as SideOf};
 ghost use Rattle.ste_program.specs.declared.task.TaskText.{TaskText};
 ghost use Rattle.ste_program.specs.Words.{are_distinct, are_plain, is_among};
-ghost use Rattle.ste_program.specs.Task.{value_word, side_word, clause_line, vars_lines, task_lines, is_letter, is_digit, is_variable, is_value, is_number, is_clause, is_task, value_tree, IsQuintOf, IsAssertionOf};
+ghost use Rattle.ste_program.specs.Task.{value_word, side_word, clause_line, vars_lines, task_lines, is_variable, is_value, is_number, is_clause, is_task, value_tree, IsQuintOf, IsAssertionOf};
 
 use crate::lines::{are_distinct, before_end, copies, is_among, line_behind};
 use bool_expr::Expr;
 use std::alloc::{AllocError, Global};
-use ste_base::{Items, Name, NodeId, Time, VarId, read_number};
+use ste_base::{Items, Name, NodeId, Time, VarId, is_digit, is_letter, read_number};
 use ste_model::{Assertion, Quint};
 
 /// The value of a clause: a bit, a variable, or a variable with its sign turned.
@@ -49,20 +50,6 @@ pub struct TaskText {
     pub vars: Items<Name>,
     pub name: Name,
     pub clauses: Items<Clause>,
-}
-
-/// Whether the byte is a letter or an underscore.
-fn is_letter(byte: u8) -> bool
-    ensures { result ≡ is_letter byte }
-{
-    (b'A' <= byte && byte <= b'Z') || (b'a' <= byte && byte <= b'z') || byte == b'_'
-}
-
-/// Whether the byte is a decimal digit.
-fn is_digit(byte: u8) -> bool
-    ensures { result ≡ is_digit byte }
-{
-    b'0' <= byte && byte <= b'9'
 }
 
 /// Whether each of these bytes is a letter, an underscore or a digit.
