@@ -1,6 +1,7 @@
 //! The flat net of a netlist: its nets are numbered, and each gate and latch drives the nets of its signals.
 #![tactic(auto)]
 
+pub mod fault;
 pub mod flat;
 mod lines;
 mod signals;
@@ -8,4 +9,5 @@ mod supported;
 #[cfg(test)]
 mod tests;
 
+pub use fault::NetFault;
 pub use flat::{FlatNet, flatten};
