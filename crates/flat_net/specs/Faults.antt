@@ -13,10 +13,10 @@ use Rattle.blif_syntax.specs.Words.{is_one_of}
 use Rattle.flat_net.specs.declared.fault.NetFault.{NetFault}
 use Rattle.flat_net.specs.declared.fault.NetFault.TheVariants.{DoubleModel, UnknownModel, Recursive, BadFormal, MissingFormal, GateTooWide, TooDeep, TooManyNodes, DrivenTwice, MixedClocks}
 use Rattle.flat_net.specs.Lines.{DriverLine, LatchLine, UseLine, formals_of, needed_formals, numbered_latches, use_of}
-use Rattle.flat_net.specs.Instances.{in_instances, model_named}
+use Rattle.flat_net.specs.Instances.{in_instances, model_named, number_named}
 use Rattle.flat_net.specs.Nets.{drivers, input_numbers, number_at}
 use Rattle.flat_net.specs.Names.{name_at}
-use Rattle.flat_net.specs.Reach.{Reaches, number_named, uses}
+use Rattle.flat_net.specs.Reach.{Reaches, uses}
 use Rattle.flat_net.specs.Sizes.{IsTooDeep, IsTooLarge}
 use Rattle.flat_net.specs.Supported.{is_rising}
 

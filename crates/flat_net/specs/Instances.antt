@@ -1,14 +1,18 @@
 -- Meaning. The instances of a hierarchy. An instance is its path: the numbers of the uses that lead to it from the top, the
 -- innermost first, so that the tail of a path is the instance above. Source: the Berkeley description of BLIF; the order of
 -- instances is this project's own choice.
-use Rattle.std.specs.Prelude.{ℕ, suc, zero, ◌∷◌, [], List, Option, None, Some, Bool, false, is_some, slice_get, find, flat_map, map, bytes_eq, option_map, option_and_then}
+use Rattle.std.specs.Prelude.{ℕ, suc, zero, ◌∷◌, [], List, Option, None, Some, Bool, false, is_some, slice_get, find, flat_map, map, position, bytes_eq, option_map, option_and_then}
 use Rattle.std.specs.List.{enumerate_from}
 use Rattle.blif_syntax.specs.declared.models.Model.{Model}
 use Rattle.flat_net.specs.Lines.{UseLine, use_lines}
 
+-- the number of the first model of that name
+abbrev pub number_named : List Model → List ℕ → Option ℕ
+number_named models name = position (bytes_eq name) (map (λ model. model.name) models)
+
 -- the first model of that name
 abbrev pub model_named : List Model → List ℕ → Option Model
-model_named models name = find (λ model. bytes_eq model.name name) models
+model_named models name = option_and_then (slice_get models) (number_named models name)
 
 -- the use of that number in a model
 abbrev pub use_at : Option Model → ℕ → Option UseLine

@@ -1,11 +1,8 @@
 -- Meaning. Which models a model reaches by uses. Models are numbers, from 0 on; the top is 0.
-use Rattle.std.specs.Prelude.{◌≡◌, ℕ, ◌∷◌, [], List, Option, Some, filter_map, map, position, slice_get, slice_index_or, bytes_eq, option_and_then}
+use Rattle.std.specs.Prelude.{◌≡◌, ℕ, ◌∷◌, [], List, Option, Some, filter_map, map, slice_get, slice_index_or, option_and_then}
 use Rattle.blif_syntax.specs.declared.models.Model.{Model}
 use Rattle.flat_net.specs.Lines.{use_lines}
-
--- the number of the first model of that name
-abbrev pub number_named : List Model → List ℕ → Option ℕ
-number_named models name = position (λ model. bytes_eq model.name name) models
+use Rattle.flat_net.specs.Instances.{number_named}
 
 -- the numbers of the models that a model uses, by line; a name that no model has is left out
 abbrev pub used_by : List Model → Model → List ℕ

@@ -3,6 +3,7 @@
 
 pub mod fault;
 pub mod flat;
+pub mod laws;
 mod lines;
 mod signals;
 mod supported;
