@@ -145,8 +145,8 @@ module _ (models : List Model) (net : RawNet) (shallow : IsShallow models) (flat
       let s = latch_signals p.0 z.0.1 p.2 in
       let same : flat_bits models run 0 latch.output.0 ≡ run z.0.0 z.0.1.output 0 = ap (λ k. flat_bits models run 0 k) z.2.output ∙ bit_at run is_run z.0.0 p.0 p.1 z.0.1.output s.0 0 some in
       λ asked.
-        let rule = starts z.0.0 p.0 p.1 z.0.1 (contains_from_in (latch_lines p.0) z.0.1 p.2) asked in
-        subst (λ i. IsInitial i (flat_bits models run 0 latch.output.0)) (sym z.2.init) (subst (λ b. IsInitial z.0.1.init b) (sym same) rule)
+      let rule = starts z.0.0 p.0 p.1 z.0.1 (contains_from_in (latch_lines p.0) z.0.1 p.2) asked in
+      subst (λ i. IsInitial i (flat_bits models run 0 latch.output.0)) (sym z.2.init) (subst (λ b. IsInitial z.0.1.init b) (sym same) rule)
 
   pub starts_hierarchy : (reset : Bool) (bit : ℕ → ℕ → Bool) → All (λ latch. MayStart reset latch (bit 0 latch.output.0)) net.latches → StartsAsAsked models reset (signal_bits models bit)
   starts_hierarchy reset bit starts path model e latch c asked =

@@ -104,7 +104,7 @@ module _ (models : List Model) (shallow : IsShallow models) where
       by again (Some actual) is =
           let s = stands_on models (model_at models above) n model e in
           subst (λ p. In (nets models) p) (sym (ap (λ w. option_map_or (λ actual. home models above actual) w (record { path = n ∷ above; signal = signal })) is))
-            (again s.0 actual s.2 (actual_is_above models (model_at models above) s.0 n s.1 signal actual s.2 s.3 is))
+          (again s.0 actual s.2 (actual_is_above models (model_at models above) s.0 n s.1 signal actual s.2 s.3 is))
 
 module _ (models : List Model) (n : ℕ) (run : List ℕ → List ℕ → ℕ → Bool) (is_run : IsHierarchicalRun models n run) (t : ℕ) (in_time : t < n) where
   pub home_bit : (path signal : List ℕ) → run (home models path signal).path (home models path signal).signal t ≡ run path signal t

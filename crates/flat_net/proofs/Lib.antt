@@ -8,3 +8,6 @@ pub mod Instances
 pub mod Homes
 pub mod NoRepeats
 pub mod Corresponds
+pub mod Reached
+pub mod Marked
+pub mod Refused

@@ -46,6 +46,7 @@ module _ {X : Type 0} where
     where
       omega_zero : (n : ℕ) → n ≡ n + 0
       omega_zero n = omega arith
+
       some_same : (y x : X) → Some y ≡ Some x → y ≡ x
       some_same y x e = cc
   in_enumerate (y ∷ ys) n (suc k) x e = inr (subst (λ m. In (enumerate_from (n + 1) ys) (m, x)) (shift n k) (in_enumerate ys (n + 1) k x e))

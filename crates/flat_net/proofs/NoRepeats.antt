@@ -68,6 +68,7 @@ insert_distinct keys name d = by (list_any (bytes_eq name) keys) refl
         no : (b : Bool) → (b || list_any (bytes_eq name) ks) ≡ false → (list_any (bytes_eq name) ks ≡ false → ⊥) → ⊥
         no true w again = absurd (cc)
         no false w again = again w
+
     by : (b : Bool) → list_any (bytes_eq name) keys ≡ b → Distinct (cond b keys (keys ++ name ∷ []))
     by true e = d
     by false e = distinct_append keys (name ∷ []) d ((λ i. i), tt) (λ x i j. elim j as (λ _. ⊥) [ inl same ↦ none keys e (subst (λ y. In keys y) (sym same) i) | inr w ↦ w ])
@@ -101,21 +102,22 @@ module _ (models : List Model) where
   walk_distinct : (depth : ℕ) (base : List ℕ) (over : Option Model) → Distinct (instances_below models depth base over)
   walk_distinct zero base over = tt
   walk_distinct (suc depth) base None = tt
-  walk_distinct (suc depth) base (Some m) =
-      (λ h.
+  walk_distinct (suc depth) base (Some m) = (
+    λ h.
         let r = flat_map_in (λ at. instances_below models depth (at.0 ∷ base) (model_named models at.1.model)) (enumerate_from 0 (use_lines m)) base h in
         let i = ends depth (r.0.0 ∷ base) (model_named models r.0.1.model) base r.2 in
         let l : length base ≡ length (i.0 ++ r.0.0 ∷ base) = ap length i.1 in
         let k = length-append i.0 (r.0.0 ∷ base) in
         omega arith,
-       distinct_numbered (λ at. instances_below models depth (at.0 ∷ base) (model_named models at.1.model))
-         (λ a b p i j.
-           let x = ends depth (a.0 ∷ base) (model_named models a.1.model) p i in
-           let y = ends depth (b.0 ∷ base) (model_named models b.1.model) p j in
-           let same : a.0 ∷ base ≡ b.0 ∷ base = same_end x.0 y.0 (a.0 ∷ base) (b.0 ∷ base) refl (sym x.1 ∙ y.1) in
-           cc)
-         (λ at. walk_distinct depth (at.0 ∷ base) (model_named models at.1.model))
-         (enumerate_from 0 (use_lines m)) (numbers_once (use_lines m) 0))
+    distinct_numbered (λ at. instances_below models depth (at.0 ∷ base) (model_named models at.1.model))
+        (λ a b p i j.
+        let x = ends depth (a.0 ∷ base) (model_named models a.1.model) p i in
+        let y = ends depth (b.0 ∷ base) (model_named models b.1.model) p j in
+        let same : a.0 ∷ base ≡ b.0 ∷ base = same_end x.0 y.0 (a.0 ∷ base) (b.0 ∷ base) refl (sym x.1 ∙ y.1) in
+        cc)
+        (λ at. walk_distinct depth (at.0 ∷ base) (model_named models at.1.model))
+        (enumerate_from 0 (use_lines m)) (numbers_once (use_lines m) 0),
+  )
 
   own_path : (path : List ℕ) (p : InstanceSignal) → In (own_nets models path) p → (p.path ≡ path) × (is_bound models p.path p.signal ≡ false)
   own_path path p h =
@@ -132,8 +134,8 @@ module _ (models : List Model) where
   nets_distinct : Distinct (nets models)
   nets_distinct =
       distinct_flat_map (λ path. own_nets models path) (λ a b p i j. sym (own_path a p i).0 ∙ (own_path b p j).0)
-        (λ path. distinct_map (λ s. record { path = path; signal = s }) (λ a b e. ap (λ q. q.signal) e) (filter (λ s. not (is_bound models path s)) (had_by signals (model_at models path))) (distinct_filter (λ s. not (is_bound models path s)) (had_by signals (model_at models path)) (signals_distinct (model_at models path))))
-        (instances models) (walk_distinct 65 [] (slice_get models 0))
+      (λ path. distinct_map (λ s. record { path = path; signal = s }) (λ a b e. ap (λ q. q.signal) e) (filter (λ s. not (is_bound models path s)) (had_by signals (model_at models path))) (distinct_filter (λ s. not (is_bound models path s)) (had_by signals (model_at models path)) (signals_distinct (model_at models path))))
+      (instances models) (walk_distinct 65 [] (slice_get models 0))
 
   -- a net is made where it is
   pub net_home : (p : InstanceSignal) → In (nets models) p → home models p.path p.signal ≡ p

@@ -1,6 +1,6 @@
 -- Meaning. What makes a hierarchy faulty, and which fault it is refused for: the kind is chosen first, in a fixed order, then the
 -- first line in the file, among the lines of reachable models. Source: this project's own choice.
-use Rattle.std.specs.Prelude.{◌≡◌, ◌<◌, ◌⊎◌, ℕ, ◌∷◌, [], List, Bool, true, false, not, ◌||◌, Option, None, Some, bytes_eq, filter_map, find, is_some, length, map, nat_eq, nat_lt, slice_get, if◌then◌else◌, option_and_then, option_map}
+use Rattle.std.specs.Prelude.{◌≡◌, ◌<◌, ◌⊎◌, ℕ, ◌∷◌, [], List, Bool, true, false, not, ◌||◌, Option, None, Some, bytes_eq, filter_map, find, is_some, length, map, nat_eq, nat_lt, position, slice_get, if◌then◌else◌, option_and_then, option_map}
 use Rattle.std.specs.Bool.{beq}
 use Rattle.std.specs.List.{list_any}
 use Rattle.indexmap.specs.IndexSet.{insert_key}
@@ -13,7 +13,7 @@ use Rattle.blif_syntax.specs.Words.{is_one_of}
 use Rattle.flat_net.specs.declared.fault.NetFault.{NetFault}
 use Rattle.flat_net.specs.declared.fault.NetFault.TheVariants.{DoubleModel, UnknownModel, Recursive, BadFormal, MissingFormal, GateTooWide, TooDeep, TooManyNodes, DrivenTwice, MixedClocks}
 use Rattle.flat_net.specs.Lines.{DriverLine, LatchLine, UseLine, formals_of, needed_formals, numbered_latches, use_of}
-use Rattle.flat_net.specs.Instances.{in_instances, model_named, number_named}
+use Rattle.flat_net.specs.Instances.{in_instances, model_named, model_names, number_named}
 use Rattle.flat_net.specs.Nets.{drivers, input_numbers, number_at}
 use Rattle.flat_net.specs.Names.{name_at}
 use Rattle.flat_net.specs.Reach.{Reaches, uses}
@@ -49,10 +49,14 @@ pub record IsFirst (models : List Model) (kind : ℕ → Item → NetFault → T
   pub least : (earlier_number earlier : ℕ) (other : Item) (its : NetFault) → IsBefore earlier_number earlier number place →
       IsLine models earlier_number earlier other → kind earlier_number other its → ⊥
 
--- the use names no model
-abbrev pub unknown_model : List Model → UseLine → Option NetFault
-unknown_model models used =
-    if is_some (number_named models used.model) then None else Some (UnknownModel used.line used.model)
+-- the use names none of the models of these names
+abbrev pub unknown_model : List (List ℕ) → UseLine → Option NetFault
+unknown_model names used =
+    if is_some (position (bytes_eq used.model) names) then None else Some (UnknownModel used.line used.model)
+
+-- what a check of uses finds in an item
+abbrev pub in_use : (UseLine → Option NetFault) → Item → Option NetFault
+in_use check item = option_and_then check (use_of item)
 
 -- the item uses a model from which its own model is reachable
 pub record IsRecursive (models : List Model) (number : ℕ) (item : Item) (fault : NetFault) : Type 0 where
@@ -74,15 +78,15 @@ bad_formal formals bound (name ∷ names) =
 abbrev pub bad_formal_of : List Model → UseLine → Option NetFault
 bad_formal_of models used =
     option_and_then (λ model. option_map (λ name. BadFormal used.line name)
-        (bad_formal (formals_of model) [] (map (λ binding. binding.0) used.bindings)))
-        (model_named models used.model)
+    (bad_formal (formals_of model) [] (map (λ binding. binding.0) used.bindings)))
+    (model_named models used.model)
 
 -- the use leaves a formal unbound that has to be bound
 abbrev pub missing_formal_of : List Model → UseLine → Option NetFault
 missing_formal_of models used =
     option_and_then (λ model. option_map (λ name. MissingFormal used.line name)
-        (find (λ name. not (is_one_of (map (λ binding. binding.0) used.bindings) name)) (needed_formals model)))
-        (model_named models used.model)
+    (find (λ name. not (is_one_of (map (λ binding. binding.0) used.bindings) name)) (needed_formals model)))
+    (model_named models used.model)
 
 -- the line is a gate with more than 1,000 inputs or more than 65,536 cases
 abbrev pub is_too_wide : What → Bool
@@ -117,7 +121,7 @@ mixed_clocks models latches =
     let type = slice_get (filter_map type_of latches) 0 in
     let control = slice_get (filter_map (control_net models) latches) 0 in
     option_map (λ at. MixedClocks at.1.0 (name_at models at.0 at.1.1.output))
-        (find (λ at. are_apart beq type (type_of at) || are_apart nat_eq control (control_net models at)) latches)
+    (find (λ at. are_apart beq type (type_of at) || are_apart nat_eq control (control_net models at)) latches)
 
 -- each kind of fault, of the whole hierarchy
 abbrev pub HasDoubleModel : List Model → NetFault → Type 0
@@ -125,18 +129,18 @@ HasDoubleModel models fault = double_model [] models ≡ Some fault
 
 abbrev pub HasUnknownModel : List Model → NetFault → Type 0
 HasUnknownModel models =
-    IsFirst models (λ number item fault. option_and_then (unknown_model models) (use_of item) ≡ Some fault)
+    IsFirst models (λ number item fault. in_use (unknown_model (model_names models)) item ≡ Some fault)
 
 abbrev pub HasRecursive : List Model → NetFault → Type 0
 HasRecursive models = IsFirst models (IsRecursive models)
 
 abbrev pub HasBadFormal : List Model → NetFault → Type 0
 HasBadFormal models =
-    IsFirst models (λ number item fault. option_and_then (bad_formal_of models) (use_of item) ≡ Some fault)
+    IsFirst models (λ number item fault. in_use (bad_formal_of models) item ≡ Some fault)
 
 abbrev pub HasMissingFormal : List Model → NetFault → Type 0
 HasMissingFormal models =
-    IsFirst models (λ number item fault. option_and_then (missing_formal_of models) (use_of item) ≡ Some fault)
+    IsFirst models (λ number item fault. in_use (missing_formal_of models) item ≡ Some fault)
 
 abbrev pub HasGateTooWide : List Model → NetFault → Type 0
 HasGateTooWide models =
@@ -168,3 +172,7 @@ IsRefusal models =
     Else (HasDoubleModel models) (Else (HasUnknownModel models) (Else (HasRecursive models)
     (Else (HasBadFormal models) (Else (HasMissingFormal models) (Else (HasGateTooWide models)
     (Else (HasTooDeep models) (Else (HasTooManyNodes models) (Else (HasDrivenTwice models) (HasMixedClocks models)))))))))
+
+-- the fault among the kinds that are looked for so far
+abbrev pub IsRefusalSoFar : List Model → NetFault → Type 0
+IsRefusalSoFar models = Else (HasDoubleModel models) (HasUnknownModel models)

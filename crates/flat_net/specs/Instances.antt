@@ -6,9 +6,13 @@ use Rattle.std.specs.List.{enumerate_from}
 use Rattle.blif_syntax.specs.declared.models.Model.{Model}
 use Rattle.flat_net.specs.Lines.{UseLine, use_lines}
 
+-- the names of models, in order
+abbrev pub model_names : List Model → List (List ℕ)
+model_names models = map (λ model. model.name) models
+
 -- the number of the first model of that name
 abbrev pub number_named : List Model → List ℕ → Option ℕ
-number_named models name = position (bytes_eq name) (map (λ model. model.name) models)
+number_named models name = position (bytes_eq name) (model_names models)
 
 -- the first model of that name
 abbrev pub model_named : List Model → List ℕ → Option Model
@@ -45,7 +49,7 @@ instances_below models zero path model = []
 instances_below models (suc depth) path None = []
 instances_below models (suc depth) path (Some model) =
     path ∷ flat_map (λ at. instances_below models depth (at.0 ∷ path) (model_named models at.1.model))
-        (enumerate_from 0 (use_lines model))
+    (enumerate_from 0 (use_lines model))
 
 -- the instances, in preorder: those whose paths have at most 64 numbers
 abbrev pub instances : List Model → List (List ℕ)

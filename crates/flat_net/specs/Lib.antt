@@ -9,3 +9,4 @@ pub mod Sizes
 pub mod Names
 pub mod Faults
 pub mod Supported
+pub mod private

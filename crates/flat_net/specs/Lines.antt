@@ -97,9 +97,9 @@ abbrev pub needed_words : What → List (List ℕ)
 needed_words (Inputs names) = names
 needed_words other = []
 
--- the formals that each use of a model has to bind, in order
+-- the formals that each use of a model has to bind, in order, each once
 abbrev pub needed_formals : Model → List (List ℕ)
-needed_formals model = flat_map (λ item. needed_words item.what) model.items
+needed_formals model = first_mentions (flat_map (λ item. needed_words item.what) model.items)
 
 -- a use of a model, as a line gives it: each formal that it binds with its actual
 pub record UseLine : Type 0 where

@@ -37,9 +37,9 @@ named_in models zero path text = None
 named_in models (suc depth) path text =
     if is_one_of (had_by signals (model_at models path)) text then Some (number_at models path text)
     else let head = before is_slash text in
-        if length head == length text then None
-        else option_and_then (λ number. named_in models depth (number ∷ path) (drop (suc (length head)) text))
-            (number_below (length (had_by use_lines (model_at models path))) head)
+    if length head == length text then None
+    else option_and_then (λ number. named_in models depth (number ∷ path) (drop (suc (length head)) text))
+    (number_below (length (had_by use_lines (model_at models path))) head)
 
 -- the net that a text names
 abbrev pub net_named : List Model → List ℕ → Option ℕ

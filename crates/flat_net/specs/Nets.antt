@@ -22,13 +22,13 @@ abbrev pub home : List Model → List ℕ → List ℕ → InstanceSignal
 home models [] signal = record { path = []; signal = signal }
 home models (number ∷ above) signal =
     option_map_or (λ actual. home models above actual) (bound_to models above number signal)
-        (record { path = number ∷ above; signal = signal })
+    (record { path = number ∷ above; signal = signal })
 
 -- the nets that an instance makes, by first mention
 abbrev pub own_nets : List Model → List ℕ → List InstanceSignal
 own_nets models path =
     map (λ signal. record { path = path; signal = signal })
-        (filter (λ signal. not (is_bound models path signal)) (had_by signals (model_at models path)))
+    (filter (λ signal. not (is_bound models path signal)) (had_by signals (model_at models path)))
 
 -- the nets, by number
 abbrev pub nets : List Model → List InstanceSignal

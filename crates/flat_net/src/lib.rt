@@ -1,14 +1,19 @@
 //! The flat net of a netlist: its nets are numbered, and each gate and latch drives the nets of its signals.
 #![tactic(auto)]
 
+mod checks;
 pub mod fault;
 pub mod flat;
 pub mod laws;
 mod lines;
+mod reach;
+pub mod refusals;
 mod signals;
 mod supported;
 #[cfg(test)]
 mod tests;
+mod uses;
 
 pub use fault::NetFault;
 pub use flat::{FlatNet, flatten};
+pub use refusals::refuse;

@@ -1,0 +1,3 @@
+-- Definitions that serve private functions.
+pub mod Checks
+pub mod Search
