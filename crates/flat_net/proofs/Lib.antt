@@ -11,3 +11,4 @@ pub mod Corresponds
 pub mod Reached
 pub mod Marked
 pub mod Refused
+pub mod Deep

@@ -1,5 +1,6 @@
 -- The first fault in the items of marked models is that of the first line of a reachable model.
-use Rattle.std.proofs.Common.{◌≡◌, ◌<◌, ◌+◌, ℕ, zero, suc, Bool, true, false, cond, List, [], ◌∷◌, ◌++◌, map, Option, None, Some, get_or, slice_get, arith, refl, sym, ◌∙◌, inl, inr, subst}
+use Rattle.std.proofs.Common.{◌≡◌, ◌<◌, ◌+◌, ℕ, zero, suc, Bool, true, false, cond, List, [], ◌∷◌, ◌++◌, map, length, drop, Option, None, Some, get_or, slice_get, arith, refl, sym, ◌∙◌, inl, inr, subst}
+use Rattle.std.proofs.Math.Seq.{drop-cons}
 use Rattle.std.specs.Prelude.{◌⊎◌}
 use Rattle.blif_syntax.specs.declared.models.Item.{Item}
 use Rattle.blif_syntax.specs.declared.models.Model.{Model}
@@ -35,6 +36,26 @@ module _ {X : Type 0} (kind : X → NetFault → Type 0) where
   none_append : (xs ys : List X) → NoneIn kind (xs ++ ys) → NoneIn kind xs × NoneIn kind ys
   none_append [] ys h = (tt, h)
   none_append (x ∷ xs) ys h = let r = none_append xs ys h.1 in ((h.0, r.0), r.1)
+
+-- one more of a list without a fault, and the first with one, where what is left decides
+module _ {X : Type 0} (kind : X → NetFault → Type 0) (xs : List X) (n : ℕ) (x : X) (low : n < length xs) (here : x ≡ get_or xs n x) where
+  split : drop n xs ≡ x ∷ drop (n + 1) xs
+  split = drop-cons xs n x low ∙ cons (sym here) (next n)
+    where
+      next : (n : ℕ) → suc n ≡ n + 1
+      next n = omega arith
+
+      cons : {a b : X} {i j : ℕ} → a ≡ b → i ≡ j → a ∷ drop i xs ≡ b ∷ drop j xs
+      cons e f = cc
+
+  pub one_clean : ((its : NetFault) → kind x its → ⊥) → (NoneIn kind (drop n xs) → NoneIn kind xs) → NoneIn kind (drop (n + 1) xs) → NoneIn kind xs
+  one_clean clean again rest = again (subst (λ l. NoneIn kind l) (sym split) (clean, rest))
+
+  pub one_passed : ((its : NetFault) → kind x its → ⊥) → ((fault : NetFault) → FirstIn kind (drop n xs) fault → FirstIn kind xs fault) → (fault : NetFault) → FirstIn kind (drop (n + 1) xs) fault → FirstIn kind xs fault
+  one_passed clean again fault rest = again fault (subst (λ l. FirstIn kind l fault) (sym split) (inr (clean, rest)))
+
+  pub one_faulty : (fault : NetFault) → kind x fault → ((fault : NetFault) → FirstIn kind (drop n xs) fault → FirstIn kind xs fault) → FirstIn kind xs fault
+  one_faulty fault has again = again fault (subst (λ l. FirstIn kind l fault) (sym split) (inl has))
 
 module _ (kind : ℕ → Item → NetFault → Type 0) where
   abbrev on : ItemAt → NetFault → Type 0

@@ -1,15 +1,18 @@
 -- Kinds of fault in their order; and that uses are numbers of models.
-use Rattle.std.proofs.Common.{◌≡◌, ◌<◌, ℕ, List, [], length, None, get_or, arith, sym, inl, inr, subst}
+use Rattle.std.proofs.Common.{◌≡◌, ◌<◌, ℕ, zero, suc, false, List, [], ◌∷◌, length, map, None, Some, get_or, slice_get, arith, ap, sym, inl, inr, subst}
 use Rattle.std.proofs.lemmas.List.{length-map}
 use Rattle.std.proofs.lemmas.List.Quantifiers.{position-Some}
 use Rattle.std.specs.Prelude.{bytes_eq}
+use Rattle.blif_syntax.specs.declared.models.Item.{Item}
 use Rattle.blif_syntax.specs.declared.models.Model.{Model}
 use Rattle.flat_net.specs.declared.fault.NetFault.{NetFault}
-use Rattle.flat_net.specs.Faults.{Else, HasDoubleModel, IsFree, double_model}
+use Rattle.flat_net.specs.Faults.{Else, HasDoubleModel, HasRecursive, IsFree, double_model}
 use Rattle.flat_net.specs.Instances.{model_names, number_named}
-use Rattle.flat_net.specs.Lines.{use_lines}
+use Rattle.flat_net.specs.Lines.{UseLine, use_lines, use_of}
 use Rattle.flat_net.specs.Reach.{used_by, uses}
-use Rattle.flat_net.proofs.Members.{In, filter_map_in, in_at, map_in}
+use Rattle.flat_net.specs.private.Depth.{has_steps}
+use Rattle.flat_net.proofs.Deep.{no_circle}
+use Rattle.flat_net.proofs.Members.{In, filter_map_in, in_at, in_filter_map, in_get, map_in}
 
 -- without a fault of the one kind and of the others there is none
 pub else_free : (kind others : NetFault → Type 0) → IsFree kind → IsFree others → IsFree (Else kind others)
@@ -30,3 +33,26 @@ uses_low models k d low j e inner =
     let a = length-map models (λ model. model.name) in
     let b = length-map models (used_by models) in
     omega arith
+
+-- the uses of a model lead to the model that a use of it names
+pub use_leads : (models : List Model) (n place : ℕ) (model : Model) (item : Item) (used : UseLine) (k : ℕ) → slice_get models n ≡ Some model → slice_get model.items place ≡ Some item → use_of item ≡ Some used → number_named models used.model ≡ Some k → (step : ℕ) × (slice_get (get_or (uses models) n []) step ≡ Some k)
+use_leads models n place model item used k found at is names =
+    let line = in_filter_map use_of model.items item used (in_get model.items place item at) is in
+    let among = in_filter_map (λ u. number_named models u.model) (use_lines model) used k line names in
+    place_of (get_or (uses models) n []) k (subst (λ l. In l k) (sym (mapped models n found)) among)
+  where
+    mapped : (ms : List Model) (n : ℕ) → slice_get ms n ≡ Some model → get_or (map (used_by models) ms) n [] ≡ used_by models model
+    mapped [] n e = absurd (cc)
+    mapped (m ∷ ms) zero e = let same : m ≡ model = cc in ap (used_by models) same
+    mapped (m ∷ ms) (suc n) e = mapped ms n e
+
+    place_of : (xs : List ℕ) (x : ℕ) → In xs x → (step : ℕ) × (slice_get xs step ≡ Some x)
+    place_of [] x h = absurd h
+    place_of (y ∷ xs) x (inl e) = (0, ap Some e)
+    place_of (y ∷ xs) x (inr h) = let r = place_of xs x h in (suc r.0, r.1)
+
+-- where no 65 steps lead on from the top no line of a reachable model is recursive
+pub shallow_free : (models : List Model) → has_steps (uses models) 65 0 ≡ false → IsFree (HasRecursive models)
+shallow_free models short fault f =
+    let step = use_leads models f.number f.place f.line.model f.item f.faulty.used f.faulty.other f.line.found f.line.at f.faulty.is_use f.faulty.names in
+    no_circle (uses models) short f.number f.faulty.other step.0 f.line.reached step.1 f.faulty.returns

@@ -2,6 +2,8 @@
 #![tactic(auto)]
 
 mod checks;
+mod circles;
+mod depth;
 pub mod fault;
 pub mod flat;
 pub mod laws;
