@@ -1,14 +1,15 @@
 -- Kinds of fault in their order; and that uses are numbers of models.
-use Rattle.std.proofs.Common.{◌≡◌, ◌<◌, ℕ, zero, suc, false, List, [], ◌∷◌, length, map, None, Some, get_or, slice_get, arith, ap, sym, inl, inr, subst}
+use Rattle.std.proofs.Common.{◌≡◌, ◌<◌, ℕ, zero, suc, false, List, [], ◌∷◌, length, map, None, Option, Some, get_or, slice_get, arith, ap, refl, sym, ◌∙◌, inl, inr, subst}
 use Rattle.std.proofs.lemmas.List.{length-map}
 use Rattle.std.proofs.lemmas.List.Quantifiers.{position-Some}
-use Rattle.std.specs.Prelude.{bytes_eq}
+use Rattle.std.specs.Prelude.{◌⊎◌, bytes_eq, option_and_then, position}
 use Rattle.blif_syntax.specs.declared.models.Item.{Item}
 use Rattle.blif_syntax.specs.declared.models.Model.{Model}
 use Rattle.flat_net.specs.declared.fault.NetFault.{NetFault}
+use Rattle.flat_net.specs.declared.fault.NetFault.TheVariants.{OutOfMemory}
 use Rattle.flat_net.specs.Faults.{Else, HasDoubleModel, HasRecursive, IsFree, double_model}
-use Rattle.flat_net.specs.Instances.{model_names, number_named}
-use Rattle.flat_net.specs.Lines.{UseLine, use_lines, use_of}
+use Rattle.flat_net.specs.Instances.{model_named, model_names, number_named}
+use Rattle.flat_net.specs.Lines.{UseLine, formals_of, use_lines, use_of}
 use Rattle.flat_net.specs.Reach.{used_by, uses}
 use Rattle.flat_net.specs.private.Depth.{has_steps}
 use Rattle.flat_net.proofs.Deep.{no_circle}
@@ -18,6 +19,10 @@ use Rattle.flat_net.proofs.Members.{In, filter_map_in, in_at, in_filter_map, in_
 pub else_free : (kind others : NetFault → Type 0) → IsFree kind → IsFree others → IsFree (Else kind others)
 else_free kind others one two fault (inl h) = one fault h
 else_free kind others one two fault (inr h) = two fault h.1
+
+pub else_later : (kind others : NetFault → Type 0) → IsFree kind → (fault : NetFault) → (fault ≡ OutOfMemory) ⊎ others fault → (fault ≡ OutOfMemory) ⊎ Else kind others fault
+else_later kind others free fault (inl wanting) = inl wanting
+else_later kind others free fault (inr h) = inr (inr (free, h))
 
 pub double_free : (models : List Model) → double_model [] models ≡ None → IsFree (HasDoubleModel models)
 double_free models none fault some = absurd (cc)
@@ -56,3 +61,21 @@ pub shallow_free : (models : List Model) → has_steps (uses models) 65 0 ≡ fa
 shallow_free models short fault f =
     let step = use_leads models f.number f.place f.line.model f.item f.faulty.used f.faulty.other f.line.found f.line.at f.faulty.is_use f.faulty.names in
     no_circle (uses models) short f.number f.faulty.other step.0 f.line.reached step.1 f.faulty.returns
+
+-- what a check of a model's formals finds, where these are kept by number
+module _ {S : Type 0} (keys : S → List (List ℕ)) where
+  kept_at : (sets : List S) (models : List Model) (n : ℕ) (set : S) → map keys sets ≡ map formals_of models → n < length sets → set ≡ get_or sets n set → (model : Model) × (slice_get models n ≡ Some model) × (formals_of model ≡ keys set)
+  kept_at [] models n set e low at = absurd (omega arith)
+  kept_at (s ∷ sets) [] n set e low at = absurd (cc)
+  kept_at (s ∷ sets) (m ∷ models) zero set e low at =
+      let here : keys s ≡ formals_of m = cc in
+      (m, refl, sym here ∙ ap keys (sym at))
+  kept_at (s ∷ sets) (m ∷ models) (suc n) set e low at = kept_at sets models n set (cc) (omega arith) at
+
+  pub kept_check : (check : List (List ℕ) → Option NetFault) (sets : List S) (models : List Model) (names : List (List ℕ)) (name : List ℕ) (number : ℕ) (set : S) → map keys sets ≡ map formals_of models → names ≡ model_names models → position (bytes_eq name) names ≡ Some number → number < length sets → set ≡ get_or sets number set → check (keys set) ≡ option_and_then (λ model. check (formals_of model)) (model_named models name)
+  kept_check check sets models names name number set e all named low at =
+      let m = kept_at sets models number set e low at in
+      let found : number_named models name ≡ Some number = ap (λ ns. position (bytes_eq name) ns) (sym all) ∙ named in
+      ap check (sym m.2)
+      ∙ ap (λ o. option_and_then (λ model. check (formals_of model)) o) (sym m.1)
+      ∙ ap (λ o. option_and_then (λ model. check (formals_of model)) (option_and_then (slice_get models) o)) (sym found)

@@ -74,6 +74,11 @@ bad_formal formals bound (name ∷ names) =
     if not (is_one_of formals name) || is_one_of bound name then Some name
     else bad_formal formals (insert_key bytes_eq bound name) names
 
+-- the use binds a name that is none of these formals, or binds a formal twice
+abbrev pub bad_formal_among : List (List ℕ) → UseLine → Option NetFault
+bad_formal_among formals used =
+    option_map (λ name. BadFormal used.line name) (bad_formal formals [] (map (λ binding. binding.0) used.bindings))
+
 -- the use binds a name that is no formal of the model that it names, or binds a formal twice
 abbrev pub bad_formal_of : List Model → UseLine → Option NetFault
 bad_formal_of models used =
@@ -173,6 +178,9 @@ IsRefusal models =
     (Else (HasBadFormal models) (Else (HasMissingFormal models) (Else (HasGateTooWide models)
     (Else (HasTooDeep models) (Else (HasTooManyNodes models) (Else (HasDrivenTwice models) (HasMixedClocks models)))))))))
 
--- the fault among the kinds that are looked for so far
+-- the fault among the kinds that are looked for so far: those of uses behind a double model
+abbrev pub HasFaultyUse : List Model → NetFault → Type 0
+HasFaultyUse models = Else (HasUnknownModel models) (Else (HasRecursive models) (HasBadFormal models))
+
 abbrev pub IsRefusalSoFar : List Model → NetFault → Type 0
-IsRefusalSoFar models = Else (HasDoubleModel models) (HasUnknownModel models)
+IsRefusalSoFar models = Else (HasDoubleModel models) (HasFaultyUse models)

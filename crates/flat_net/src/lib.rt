@@ -6,6 +6,7 @@ mod circles;
 mod depth;
 pub mod fault;
 pub mod flat;
+mod formals;
 pub mod laws;
 mod lines;
 mod reach;
