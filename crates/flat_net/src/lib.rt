@@ -10,6 +10,8 @@ mod formals;
 pub mod laws;
 mod lines;
 mod reach;
+#[cfg(test)]
+mod refusal_tests;
 pub mod refusals;
 mod signals;
 mod supported;
