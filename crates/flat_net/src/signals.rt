@@ -2,7 +2,7 @@
 
 ghost use Rattle.std.specs.Prelude.{◌≡◌, OnOk, IfOk, bytes_eq, map};
 ghost use Rattle.indexmap.specs.IndexSet.{insert_key, insert_all};
-ghost use Rattle.flat_net.specs.Lines.{input_words, inputs_of, output_words, outputs_of, signal_words, signals};
+ghost use Rattle.flat_net.specs.Lines.{formal_words, formals_of, input_words, inputs_of, output_words, outputs_of, signal_words, signals};
 
 use blif_syntax::{Model, What};
 use indexmap::IndexSet;
@@ -89,6 +89,19 @@ fn add_outputs(set: &mut IndexSet<Name>, what: &What) -> Result<(), AllocError>
     }
 }
 
+/// Adds the words of a line that are formals.
+fn add_formals(set: &mut IndexSet<Name>, what: &What) -> Result<(), AllocError>
+    ensures { OnOk result (set.new.keys
+        ≡ insert_all bytes_eq set.old.keys (formal_words what.now)) }
+{
+    match what {
+        What::Inputs(names) | What::Clock(names) | What::Outputs(names) => {
+            add_all(set, names.as_slice())
+        }
+        _ => Ok(()),
+    }
+}
+
 /// The signals of a model, in the order of first mention.
 pub(crate) fn signals(alloc: Global, model: &Model) -> Result<IndexSet<Name>, AllocError>
     ensures { IfOk result (λ set. set.keys ≡ signals model.now) }
@@ -118,6 +131,17 @@ pub(crate) fn outputs_of(alloc: Global, model: &Model) -> Result<IndexSet<Name>,
     let mut set = IndexSet::new(alloc);
     for item in model.items.as_slice() {
         add_outputs(&mut set, &item.what)?;
+    }
+    Ok(set)
+}
+
+/// The formals of a model, in order, each once.
+pub(crate) fn formals_of(alloc: Global, model: &Model) -> Result<IndexSet<Name>, AllocError>
+    ensures { IfOk result (λ set. set.keys ≡ formals_of model.now) }
+{
+    let mut set = IndexSet::new(alloc);
+    for item in model.items.as_slice() {
+        add_formals(&mut set, &item.what)?;
     }
     Ok(set)
 }

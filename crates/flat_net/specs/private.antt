@@ -1,0 +1,4 @@
+-- Definitions that serve private functions.
+pub mod Checks
+pub mod Search
+pub mod Depth

@@ -1,0 +1,128 @@
+//! Netlists with what they are refused for, in one table; begin with `refusals`.
+
+ghost use Rattle.std.specs.Prelude.{◌≤◌, length};
+
+use crate::{NetFault, refuse};
+use blif_lines::logical_lines;
+use blif_syntax::read_models;
+use std::alloc::{AllocError, Global};
+use std::test::Fail;
+use ste_base::Name;
+
+/// Netlists, and what each is refused for: nothing, or the kind with the number of the line and the name.
+const TABLE: &[(&[u8], &[u8])] = &[
+    // One model, and a sound hierarchy.
+    (b".model m\n", b"nothing"),
+    (
+        b".model top\n.inputs a\n.outputs y\n.subckt mid a=a b=a y=m\n.subckt mid a=m b=a y=y\n.end\n\
+          .model mid\n.inputs a b\n.outputs y\n.subckt nor2 p=a q=b r=n\n.names n y\n0 1\n.end\n\
+          .model nor2\n.inputs p q\n.outputs r\n.names p q r\n00 1\n.end\n",
+        b"nothing",
+    ),
+    // A double model, reachable or not, before every other kind; the first in the file.
+    (b".model m\n.end\n.model m\n", b"double model 3 m"),
+    (b".model\n.end\n.model a\n.model\n", b"double model 4 "),
+    (
+        b".model m\n.subckt x\n.subckt m\n.end\n.model a\n.model b\n.model b\n.model a\n",
+        b"double model 7 b",
+    ),
+    // An unknown model, in reachable models alone, and before a recursive one.
+    (b".model m\n.subckt x a=b\n", b"unknown model 2 x"),
+    (b".model m\n.end\n.model n\n.subckt x\n", b"nothing"),
+    (
+        b".model m\n.subckt n\n.end\n.model k\n.subckt x\n.end\n.model n\n.subckt y\n.subckt z\n",
+        b"unknown model 8 y",
+    ),
+    (
+        b".model m\n.subckt m\n.subckt n\n.end\n.model n\n.subckt x\n",
+        b"unknown model 6 x",
+    ),
+    // A recursive model: the first line whose model leads back, not a line that leads into a circle.
+    (b".model m\n.subckt m\n", b"recursive model 2 m"),
+    (
+        b".model m\n.subckt n\n.end\n.model n\n.subckt k\n.subckt n\n.end\n.model k\n",
+        b"recursive model 6 n",
+    ),
+    (
+        b".model m\n.subckt a\n.end\n.model a\n.subckt b\n.end\n.model b\n.subckt c\n.subckt a\n.end\n.model c\n",
+        b"recursive model 5 b",
+    ),
+    (
+        b".model m\n.subckt a\n.end\n.model a\n.subckt m\n",
+        b"recursive model 2 a",
+    ),
+    (b".model m\n.end\n.model n\n.subckt n\n", b"nothing"),
+    (
+        b".model m\n.subckt n z=z\n.end\n.model n\n.subckt n\n",
+        b"recursive model 5 n",
+    ),
+    // A bad formal: none of the model's, or bound twice; those of `.clock` and `.outputs` lines are formals too.
+    (
+        b".model m\n.subckt n a=x z=y\n.end\n.model n\n.inputs a\n.names z\n",
+        b"bad formal 2 z",
+    ),
+    (
+        b".model m\n.subckt n a=x b=x c=x\n.end\n.model n\n.inputs a\n.outputs b\n.clock c\n",
+        b"nothing",
+    ),
+    (
+        b".model m\n.subckt n a=x b=x a=y q=z\n.end\n.model n\n.inputs a b\n",
+        b"bad formal 2 a",
+    ),
+    (
+        b".model m\n.subckt n a=x q=x a=y\n.end\n.model n\n.inputs a\n",
+        b"bad formal 2 q",
+    ),
+    (
+        b".model m\n.subckt k\n.end\n.model n\n.subckt k q=x\n.end\n.model k\n",
+        b"nothing",
+    ),
+    (
+        b".model m\n.subckt k\n.subckt n\n.end\n.model n\n.subckt k q=x\n.end\n.model k\n.inputs a\n",
+        b"bad formal 6 q",
+    ),
+];
+
+/// A kind with a line and a name.
+fn line_fault(alloc: Global, kind: &[u8], line: u32, name: &Name) -> Result<Vec<u8>, AllocError> {
+    let mut out = kind.to_vec(alloc)?;
+    out.extend_from_slice(format!(in alloc; " {line} ")?.as_bytes())?;
+    out.extend_from_slice(name.bytes())?;
+    Ok(out)
+}
+
+/// A fault as the table writes it.
+fn shown(alloc: Global, fault: &NetFault) -> Result<Vec<u8>, AllocError> {
+    match fault {
+        NetFault::DoubleModel { line, name } => line_fault(alloc, b"double model", *line, name),
+        NetFault::UnknownModel { line, name } => line_fault(alloc, b"unknown model", *line, name),
+        NetFault::Recursive { line, name } => line_fault(alloc, b"recursive model", *line, name),
+        NetFault::BadFormal { line, name } => line_fault(alloc, b"bad formal", *line, name),
+        _ => b"another kind".to_vec(alloc),
+    }
+}
+
+/// What a text is refused for.
+#[tactic(auto, using(blif_syntax::proofs::Fit::words_fit))]
+fn refusal(alloc: Global, text: &[u8]) -> Result<Vec<u8>, AllocError>
+    requires { length text.now ≤ 1000 }
+{
+    let lines = logical_lines(alloc, text)?;
+    let Ok(models) = read_models(alloc, lines.as_slice()) else {
+        return b"no models".to_vec(alloc);
+    };
+    match refuse(alloc, &models) {
+        Ok(()) => b"nothing".to_vec(alloc),
+        Err(fault) => shown(alloc, &fault),
+    }
+}
+
+#[test]
+fn refusals(rt: HostRuntime) -> Result<(), Fail> {
+    for (text, want) in TABLE {
+        assert!(rt; text.len() < 1000);
+        let got = refusal(rt.alloc(), text)?;
+        assert_eq!(rt; got.as_slice(), *want, "at {text:?}");
+    }
+    Ok(())
+}
