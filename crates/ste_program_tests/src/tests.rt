@@ -1,11 +1,11 @@
 //! What `run` writes and answers, on worked examples, faulty texts and failing files and sinks.
 
-use ste_program::io::{MemoryFiles, MemorySink};
-use ste_program::run::{Status, run};
 use std::alloc::{AllocError, Global};
 use std::process::Abort;
 use std::test::Fail;
 use ste_base::{NumberFault, read_number};
+use ste_program::io::{MemoryFiles, MemorySink};
+use ste_program::run::{Status, run};
 
 const INVERTER: &str = ".model inv\n.inputs a\n.outputs y\n.names a y\n0 1\n.end\n";
 
