@@ -1,0 +1,6 @@
+pub mod ReadBoth
+pub mod Texts
+pub mod Turn
+pub mod Faults
+pub mod Growth
+pub mod Whole

@@ -1,0 +1,188 @@
+-- One line more, and what is still to come.
+use Rattle.std.proofs.Common.{ℕ, suc, ◌+◌, ◌<◌, ◌≤◌, ◌≡◌, refl, ap, sym, subst, ◌∙◌, List, [], ◌∷◌, ◌++◌, map, length, get_or, drop, arith, Bool, true, false, Option, Some, None, Result, Ok, Err, length-append, append-nil}
+use Rattle.std.proofs.lemmas.List.{drop_more}
+use Rattle.blif_lines.specs.declared.lines.Line.{Line}
+use Rattle.bool_expr.specs.declared.expr.Expr.{Expr}
+use Rattle.bool_expr.specs.Tree.{tree_of}
+use Rattle.assert_syntax.specs.declared.draft.Draft.{Draft}
+use Rattle.assert_syntax.specs.declared.draft.OpenTask.{OpenTask}
+use Rattle.assert_syntax.specs.declared.draft.OpenTask.TheVariants.{Closed, Ste, Gste}
+use Rattle.assert_syntax.specs.declared.fault.TaskFault.{TaskFault}
+use Rattle.assert_syntax.specs.declared.fault.TaskFault.TheVariants.{BadLine, TooDeep, DoubleName, UnknownVar, TooMany, NoTask, OutOfMemory}
+use Rattle.assert_syntax.specs.declared.form.Clause.{Clause}
+use Rattle.assert_syntax.specs.declared.form.Entry.{Entry}
+use Rattle.assert_syntax.specs.declared.form.Form.{Form}
+use Rattle.assert_syntax.specs.declared.form.Form.TheVariants as form
+use Rattle.assert_syntax.specs.declared.form.LineFault.{LineFault}
+use Rattle.assert_syntax.specs.declared.form.LineFault.TheVariants.{Bad, Deep, Double, Unknown, Many}
+use Rattle.assert_syntax.specs.declared.tasks.RawTask.{RawTask}
+use Rattle.assert_syntax.specs.declared.tasks.RawTasks.{RawTasks}
+use Rattle.assert_syntax.specs.Answer.{entry_of, entries_of, IsAnswer}
+use Rattle.assert_syntax.specs.Parses.{Parse, IsParse, tree_over}
+use Rattle.assert_syntax.specs.Places.{Context, context_behind, context_of, fault_or, first_fault, form_fault, graph_fault, line_fault, may_stand, vertices_behind}
+use Rattle.assert_syntax.specs.Spelled.{task_tree, tasks_of, vars_with, vertex_number}
+use Rattle.assert_syntax.specs.private.Drafts.{HasRoom, IsFault, IsClauseRead, clause_added, edge_added, tasks_closed}
+use Rattle.assert_syntax.specs.private.Steps.{IsStep, IsCounted, finish, open_count}
+use Rattle.assert_syntax.proofs.Faults.{fault_from, same_fault, form_decides, bad_place, room_behind}
+use Rattle.assert_syntax.proofs.Growth.{edge_grows, clause_grows, closed}
+use Rattle.assert_syntax.proofs.Whole.{a_parse}
+
+-- nothing is left behind the last
+all_gone : {A : Type 0} (xs : List A) → drop (length xs) xs ≡ []
+all_gone [] = refl
+all_gone (x ∷ xs) = all_gone xs
+
+none_left : {A : Type 0} (xs : List A) (k : ℕ) → k ≡ length xs → drop k xs ≡ []
+none_left xs k same = rw same (all_gone xs)
+
+edge_counts : (c : Context) (task : OpenTask) (line from to : ℕ) → open_count (edge_added task line from to) ≡ open_count task
+edge_counts c Closed line from to = refl
+edge_counts c (Ste head name reset ant con) line from to = refl
+edge_counts c (Gste head name reset edges edge) line from to = refl
+
+clause_counts : (task : OpenTask) (line : ℕ) (clause : Clause) (value guard : Expr) → open_count (clause_added task line clause value guard) ≡ open_count task
+clause_counts Closed line clause value guard = refl
+clause_counts (Ste head name reset ant con) line clause value guard = refl
+clause_counts (Gste head name reset edges edge) line clause value guard = refl
+
+-- an edge more
+pub edge_step : (parse : Parse) (c new : Context) (draft : Draft) (line : ℕ) (from to : List ℕ) (a b : ℕ) (next : OpenTask) → graph_fault (vertices_behind (form.Edge from to) c.vertices) (suc c.edges) ≡ None → new ≡ context_behind c (form.Edge from to) → a ≡ vertex_number new.vertices from → b ≡ vertex_number new.vertices to → next ≡ edge_added draft.task line a b → IsStep parse c new draft (record { line = line; form = form.Edge from to }) (Ok (record { tasks = draft.tasks; task = next }))
+edge_step parse c new draft line from to a b next sound n x y t =
+    let vertices = vertices_behind (form.Edge from to) c.vertices in
+    let x2 : a ≡ vertex_number vertices from = x ∙ ap (λ (k : Context). vertex_number k.vertices from) n in
+    let y2 : b ≡ vertex_number vertices to = y ∙ ap (λ (k : Context). vertex_number k.vertices to) n in
+    let t2 : next ≡ edge_added draft.task line (vertex_number vertices from) (vertex_number vertices to) = t ∙ ap (λ k. edge_added draft.task line k b) x2 ∙ ap (edge_added draft.task line (vertex_number vertices from)) y2 in (
+      sound,
+      n,
+      λ rest. ap (λ k. finish parse k (record { tasks = draft.tasks; task = next }) rest) n
+          ∙ ap (λ k. finish parse (context_behind c (form.Edge from to)) (record { tasks = draft.tasks; task = k }) rest) t2
+          ∙ edge_grows parse c draft.tasks draft.task line from to rest,
+      λ h. let e : open_count next ≡ open_count draft.task = ap open_count t ∙ edge_counts c draft.task line a b in
+          let m : length new.names ≡ length c.names = ap (λ (k : Context). length k.names) n in
+          omega (arith, h, e, m),
+    )
+
+-- a clause more
+pub clause_step : (parse : Parse) (c : Context) (vars : List (List ℕ)) (draft : Draft) (line : ℕ) (clause : Clause) (both : Expr × Expr) (next : OpenTask) → vars ≡ c.vars → IsClauseRead vars (parse clause.value) (parse clause.guard) clause.span line (Ok both) → next ≡ clause_added draft.task line clause both.0 both.1 → IsStep parse c c draft (record { line = line; form = form.Clause clause }) (Ok (record { tasks = draft.tasks; task = next }))
+clause_step parse c vars draft line clause both next same told t =
+    let read : IsClauseRead c.vars (parse clause.value) (parse clause.guard) clause.span line (Ok both) = subst (λ vs. IsClauseRead vs (parse clause.value) (parse clause.guard) clause.span line (Ok both)) same told in (
+      read.0,
+      refl,
+      λ rest. ap (λ k. finish parse c (record { tasks = draft.tasks; task = k }) rest) t
+          ∙ clause_grows parse c draft.tasks draft.task line clause both.0 both.1 rest read.1 read.2,
+      λ h. let e : open_count next ≡ open_count draft.task = ap open_count t ∙ clause_counts draft.task line clause both.0 both.1 in omega (arith, h, e),
+    )
+
+-- what is still to come decides the first fault, the variables and the tasks
+abbrev pub Decide : Parse → Context → Draft → List Line → List Line → Type 0
+Decide parse context draft rest lines =
+    (fault_from parse context (entries_of rest) ≡ first_fault parse [] (entries_of lines))
+    × (vars_with context.vars (entries_of rest) ≡ vars_with [] (entries_of lines))
+    × (finish parse context draft (entries_of rest) ≡ tasks_of parse [] (entries_of lines))
+
+-- the same for all that texts spell; there is room, and each task has a name
+pub record Holds (context : Context) (draft : Draft) (rest lines : List Line) : Type 0 where
+  pub decide : (parse : Parse) → IsParse parse → Decide parse context draft rest lines
+  pub room : HasRoom context
+  pub counted : IsCounted context draft
+
+next_entry : (lines : List Line) (i : ℕ) (line : Line) (entry : Entry) → i < length lines → line ≡ get_or lines i line → entry ≡ entry_of line → entries_of (drop i lines) ≡ entry ∷ entries_of (drop (i + 1) lines)
+next_entry lines i line entry h g e = ap entries_of (drop_more lines i line h) ∙ ap (λ y. y ∷ entries_of (drop (i + 1) lines)) (ap entry_of (sym g) ∙ sym e)
+
+-- the first fault, where this line has one
+found_here : (parse : Parse) (c : Context) (entry : Entry) (later : List Entry) (found : Option LineFault) → line_fault parse c entry.form ≡ found → fault_from parse c (entry ∷ later) ≡ fault_or entry.line found (fault_from parse (context_behind c entry.form) later)
+found_here parse c entry later found e = ap (λ f. fault_or entry.line f (fault_from parse (context_behind c entry.form) later)) e
+
+-- a line without a fault
+pub read_turn : (lines : List Line) (i : ℕ) (line : Line) (entry : Entry) (c new : Context) (draft next : Draft) (answer : Result Draft TaskFault) → i < length lines → line ≡ get_or lines i line → entry ≡ entry_of line → may_stand entry.form c.place ≡ true → ((parse : Parse) → IsParse parse → IsStep parse c new draft entry answer) → answer ≡ Ok next → Holds c draft (drop i lines) lines → Holds new next (drop (i + 1) lines) lines
+read_turn lines i line entry c new draft next answer h g e may told ok inv =
+    let step : (parse : Parse) → IsParse parse → IsStep parse c new draft entry (Ok next) = λ parse is. subst (IsStep parse c new draft entry) ok (told parse is) in
+    let rest = entries_of (drop (i + 1) lines) in
+    let here : entries_of (drop i lines) ≡ entry ∷ rest = next_entry lines i line entry h g e in
+    let one = step a_parse.0 a_parse.1 in
+    let room : HasRoom (context_behind c entry.form) = room_behind a_parse.0 c entry.form one.0 inv.room in
+    record {
+      decide = λ parse is.
+          let s = step parse is in
+          let d = inv.decide parse is in (
+            ap (λ k. fault_from parse k rest) s.1 ∙ sym (found_here parse c entry rest None (form_decides parse c entry.form None may s.0)) ∙ sym (ap (fault_from parse c) here) ∙ d.0,
+            ap (λ (k : Context). vars_with k.vars rest) s.1 ∙ sym (ap (vars_with c.vars) here) ∙ d.1,
+            s.2 rest ∙ sym (ap (finish parse c draft) here) ∙ d.2,
+          );
+      room = subst HasRoom (sym one.1) room;
+      counted = one.3 inv.counted;
+    }
+
+-- before the first line
+pub read_begin : (lines : List Line) (c : Context) (tasks : List RawTask) → c ≡ context_of [] → tasks ≡ [] → Holds c (record { tasks = tasks; task = Closed }) lines lines
+read_begin lines c tasks e t = record {
+  decide = λ parse is. (
+    ap (λ k. fault_from parse k (entries_of lines)) e ∙ sym (same_fault parse [] (entries_of lines)),
+    ap (λ (k : Context). vars_with k.vars (entries_of lines)) e,
+    ap (λ k. finish parse k (record { tasks = tasks; task = Closed }) (entries_of lines)) e ∙ ap (λ ts. finish parse (context_of []) (record { tasks = ts; task = Closed }) (entries_of lines)) t,
+  );
+  room = subst HasRoom (sym e) (record { vars = omega arith; names = omega arith; vertices = omega arith; edges = omega arith });
+  counted = let m : length tasks ≡ 0 = ap length t in omega (arith, m);
+}
+
+-- what is wrong with the first faulty line is the answer
+answer_of : (parse : Parse) (all : List Entry) (line : ℕ) (found : Option LineFault) (later : Option (ℕ × LineFault)) (fault : TaskFault) → first_fault parse [] all ≡ fault_or line found later → IsFault line found fault → IsAnswer parse all (Err fault)
+answer_of parse all line found later (BadLine n) e h = e ∙ ap (λ f. fault_or line f later) h.1 ∙ ap (λ k. Some (k, Bad)) (sym h.0)
+answer_of parse all line found later (TooDeep n) e h = e ∙ ap (λ f. fault_or line f later) h.1 ∙ ap (λ k. Some (k, Deep)) (sym h.0)
+answer_of parse all line found later (DoubleName n name) e h = e ∙ ap (λ f. fault_or line f later) h.1 ∙ ap (λ k. Some (k, Double name)) (sym h.0)
+answer_of parse all line found later (UnknownVar n name) e h = e ∙ ap (λ f. fault_or line f later) h.1 ∙ ap (λ k. Some (k, Unknown name)) (sym h.0)
+answer_of parse all line found later (TooMany n) e h = e ∙ ap (λ f. fault_or line f later) h.1 ∙ ap (λ k. Some (k, Many)) (sym h.0)
+answer_of parse all line found later NoTask e h = absurd h
+answer_of parse all line found later OutOfMemory e h = tt
+
+-- the first fault is that of this line
+here_is : (parse : Parse) (lines : List Line) (i : ℕ) (line : Line) (entry : Entry) (c : Context) (draft : Draft) (found : Option LineFault) → i < length lines → line ≡ get_or lines i line → entry ≡ entry_of line → line_fault parse c entry.form ≡ found → Decide parse c draft (drop i lines) lines → first_fault parse [] (entries_of lines) ≡ fault_or entry.line found (fault_from parse (context_behind c entry.form) (entries_of (drop (i + 1) lines)))
+here_is parse lines i line entry c draft found h g e f d =
+    sym d.0 ∙ ap (fault_from parse c) (next_entry lines i line entry h g e) ∙ found_here parse c entry (entries_of (drop (i + 1) lines)) found f
+
+-- a line that may not stand where it does
+pub bad_answer : (lines : List Line) (i : ℕ) (line : Line) (entry : Entry) (c : Context) (draft : Draft) → i < length lines → line ≡ get_or lines i line → entry ≡ entry_of line → may_stand entry.form c.place ≡ false → Holds c draft (drop i lines) lines → (parse : Parse) → IsParse parse → IsAnswer parse (entries_of lines) (Err (BadLine entry.line))
+bad_answer lines i line entry c draft h g e may inv parse is =
+    here_is parse lines i line entry c draft (Some Bad) h g e (bad_place parse c entry.form may) (inv.decide parse is)
+
+-- a line with another fault
+pub fault_answer : (lines : List Line) (i : ℕ) (line : Line) (entry : Entry) (c new : Context) (draft : Draft) (fault : TaskFault) (answer : Result Draft TaskFault) → i < length lines → line ≡ get_or lines i line → entry ≡ entry_of line → may_stand entry.form c.place ≡ true → ((parse : Parse) → IsParse parse → IsStep parse c new draft entry answer) → answer ≡ Err fault → Holds c draft (drop i lines) lines → (parse : Parse) → IsParse parse → IsAnswer parse (entries_of lines) (Err fault)
+fault_answer lines i line entry c new draft fault answer h g e may told err inv parse is =
+    let found = form_fault parse c entry.form in
+    answer_of parse (entries_of lines) entry.line found _ fault
+    (here_is parse lines i line entry c draft found h g e (form_decides parse c entry.form found may refl) (inv.decide parse is)) (subst (IsStep parse c new draft entry) err (told parse is))
+
+-- all lines are read
+pub all_read : (lines : List Line) (i : ℕ) (c : Context) (draft : Draft) (tasks : List RawTask) (vertices : List (List ℕ)) → i ≡ length lines → vertices ≡ c.vertices → tasks ≡ tasks_closed draft.tasks draft.task vertices → Holds c draft (drop i lines) lines → (parse : Parse) → IsParse parse → (first_fault parse [] (entries_of lines) ≡ None) × (c.vars ≡ vars_with [] (entries_of lines)) × (map task_tree tasks ≡ tasks_of parse [] (entries_of lines))
+all_read lines i c draft tasks vertices n v told inv parse is =
+    let t : tasks ≡ tasks_closed draft.tasks draft.task c.vertices = told ∙ ap (tasks_closed draft.tasks draft.task) v in
+    let gone : entries_of (drop i lines) ≡ [] = ap entries_of (none_left lines i n) in
+    let d = inv.decide parse is in (
+      sym d.0 ∙ ap (fault_from parse c) gone,
+      sym (ap (vars_with c.vars) gone) ∙ d.1,
+      ap (map task_tree) t ∙ sym (append-nil (map task_tree (tasks_closed draft.tasks draft.task c.vertices))) ∙ closed parse c.vars c.vertices draft.tasks draft.task [] ∙ sym (ap (finish parse c draft) gone) ∙ d.2,
+    )
+
+few_closed : (tasks : List RawTask) (task : OpenTask) (vertices : List (List ℕ)) → length (tasks_closed tasks task vertices) ≡ length tasks + open_count task
+few_closed tasks Closed vertices = omega arith
+few_closed tasks (Ste head name reset ant con) vertices = length-append tasks _
+few_closed tasks (Gste head name reset edges edge) vertices = length-append tasks _
+
+-- there are no more tasks than there may be
+pub few_tasks : (c : Context) (draft : Draft) (tasks : List RawTask) (vertices : List (List ℕ)) (rest lines : List Line) → tasks ≡ tasks_closed draft.tasks draft.task vertices → Holds c draft rest lines → length tasks ≤ 256
+few_tasks c draft tasks vertices rest lines t inv =
+    let e : length tasks ≡ length draft.tasks + open_count draft.task = ap length t ∙ few_closed draft.tasks draft.task vertices in
+    omega (arith, e, inv.counted, inv.room.names)
+
+-- no task is spelled where none is read
+pub none_read : (parse : Parse) (all : List Entry) (tasks : List RawTask) → length tasks ≡ 0 → map task_tree tasks ≡ tasks_of parse [] all → tasks_of parse [] all ≡ []
+none_read parse all [] z e = sym e
+none_read parse all (task ∷ tasks) z e = absurd (omega (arith, z))
+
+-- an answer by whatever the texts spell is one by what they do spell
+pub caused : (all : List Entry) (answer : Result RawTasks TaskFault) → ((parse : Parse) → IsParse parse → IsAnswer parse all answer) → (parse : Parse) × IsParse parse × IsAnswer parse all answer
+caused all answer exact = (a_parse.0, a_parse.1, exact a_parse.0 a_parse.1)
+
+-- a line by its form
+pub at_form : (parse : Parse) (old new : Context) (draft : Draft) (entry : Entry) (form : Form) (answer : Result Draft TaskFault) → entry.form ≡ form → IsStep parse old new draft (record { line = entry.line; form = form }) answer → IsStep parse old new draft entry answer
+at_form parse old new draft entry form answer e step = subst (λ f. IsStep parse old new draft (record { line = entry.line; form = f }) answer) (sym e) step

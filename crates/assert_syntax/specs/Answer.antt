@@ -1,0 +1,34 @@
+-- Meaning. What a task file's lines are answered with.
+use Rattle.std.specs.Prelude.{◌≡◌, ℕ, [], List, map, Some, None, Result, Ok, Err}
+use Rattle.blif_lines.specs.declared.lines.Line.{Line}
+use Rattle.assert_syntax.specs.declared.fault.TaskFault.{TaskFault}
+use Rattle.assert_syntax.specs.declared.fault.TaskFault.TheVariants.{BadLine, TooDeep, DoubleName, UnknownVar, TooMany, NoTask, OutOfMemory}
+use Rattle.assert_syntax.specs.declared.form.Entry.{Entry}
+use Rattle.assert_syntax.specs.declared.form.LineFault.{LineFault}
+use Rattle.assert_syntax.specs.declared.form.LineFault.TheVariants.{Bad, Deep, Double, Unknown, Many}
+use Rattle.assert_syntax.specs.declared.tasks.RawTasks.{RawTasks}
+use Rattle.assert_syntax.specs.Forms.{form_of}
+use Rattle.assert_syntax.specs.Parses.{Parse}
+use Rattle.assert_syntax.specs.Places.{first_fault}
+use Rattle.assert_syntax.specs.Spelled.{task_tree, tasks_of, vars_with}
+
+-- a line with its form
+abbrev pub entry_of : Line → Entry
+entry_of line = record { line = line.number; form = form_of line.words }
+
+-- lines with their forms
+abbrev pub entries_of : List Line → List Entry
+entries_of lines = map entry_of lines
+
+-- The answer on these lines: the variables and the tasks that they spell, or the fault of the first faulty line, or that
+-- there is no task, or want of memory.
+abbrev pub IsAnswer : Parse → List Entry → Result RawTasks TaskFault → Type 0
+IsAnswer parse lines (Ok raw) =
+    (first_fault parse [] lines ≡ None) × (raw.vars ≡ vars_with [] lines) × (map task_tree raw.tasks ≡ tasks_of parse [] lines)
+IsAnswer parse lines (Err (BadLine line)) = first_fault parse [] lines ≡ Some (line, Bad)
+IsAnswer parse lines (Err (TooDeep line)) = first_fault parse [] lines ≡ Some (line, Deep)
+IsAnswer parse lines (Err (DoubleName line name)) = first_fault parse [] lines ≡ Some (line, Double name)
+IsAnswer parse lines (Err (UnknownVar line name)) = first_fault parse [] lines ≡ Some (line, Unknown name)
+IsAnswer parse lines (Err (TooMany line)) = first_fault parse [] lines ≡ Some (line, Many)
+IsAnswer parse lines (Err NoTask) = (first_fault parse [] lines ≡ None) × (tasks_of parse [] lines ≡ [])
+IsAnswer parse lines (Err OutOfMemory) = Unit {0}

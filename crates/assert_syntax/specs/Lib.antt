@@ -1,0 +1,7 @@
+pub mod Words
+pub mod Forms
+pub mod Parses
+pub mod Places
+pub mod Spelled
+pub mod Answer
+pub mod private

@@ -1,0 +1,182 @@
+-- Meaning. The tasks that lines spell, with trees for expressions; what belongs to a line is read from the lines behind it.
+use Rattle.std.specs.Prelude.{ℕ, ◌∷◌, [], List, length, map, Bool, true, false, if◌then◌else◌, unwrap_or, bytes_eq}
+use Rattle.std.specs.List.{position}
+use Rattle.bool_expr.specs.Tree.{Tree, tree_of}
+use Rattle.assert_syntax.specs.declared.form.Clause.{Clause}
+use Rattle.assert_syntax.specs.declared.form.Entry.{Entry}
+use Rattle.assert_syntax.specs.declared.form.Form.{Form}
+use Rattle.assert_syntax.specs.declared.form.Form.TheVariants as form
+use Rattle.assert_syntax.specs.declared.form.Side.{Side}
+use Rattle.assert_syntax.specs.declared.form.Side.TheVariants.{Antecedent, Consequent}
+use Rattle.assert_syntax.specs.declared.form.Span.{Span}
+use Rattle.assert_syntax.specs.declared.form.Span.TheVariants as span
+use Rattle.assert_syntax.specs.declared.tasks.RawBind.{RawBind}
+use Rattle.assert_syntax.specs.declared.tasks.RawEdge.{RawEdge}
+use Rattle.assert_syntax.specs.declared.tasks.RawQuint.{RawQuint}
+use Rattle.assert_syntax.specs.declared.tasks.RawTask.{RawTask}
+use Rattle.assert_syntax.specs.declared.tasks.RawTask.TheVariants.{Ste, Gste}
+use Rattle.assert_syntax.specs.Parses.{Parse, tree_over}
+use Rattle.assert_syntax.specs.Places.{vars_behind, vertices_behind}
+
+-- a quintuple, with trees for its expressions
+pub record QuintTree : Type 0 where
+  pub line : ℕ
+  pub guard : Tree
+  pub node : List ℕ
+  pub value : Tree
+  pub from : ℕ
+  pub to : ℕ
+
+-- a binding without times, with trees for its expressions
+pub record BindTree : Type 0 where
+  pub line : ℕ
+  pub guard : Tree
+  pub node : List ℕ
+  pub value : Tree
+
+-- an edge, with trees for its expressions
+pub record EdgeTree : Type 0 where
+  pub line : ℕ
+  pub from : ℕ
+  pub to : ℕ
+  pub ant : List BindTree
+  pub con : List BindTree
+
+-- a task, with trees for its expressions
+pub data TaskTree : Type 0 where
+  -- line, name, reset, antecedent and consequent
+  assertion : ℕ → List ℕ → Bool → List QuintTree → List QuintTree → TaskTree
+  -- line, name, reset, vertices and edges
+  graph : ℕ → List ℕ → Bool → List (List ℕ) → List EdgeTree → TaskTree
+
+-- the trees of what is read
+abbrev pub quint_tree : RawQuint → QuintTree
+quint_tree quint = record { line = quint.line; guard = tree_of quint.guard; node = quint.node; value = tree_of quint.value; from = quint.from; to = quint.to }
+
+abbrev pub bind_tree : RawBind → BindTree
+bind_tree bind = record { line = bind.line; guard = tree_of bind.guard; node = bind.node; value = tree_of bind.value }
+
+abbrev pub edge_tree : RawEdge → EdgeTree
+edge_tree edge = record { line = edge.line; from = edge.from; to = edge.to; ant = map bind_tree edge.ant; con = map bind_tree edge.con }
+
+abbrev pub task_tree : RawTask → TaskTree
+task_tree (Ste line name reset ant con) = assertion line name reset (map quint_tree ant) (map quint_tree con)
+task_tree (Gste line name reset vertices edges) = graph line name reset vertices (map edge_tree edges)
+
+-- the two times of a clause; without times both are 0
+abbrev pub from_of : Span → ℕ
+from_of (span.During from to) = from
+from_of other = 0
+
+abbrev pub to_of : Span → ℕ
+to_of (span.During from to) = to
+to_of other = 0
+
+-- the clause of a line as a quintuple, over these variables
+abbrev pub quint_said : Parse → List (List ℕ) → ℕ → Clause → QuintTree
+quint_said parse vars line clause = record {
+  line = line;
+  guard = tree_over vars (parse clause.guard);
+  node = clause.node;
+  value = tree_over vars (parse clause.value);
+  from = from_of clause.span;
+  to = to_of clause.span;
+}
+
+-- the clause of a line as a binding without times, over these variables
+abbrev pub bind_said : Parse → List (List ℕ) → ℕ → Clause → BindTree
+bind_said parse vars line clause = record {
+  line = line;
+  guard = tree_over vars (parse clause.guard);
+  node = clause.node;
+  value = tree_over vars (parse clause.value);
+}
+
+-- both are the same side
+abbrev pub is_side : Side → Side → Bool
+is_side Antecedent Antecedent = true
+is_side Consequent Consequent = true
+is_side other side = false
+
+-- the quintuples of one side up to the next line that starts a task
+abbrev pub quints_with : Parse → Side → List (List ℕ) → ℕ → Form → List QuintTree → List QuintTree
+quints_with parse side vars line (form.Clause clause) later =
+    if is_side side clause.side then quint_said parse vars line clause ∷ later else later
+quints_with parse side vars line (form.Ste name reset) later = []
+quints_with parse side vars line (form.Gste name vertex reset) later = []
+quints_with parse side vars line other later = later
+
+abbrev pub quints_of : Parse → Side → List (List ℕ) → List Entry → List QuintTree
+quints_of parse side vars [] = []
+quints_of parse side vars (line ∷ lines) =
+    quints_with parse side vars line.line line.form (quints_of parse side (vars_behind line.form vars) lines)
+
+-- the bindings of one side up to the next line that starts an edge or a task
+abbrev pub binds_with : Parse → Side → List (List ℕ) → ℕ → Form → List BindTree → List BindTree
+binds_with parse side vars line (form.Clause clause) later =
+    if is_side side clause.side then bind_said parse vars line clause ∷ later else later
+binds_with parse side vars line (form.Edge from to) later = []
+binds_with parse side vars line (form.Ste name reset) later = []
+binds_with parse side vars line (form.Gste name vertex reset) later = []
+binds_with parse side vars line other later = later
+
+abbrev pub binds_of : Parse → Side → List (List ℕ) → List Entry → List BindTree
+binds_of parse side vars [] = []
+binds_of parse side vars (line ∷ lines) =
+    binds_with parse side vars line.line line.form (binds_of parse side (vars_behind line.form vars) lines)
+
+-- the number of a vertex: its place among the vertices
+abbrev pub vertex_number : List (List ℕ) → List ℕ → ℕ
+vertex_number vertices word = unwrap_or (position (bytes_eq word) vertices) (length vertices)
+
+-- the vertices with those that are mentioned up to the next line that starts a task
+abbrev pub vertices_with : Form → List (List ℕ) → List (List ℕ) → List (List ℕ)
+vertices_with (form.Ste name reset) vertices later = vertices
+vertices_with (form.Gste name vertex reset) vertices later = vertices
+vertices_with other vertices later = later
+
+abbrev pub vertices_of : List (List ℕ) → List Entry → List (List ℕ)
+vertices_of vertices [] = vertices
+vertices_of vertices (line ∷ lines) = vertices_with line.form vertices (vertices_of (vertices_behind line.form vertices) lines)
+
+-- the edge of a line between these vertices, with the clauses of the lines behind it
+abbrev pub edge_said : Parse → List (List ℕ) → List (List ℕ) → ℕ → List ℕ → List ℕ → List Entry → EdgeTree
+edge_said parse vars vertices line from to lines = record {
+  line = line;
+  from = vertex_number vertices from;
+  to = vertex_number vertices to;
+  ant = binds_of parse Antecedent vars lines;
+  con = binds_of parse Consequent vars lines;
+}
+
+-- the edges up to the next line that starts a task, behind these vertices
+abbrev pub edges_with : Parse → List (List ℕ) → List (List ℕ) → ℕ → Form → List Entry → List EdgeTree → List EdgeTree
+edges_with parse vars vertices line (form.Edge from to) lines later =
+    edge_said parse vars (vertices_behind (form.Edge from to) vertices) line from to lines ∷ later
+edges_with parse vars vertices line (form.Ste name reset) lines later = []
+edges_with parse vars vertices line (form.Gste name vertex reset) lines later = []
+edges_with parse vars vertices line other lines later = later
+
+abbrev pub edges_of : Parse → List (List ℕ) → List (List ℕ) → List Entry → List EdgeTree
+edges_of parse vars vertices [] = []
+edges_of parse vars vertices (line ∷ lines) =
+    edges_with parse vars vertices line.line line.form lines
+    (edges_of parse (vars_behind line.form vars) (vertices_behind line.form vertices) lines)
+
+-- a task for each line that starts one, behind lines that declare these variables
+abbrev pub tasks_with : Parse → List (List ℕ) → ℕ → Form → List Entry → List TaskTree → List TaskTree
+tasks_with parse vars line (form.Ste name reset) lines later =
+    assertion line name reset (quints_of parse Antecedent vars lines) (quints_of parse Consequent vars lines) ∷ later
+tasks_with parse vars line (form.Gste name vertex reset) lines later =
+    graph line name reset (vertices_of (vertex ∷ []) lines) (edges_of parse vars (vertex ∷ []) lines) ∷ later
+tasks_with parse vars line other lines later = later
+
+abbrev pub tasks_of : Parse → List (List ℕ) → List Entry → List TaskTree
+tasks_of parse vars [] = []
+tasks_of parse vars (line ∷ lines) =
+    tasks_with parse vars line.line line.form lines (tasks_of parse (vars_behind line.form vars) lines)
+
+-- the variables with those that the lines declare
+abbrev pub vars_with : List (List ℕ) → List Entry → List (List ℕ)
+vars_with vars [] = vars
+vars_with vars (line ∷ lines) = vars_with (vars_behind line.form vars) lines

@@ -1,0 +1,3 @@
+-- Definitions that serve private functions.
+pub mod Drafts
+pub mod Steps

@@ -1,0 +1,55 @@
+-- For private functions. What a line adds to what is read, said by what is still to come.
+use Rattle.std.specs.Prelude.{◌≡◌, ◌≤◌, ℕ, ◌+◌, ◌++◌, ◌∷◌, [], List, length, map, Option, Some, None, Result, Ok, Err}
+use Rattle.assert_syntax.specs.declared.draft.Draft.{Draft}
+use Rattle.assert_syntax.specs.declared.draft.OpenTask.{OpenTask}
+use Rattle.assert_syntax.specs.declared.draft.OpenTask.TheVariants.{Closed, Ste, Gste}
+use Rattle.assert_syntax.specs.declared.fault.TaskFault.{TaskFault}
+use Rattle.assert_syntax.specs.declared.form.Entry.{Entry}
+use Rattle.assert_syntax.specs.declared.form.Side.TheVariants.{Antecedent, Consequent}
+use Rattle.assert_syntax.specs.declared.tasks.RawEdge.{RawEdge}
+use Rattle.assert_syntax.specs.Parses.{Parse}
+use Rattle.assert_syntax.specs.Places.{Context, context_behind, form_fault}
+use Rattle.assert_syntax.specs.Spelled.{TaskTree, EdgeTree, assertion, graph, bind_tree, edge_tree, quint_tree, task_tree, binds_of, edges_of, quints_of, tasks_of, vertices_of}
+use Rattle.assert_syntax.specs.private.Drafts.{IsFault}
+
+-- the open edge with the bindings to come
+abbrev pub grown_edge : Parse → List (List ℕ) → Option RawEdge → List Entry → List EdgeTree
+grown_edge parse vars None rest = []
+grown_edge parse vars (Some edge) rest = record {
+  line = edge.line;
+  from = edge.from;
+  to = edge.to;
+  ant = map bind_tree edge.ant ++ binds_of parse Antecedent vars rest;
+  con = map bind_tree edge.con ++ binds_of parse Consequent vars rest;
+} ∷ []
+
+-- the open task with all that still belongs to it
+abbrev pub grown : Parse → List (List ℕ) → List (List ℕ) → OpenTask → List Entry → List TaskTree
+grown parse vars vertices Closed rest = []
+grown parse vars vertices (Ste head name reset ant con) rest =
+    assertion head name reset (map quint_tree ant ++ quints_of parse Antecedent vars rest) (map quint_tree con ++ quints_of parse Consequent vars rest) ∷ []
+grown parse vars vertices (Gste head name reset edges edge) rest =
+    graph head name reset (vertices_of vertices rest)
+    (map edge_tree edges ++ (grown_edge parse vars edge rest ++ edges_of parse vars vertices rest)) ∷ []
+
+-- the tasks that are read, the open one with what still belongs to it, and the later ones
+abbrev pub finish : Parse → Context → Draft → List Entry → List TaskTree
+finish parse context draft rest =
+    map task_tree draft.tasks ++ (grown parse context.vars context.vertices draft.task rest ++ tasks_of parse context.vars rest)
+
+-- the number of open tasks
+abbrev pub open_count : OpenTask → ℕ
+open_count Closed = 0
+open_count other = 1
+
+-- each task has a name
+abbrev pub IsCounted : Context → Draft → Type 0
+IsCounted context draft = length draft.tasks + open_count draft.task ≤ length context.names
+
+-- what a line that may stand where it does is answered with, between these two contexts
+abbrev pub IsStep : Parse → Context → Context → Draft → Entry → Result Draft TaskFault → Type 0
+IsStep parse old new draft entry (Ok next) =
+    (form_fault parse old entry.form ≡ None) × (new ≡ context_behind old entry.form)
+    × ((rest : List Entry) → finish parse new next rest ≡ finish parse old draft (entry ∷ rest))
+    × (IsCounted old draft → IsCounted new next)
+IsStep parse old new draft entry (Err fault) = IsFault entry.line (form_fault parse old entry.form) fault

@@ -1,0 +1,62 @@
+//! The expressions of a clause; begin with `exprs_of`.
+
+ghost use Rattle.std.specs.Prelude.{◌≡◌, ◌<◌, ◌^◌, length};
+ghost use Rattle.assert_syntax.specs.Parses.{Parse, IsParse};
+ghost use Rattle.assert_syntax.specs.private.Drafts.{IsRead, both_read, IsClauseRead};
+
+use crate::fault::TaskFault;
+use crate::form::{Clause, Span};
+use bool_expr::{Expr, ExprFault, read_expr};
+use std::alloc::Global;
+use ste_base::Name;
+
+/// Reads the text of an expression over these variables.
+#[tactic(auto, using(crate::proofs::ReadBoth::read_as))]
+fn expr_of(alloc: Global, text: &[u8], vars: &[Name]) -> Result<Expr, ExprFault>
+    requires { length vars.now < 2 ^ 32 }
+    ensures { (parse : Parse) → IsParse parse → IsRead vars.now (parse text.now) result }
+{
+    read_expr(alloc, text, vars)
+}
+
+/// The expressions of a clause, or its fault, by what its value and its guard are read as.
+fn both_read(
+    line: u32,
+    value: Result<Expr, ExprFault>,
+    guard: Result<Expr, ExprFault>,
+    span: Span,
+) -> Result<(Expr, Expr), TaskFault>
+    ensures { result ≡ both_read line value guard span }
+{
+    match (value, guard) {
+        (Err(ExprFault::OutOfMemory), _) => Err(TaskFault::OutOfMemory),
+        (_, Err(ExprFault::OutOfMemory)) => Err(TaskFault::OutOfMemory),
+        (Err(ExprFault::BadExpr), _) => Err(TaskFault::BadLine { line }),
+        (_, Err(ExprFault::BadExpr)) => Err(TaskFault::BadLine { line }),
+        (Err(ExprFault::TooDeep), _) => Err(TaskFault::TooDeep { line }),
+        (_, Err(ExprFault::TooDeep)) => Err(TaskFault::TooDeep { line }),
+        (Err(ExprFault::UnknownVar { name }), _) => Err(TaskFault::UnknownVar { line, name }),
+        (_, Err(ExprFault::UnknownVar { name })) => Err(TaskFault::UnknownVar { line, name }),
+        (Ok(value), Ok(guard)) => match span {
+            Span::Late => Err(TaskFault::TooMany { line }),
+            _ => Ok((value, guard)),
+        },
+    }
+}
+
+/// The expressions of the value and of the guard of a clause on the line of this number.
+#[tactic(auto, using(crate::proofs::ReadBoth::clause_read))]
+pub fn exprs_of(
+    alloc: Global,
+    line: u32,
+    vars: &[Name],
+    clause: &Clause,
+) -> Result<(Expr, Expr), TaskFault>
+    requires { length vars.now < 2 ^ 32 }
+    ensures { (parse : Parse) → IsParse parse → IsClauseRead vars.now (parse clause.now.value)
+        (parse clause.now.guard) clause.now.span line result }
+{
+    let value = expr_of(alloc, clause.value.bytes(), vars);
+    let guard = expr_of(alloc, clause.guard.bytes(), vars);
+    both_read(line, value, guard, clause.span)
+}

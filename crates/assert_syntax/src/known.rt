@@ -1,0 +1,221 @@
+//! What is known of the lines that are read; begin with `Known`.
+
+ghost use Rattle.std.specs.Prelude.{◌≡◌, ◌≤◌, ◌<◌, ◌^◌, ◌++◌, ◌∷◌, [], suc, length, Bool, true, not, Some, None, OnOk, IfOk, IfErr, IfNone, bytes_eq};
+ghost use Rattle.std.specs.List.{list_any};
+ghost use Rattle.assert_syntax.specs.declared.form.Form.TheVariants as form;
+ghost use Rattle.assert_syntax.specs.Places.{context_of, context_behind, first_double, names_fault, graph_fault, vertices_behind};
+ghost use Rattle.assert_syntax.specs.Spelled.{vertex_number};
+ghost use Rattle.assert_syntax.specs.private.Drafts.{context_held, IsFault};
+
+use crate::fault::TaskFault;
+use crate::place::Place;
+use indexmap::IndexSet;
+use std::alloc::{AllocError, Global};
+use ste_base::Name;
+
+/// The greatest number of variables.
+const MAX_VARS: usize = 1_000;
+
+/// The greatest number of tasks.
+const MAX_TASKS: usize = 256;
+
+/// The greatest number of vertices of a graph.
+const MAX_VERTICES: usize = 1_000;
+
+/// The greatest number of edges of a graph.
+const MAX_EDGES: u32 = 10_000;
+
+/// What is known of the lines that are read: the place behind them, the variables, the names of the tasks, and the
+/// vertices and the number of edges of the last graph.
+#[derive(Drop)]
+pub struct Known {
+    pub place: Place,
+    pub vars: IndexSet<Name>,
+    pub names: IndexSet<Name>,
+    pub vertices: IndexSet<Name>,
+    pub edges: u32,
+}
+
+/// Adds a name; false where it is there already.
+fn add_name(set: &mut IndexSet<Name>, name: &Name) -> Result<bool, AllocError>
+    ensures fresh { IfOk result (λ fresh. fresh ≡ not (list_any (bytes_eq name.now) set.old.keys)) }
+    ensures keys { IfOk result (λ fresh. fresh ≡ true → set.new.keys ≡ set.old.keys ++ name.now ∷ []) }
+{
+    if set.contains(name) {
+        return Ok(false);
+    }
+    set.insert(name.clone()?)?;
+    Ok(true)
+}
+
+/// Adds names up to the first that is there already, which is the answer.
+#[tactic(auto, using(crate::proofs::Texts::name_double, crate::proofs::Texts::name_turn))]
+fn add_up_to_double(set: &mut IndexSet<Name>, names: &[Name]) -> Result<Option<Name>, AllocError>
+    ensures double { IfOk result (λ found. found ≡ first_double set.old.keys names.now) }
+    ensures keys { IfOk result (λ found. IfNone found (set.new.keys ≡ set.old.keys ++ names.now)) }
+{
+    for name in names {
+        if !add_name(set, name)? {
+            return Ok(Some(name.clone()?));
+        }
+    }
+    Ok(None)
+}
+
+/// Adds names on the line of this number, of which there may be so many.
+fn add_names(
+    set: &mut IndexSet<Name>,
+    names: &[Name],
+    most: usize,
+    line: u32,
+) -> Result<(), TaskFault>
+    ensures keys { OnOk result (set.new.keys ≡ set.old.keys ++ names.now) }
+    ensures sound { OnOk result (names_fault most (first_double set.old.keys names.now)
+        (set.old.keys ++ names.now) ≡ None) }
+    ensures err { IfErr result (λ fault. IsFault line
+        (names_fault most (first_double set.old.keys names.now) (set.old.keys ++ names.now)) fault) }
+{
+    if let Some(name) = add_up_to_double(set, names)? {
+        return Err(TaskFault::DoubleName { line, name });
+    }
+    if set.len() > most {
+        return Err(TaskFault::TooMany { line });
+    }
+    Ok(())
+}
+
+/// The number of a vertex.
+fn vertex_number(vertices: &IndexSet<Name>, word: &Name) -> u32
+    requires { length vertices.now.keys < 2 ^ 32 }
+    ensures { result ≡ vertex_number vertices.now.keys word.now }
+{
+    match vertices.get_index_of(word) {
+        Some(number) => number as u32,
+        None => vertices.len() as u32,
+    }
+}
+
+impl Known {
+    /// What is known before the first line.
+    pub fn new(alloc: Global) -> Known
+        ensures { context_held result ≡ context_of [] }
+    {
+        Known {
+            place: Place::Start,
+            vars: IndexSet::new(alloc),
+            names: IndexSet::new(alloc),
+            vertices: IndexSet::new(alloc),
+            edges: 0,
+        }
+    }
+
+    /// Behind a line that declares these variables.
+    pub fn declare(&mut self, line: u32, names: &[Name]) -> Result<(), TaskFault>
+        ensures context { OnOk result (context_held self.new
+            ≡ context_behind (context_held self.old) (form.Vars names.now)) }
+        ensures sound { OnOk result (names_fault 1000 (first_double self.old.vars.keys names.now)
+            (self.old.vars.keys ++ names.now) ≡ None) }
+        ensures err { IfErr result (λ fault. IsFault line
+            (names_fault 1000 (first_double self.old.vars.keys names.now)
+            (self.old.vars.keys ++ names.now)) fault) }
+    {
+        add_names(&mut self.vars, names, MAX_VARS, line)
+    }
+
+    /// Behind a line that starts a task of this name.
+    fn name_task(&mut self, line: u32, name: &Name, place: Place) -> Result<(), TaskFault>
+        ensures place { OnOk result (self.new.place ≡ place) }
+        ensures names { OnOk result (self.new.names.keys ≡ self.old.names.keys ++ name.now ∷ []) }
+        ensures vars { self.new.vars ≡ self.old.vars }
+        ensures vertices { self.new.vertices ≡ self.old.vertices }
+        ensures edges { self.new.edges ≡ self.old.edges }
+        ensures sound { OnOk result (names_fault 256
+            (first_double self.old.names.keys (name.now ∷ []))
+            (self.old.names.keys ++ name.now ∷ []) ≡ None) }
+        ensures err { IfErr result (λ fault. IsFault line (names_fault 256
+            (first_double self.old.names.keys (name.now ∷ []))
+            (self.old.names.keys ++ name.now ∷ [])) fault) }
+    {
+        if !add_name(&mut self.names, name)? {
+            return Err(TaskFault::DoubleName {
+                line,
+                name: name.clone()?,
+            });
+        }
+        if self.names.len() > MAX_TASKS {
+            return Err(TaskFault::TooMany { line });
+        }
+        self.place = place;
+        Ok(())
+    }
+
+    /// Behind a line that starts an assertion of this name.
+    pub fn start_assertion(&mut self, line: u32, name: &Name, reset: bool) -> Result<(), TaskFault>
+        ensures context { OnOk result (context_held self.new
+            ≡ context_behind (context_held self.old) (form.Ste name.now reset)) }
+        ensures sound { OnOk result (names_fault 256
+            (first_double self.old.names.keys (name.now ∷ []))
+            (self.old.names.keys ++ name.now ∷ []) ≡ None) }
+        ensures err { IfErr result (λ fault. IsFault line (names_fault 256
+            (first_double self.old.names.keys (name.now ∷ []))
+            (self.old.names.keys ++ name.now ∷ [])) fault) }
+    {
+        let _ = reset;
+        self.name_task(line, name, Place::Assertion)
+    }
+
+    /// Behind a line that starts a graph of this name from this vertex.
+    pub fn start_graph(
+        &mut self,
+        alloc: Global,
+        line: u32,
+        name: &Name,
+        vertex: &Name,
+        reset: bool,
+    ) -> Result<(), TaskFault>
+        ensures context { OnOk result (context_held self.new
+            ≡ context_behind (context_held self.old) (form.Gste name.now vertex.now reset)) }
+        ensures sound { OnOk result (names_fault 256
+            (first_double self.old.names.keys (name.now ∷ []))
+            (self.old.names.keys ++ name.now ∷ []) ≡ None) }
+        ensures err { IfErr result (λ fault. IsFault line (names_fault 256
+            (first_double self.old.names.keys (name.now ∷ []))
+            (self.old.names.keys ++ name.now ∷ [])) fault) }
+    {
+        let _ = reset;
+        self.name_task(line, name, Place::Graph)?;
+        let mut vertices = IndexSet::new(alloc);
+        vertices.insert(vertex.clone()?)?;
+        self.vertices = vertices;
+        self.edges = 0;
+        Ok(())
+    }
+
+    /// Behind a line that starts an edge: the numbers of its two vertices.
+    pub fn start_edge(&mut self, line: u32, from: &Name, to: &Name) -> Result<(u32, u32), TaskFault>
+        requires room { self.old.edges ≤ 10000 }
+        ensures context { OnOk result (context_held self.new
+            ≡ context_behind (context_held self.old) (form.Edge from.now to.now)) }
+        ensures ends { IfOk result (λ ends.
+            (ends.0 ≡ vertex_number self.new.vertices.keys from.now)
+            × (ends.1 ≡ vertex_number self.new.vertices.keys to.now)) }
+        ensures sound { OnOk result (graph_fault
+            (vertices_behind (form.Edge from.now to.now) self.old.vertices.keys)
+            (suc self.old.edges) ≡ None) }
+        ensures err { IfErr result (λ fault. IsFault line (graph_fault
+            (vertices_behind (form.Edge from.now to.now) self.old.vertices.keys)
+            (suc self.old.edges)) fault) }
+    {
+        self.vertices.insert(from.clone()?)?;
+        self.vertices.insert(to.clone()?)?;
+        if self.vertices.len() > MAX_VERTICES || self.edges >= MAX_EDGES {
+            return Err(TaskFault::TooMany { line });
+        }
+        self.edges += 1;
+        self.place = Place::Edge;
+        Ok((
+            vertex_number(&self.vertices, from),
+            vertex_number(&self.vertices, to),
+        ))
+    }
+}

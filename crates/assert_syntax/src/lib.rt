@@ -1,0 +1,21 @@
+//! The grammar of task files: from logical lines to tasks with the names of their nodes, or to the first faulty line.
+#![tactic(auto)]
+
+mod clauses;
+mod draft;
+mod exprs;
+pub mod fault;
+pub mod form;
+mod forms;
+mod known;
+pub mod place;
+pub mod read;
+pub mod tasks;
+mod words;
+
+pub use fault::TaskFault;
+pub use read::read_tasks;
+pub use tasks::{RawBind, RawEdge, RawQuint, RawTask, RawTasks};
+
+#[cfg(test)]
+mod tests;

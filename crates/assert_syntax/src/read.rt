@@ -1,0 +1,189 @@
+//! From lines to tasks; begin with `read_tasks`.
+
+ghost use Rattle.std.specs.Prelude.{◌≡◌};
+ghost use Rattle.assert_syntax.specs.declared.form.Form.TheVariants as form;
+ghost use Rattle.assert_syntax.specs.Answer.{IsAnswer, entries_of};
+ghost use Rattle.assert_syntax.specs.Parses.{Parse, IsParse};
+ghost use Rattle.assert_syntax.specs.private.Drafts.{context_held, HasRoom};
+ghost use Rattle.assert_syntax.specs.private.Steps.{IsStep};
+
+use crate::draft::{Draft, OpenTask, clause_added, edge_added, tasks_closed};
+use crate::exprs::exprs_of;
+use crate::fault::TaskFault;
+use crate::form::{Clause, Entry, Form};
+use crate::forms::entry_of;
+use crate::known::Known;
+use crate::place::{Place, may_stand};
+use crate::tasks::RawTasks;
+use crate::words::copies;
+use blif_lines::Line;
+use std::alloc::Global;
+use ste_base::{Items, Name};
+
+/// What is read, with a line that starts an assertion.
+fn assertion_read(
+    alloc: Global,
+    known: &mut Known,
+    draft: Draft,
+    line: u32,
+    name: Name,
+    reset: bool,
+) -> Result<Draft, TaskFault>
+    ensures { (parse : Parse) → IsParse parse → IsStep parse (context_held known.old)
+        (context_held known.new) draft (record { line = line; form = form.Ste name reset }) result }
+{
+    known.start_assertion(line, &name, reset)?;
+    let Draft { tasks, task } = draft;
+    let tasks = tasks_closed(alloc, tasks, task, known.vertices.as_slice())?;
+    let task = OpenTask::Ste {
+        head: line,
+        name,
+        reset,
+        ant: Items::new(alloc),
+        con: Items::new(alloc),
+    };
+    Ok(Draft { tasks, task })
+}
+
+/// What is read, with a line that starts a graph.
+fn graph_read(
+    alloc: Global,
+    known: &mut Known,
+    draft: Draft,
+    line: u32,
+    name: Name,
+    vertex: &Name,
+    reset: bool,
+) -> Result<Draft, TaskFault>
+    ensures { (parse : Parse) → IsParse parse → IsStep parse (context_held known.old)
+        (context_held known.new) draft
+        (record { line = line; form = form.Gste name vertex.now reset }) result }
+{
+    let Draft { tasks, task } = draft;
+    let tasks = tasks_closed(alloc, tasks, task, known.vertices.as_slice())?;
+    known.start_graph(alloc, line, &name, vertex, reset)?;
+    let task = OpenTask::Gste {
+        head: line,
+        name,
+        reset,
+        edges: Items::new(alloc),
+        edge: None,
+    };
+    Ok(Draft { tasks, task })
+}
+
+/// What is read, with a line that starts an edge.
+fn edge_read(
+    alloc: Global,
+    known: &mut Known,
+    draft: Draft,
+    line: u32,
+    from: &Name,
+    to: &Name,
+) -> Result<Draft, TaskFault>
+    requires room { HasRoom (context_held known.old) }
+    ensures { (parse : Parse) → IsParse parse → IsStep parse (context_held known.old)
+        (context_held known.new) draft (record { line = line; form = form.Edge from.now to.now }) result }
+{
+    let (from, to) = known.start_edge(line, from, to)?;
+    let Draft { tasks, task } = draft;
+    let task = edge_added(alloc, task, line, from, to)?;
+    Ok(Draft { tasks, task })
+}
+
+/// What is read, with a clause.
+fn clause_read(
+    alloc: Global,
+    known: &Known,
+    draft: Draft,
+    line: u32,
+    clause: Clause,
+) -> Result<Draft, TaskFault>
+    requires room { HasRoom (context_held known.now) }
+    ensures { (parse : Parse) → IsParse parse → IsStep parse (context_held known.now)
+        (context_held known.now) draft (record { line = line; form = form.Clause clause }) result }
+{
+    let (value, guard) = exprs_of(alloc, line, known.vars.as_slice(), &clause)?;
+    let Draft { tasks, task } = draft;
+    let task = clause_added(task, line, clause, value, guard)?;
+    Ok(Draft { tasks, task })
+}
+
+/// What is read, with a line that may stand where it does.
+fn line_read(
+    alloc: Global,
+    known: &mut Known,
+    draft: Draft,
+    entry: Entry,
+) -> Result<Draft, TaskFault>
+    requires room { HasRoom (context_held known.old) }
+    ensures { (parse : Parse) → IsParse parse → IsStep parse (context_held known.old)
+        (context_held known.new) draft entry result }
+{
+    let Entry { line, form } = entry;
+    match form {
+        Form::Vars(names) => {
+            known.declare(line, names.as_slice())?;
+            Ok(draft)
+        }
+        Form::Ste(name, reset) => assertion_read(alloc, known, draft, line, name, reset),
+        Form::Gste(name, vertex, reset) => {
+            graph_read(alloc, known, draft, line, name, &vertex, reset)
+        }
+        Form::Edge(from, to) => edge_read(alloc, known, draft, line, &from, &to),
+        Form::Clause(clause) => clause_read(alloc, known, draft, line, clause),
+        Form::End => {
+            known.place = Place::Ended;
+            Ok(draft)
+        }
+        Form::Wrong => Ok(draft),
+    }
+}
+
+/// The tasks that lines spell, or the fault of the first faulty line.
+fn tasks_read(alloc: Global, lines: &[Line]) -> Result<RawTasks, TaskFault>
+    ensures { (parse : Parse) → IsParse parse → IsAnswer parse (entries_of lines.now) result }
+{
+    let mut known = Known::new(alloc);
+    let mut draft = Draft {
+        tasks: Items::new(alloc),
+        task: OpenTask::Closed,
+    };
+    for line in lines {
+        let entry = entry_of(alloc, line)?;
+        if !may_stand(&entry.form, known.place) {
+            return Err(TaskFault::BadLine { line: entry.line });
+        }
+        match line_read(alloc, &mut known, draft, entry) {
+            Ok(next) => draft = next,
+            Err(fault) => return Err(fault),
+        }
+    }
+    let Draft { tasks, task } = draft;
+    let tasks = tasks_closed(alloc, tasks, task, known.vertices.as_slice())?;
+    if tasks.len() == 0 {
+        return Err(TaskFault::NoTask);
+    }
+    let vars = copies(alloc, known.vars.as_slice())?;
+    Ok(RawTasks { vars, tasks })
+}
+
+/// Reads the tasks that a task file's lines spell. The errors come by the first line that has a fault, and each has that
+/// line's number; where a line has several, the first of these:
+///
+/// - `BadLine` where the line has none of the forms, stands where it may not, or the text of an expression is none.
+/// - `TooDeep` where an expression is nested above 100.
+/// - `DoubleName` where a variable is declared or a task is named a second time, with the first such name.
+/// - `UnknownVar` where an expression uses a variable that is not declared, with the first such in the line.
+/// - `TooMany` where with this line there are more than 1,000 variables, 256 tasks, or 1,000 vertices or 10,000 edges of
+///   a graph, or where a time is above 10,000.
+///
+/// `NoTask` comes where no line has a fault and none starts a task. `OutOfMemory` may come at any lines. No call depth
+/// grows with the lines.
+#[tactic(auto, using(crate::proofs::Turn::caused))]
+pub fn read_tasks(alloc: Global, lines: &[Line]) -> Result<RawTasks, TaskFault>
+    ensures exact { (parse : Parse) → IsParse parse → IsAnswer parse (entries_of lines.now) result }
+    ensures cause { (parse : Parse) × IsParse parse × IsAnswer parse (entries_of lines.now) result }
+{
+    tasks_read(alloc, lines)
+}

@@ -1,0 +1,84 @@
+//! What a task file says, with the nodes by name; begin with `RawTasks`.
+
+ghost use Rattle.std.specs.Prelude.{◌≡◌, ◌≤◌, length};
+
+use bool_expr::Expr;
+use ste_base::{Items, Name, Time};
+
+/// Where the guard is 1, the node has the value's bit at each time step from `from` up to, but not at, `to`. `line` is
+/// the number of its line.
+#[derive(Debug, Drop)]
+pub struct RawQuint {
+    pub line: u32,
+    pub guard: Expr,
+    pub node: Name,
+    pub value: Expr,
+    pub from: Time,
+    pub to: Time,
+}
+
+/// Where the guard is 1, the node has the value's bit at the edge's time step. `line` is the number of its line.
+#[derive(Debug, Drop)]
+pub struct RawBind {
+    pub line: u32,
+    pub guard: Expr,
+    pub node: Name,
+    pub value: Expr,
+}
+
+/// An edge of a graph: the number of its line, the places of its two ends among the vertices, and what it gives and
+/// asks, in order.
+#[derive(Debug, Drop)]
+pub struct RawEdge {
+    pub line: u32,
+    pub from: u32,
+    pub to: u32,
+    pub ant: Items<RawBind>,
+    pub con: Items<RawBind>,
+}
+
+/// A task: the number of its first line, its name, and whether latches begin with their initial values.
+#[derive(Debug, Drop)]
+pub enum RawTask {
+    /// What is given and what has to follow, each in the order of the lines.
+    Ste {
+        line: u32,
+        name: Name,
+        reset: bool,
+        ant: Items<RawQuint>,
+        con: Items<RawQuint>,
+    },
+    /// The vertices in the order of first mention, of which the first is the initial one, and the edges in order.
+    Gste {
+        line: u32,
+        name: Name,
+        reset: bool,
+        vertices: Items<Name>,
+        edges: Items<RawEdge>,
+    },
+}
+
+/// The tasks of a file, at most 256, and the variables that it declares, at most 1,000, each in order.
+#[derive(Debug, Drop)]
+pub struct RawTasks {
+    pub vars: Items<Name>,
+    pub tasks: Items<RawTask>,
+    ghost declared: { length vars ≤ 1000 },
+    ghost few: { length tasks ≤ 256 },
+}
+
+impl RawTasks {
+    /// The variables, in the order of declaration. It takes no memory.
+    pub fn vars(&self) -> &[Name]
+        ensures { result.now ≡ self.now.vars }
+    {
+        self.vars.as_slice()
+    }
+
+    /// The number of tasks. It takes no memory.
+    pub fn tasks(&self) -> u32
+        ensures { result ≡ length self.now.tasks }
+    {
+        self.tasks.len() as u32
+    }
+}
