@@ -10,15 +10,15 @@ use Rattle.net_core.specs.Run.{IsRun, IsInitial, MayStart, gate_bit, bit_of}
 use Rattle.blif_syntax.specs.declared.models.What.{What}
 use Rattle.blif_syntax.specs.declared.models.What.TheVariants.{Inputs, Outputs, Clock, Names, Latch as LatchOf, Subckt}
 use Rattle.blif_syntax.specs.declared.models.Model.{Model}
-use Rattle.flat_net.specs.Lines.{signal_words, signals, GateLine, gate_of, gate_lines, LatchLine, latch_of, latch_lines}
+use Rattle.hierarchy.specs.Lines.{signal_words, signals, GateLine, gate_of, gate_lines, LatchLine, latch_of, latch_lines}
 use Rattle.std.specs.List.{position_or_len}
 use Rattle.std.specs.Option.{option_map_or}
-use Rattle.flat_net.specs.Instances.{model_at, bound_to, had_by, in_instances, instances}
-use Rattle.flat_net.specs.Nets.{is_same_signal, home, nets, number_at, gates, latches}
+use Rattle.hierarchy.specs.Instances.{model_at, bound_to, had_by, in_instances, instances}
+use Rattle.hierarchy.specs.Nets.{is_same_signal, home, nets, number_at, gates, latches}
 use Rattle.flat_net.specs.Flat.{IsFlat, IsGateOf, IsLatchOf, IsShallow}
-use Rattle.flat_net.specs.Runs.{IsHierarchicalRun, StartsAsAsked}
+use Rattle.hierarchy.specs.Runs.{IsHierarchicalRun, StartsAsAsked}
 use Rattle.flat_net.specs.Corresponds.{flat_bits, signal_bits}
-use Rattle.flat_net.proofs.Members.{In, in_append_left, in_append_right, in_flat_map, flat_map_in, in_map, map_in, filter_map_in, in_from_contains, contains_from_in, zip_left, zip_right}
+use Rattle.hierarchy.proofs.Members.{In, in_append_left, in_append_right, in_flat_map, flat_map_in, in_map, map_in, filter_map_in, in_from_contains, contains_from_in, zip_left, zip_right}
 use Rattle.flat_net.proofs.Homes.{is_signal, home_bit, at_number, met}
 
 -- the signals of a gate's line, and of a latch's, are among its words

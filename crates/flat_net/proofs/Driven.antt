@@ -5,7 +5,7 @@ use Rattle.std.specs.Str.{bytes_eq}
 use Rattle.std.proofs.lemmas.List.{length-map}
 use Rattle.indexmap.specs.IndexSet.{insert_all}
 use Rattle.blif_syntax.specs.declared.models.Model.{Model}
-use Rattle.flat_net.specs.Lines.{GateLine, LatchLine, gate_lines, latch_lines, input_words, inputs_of}
+use Rattle.hierarchy.specs.Lines.{GateLine, LatchLine, gate_lines, latch_lines, input_words, inputs_of}
 use Rattle.flat_net.specs.Supported.{are_distinct, driven, is_driven_once}
 use Rattle.flat_net.proofs.Distinct.{counted, in_turn, set_distinct, set_grows}
 

@@ -9,13 +9,13 @@ use Rattle.blif_syntax.specs.declared.models.What.{What}
 use Rattle.blif_syntax.specs.declared.models.What.TheVariants.{Inputs, Outputs, Clock, Names, Latch, Subckt}
 use Rattle.blif_syntax.specs.declared.models.Item.{Item}
 use Rattle.blif_syntax.specs.declared.models.Model.{Model}
-use Rattle.flat_net.specs.Lines.{UseLine, use_lines, use_of, signal_words, signals}
-use Rattle.flat_net.specs.Instances.{use_at, model_at, actual_of, bound_to, is_bound, had_by, instances}
-use Rattle.flat_net.specs.Nets.{InstanceSignal, is_same_signal, home, own_nets, nets, number_at}
+use Rattle.hierarchy.specs.Lines.{UseLine, use_lines, use_of, signal_words, signals}
+use Rattle.hierarchy.specs.Instances.{use_at, model_at, actual_of, bound_to, is_bound, had_by, instances}
+use Rattle.hierarchy.specs.Nets.{InstanceSignal, is_same_signal, home, own_nets, nets, number_at}
 use Rattle.flat_net.specs.Flat.{IsShallow}
-use Rattle.flat_net.specs.Runs.{IsHierarchicalRun}
-use Rattle.flat_net.proofs.Members.{In, in_append_left, in_append_right, in_flat_map, in_map, in_filter, filter_map_in, in_get, at_found}
-use Rattle.flat_net.proofs.Instances.{complete, stands_on}
+use Rattle.hierarchy.specs.Runs.{IsHierarchicalRun}
+use Rattle.hierarchy.proofs.Members.{In, in_append_left, in_append_right, in_flat_map, in_map, in_filter, filter_map_in, in_get, at_found}
+use Rattle.hierarchy.proofs.Instances.{complete, stands_on}
 
 -- the names of a list stand in it once each
 in_insert_old : (keys : List (List ℕ)) (name x : List ℕ) → In keys x → In (insert_key bytes_eq keys name) x

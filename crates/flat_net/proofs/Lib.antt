@@ -3,12 +3,6 @@ pub mod Distinct
 pub mod Driven
 pub mod Named
 pub mod Nets
-pub mod Members
-pub mod Instances
 pub mod Homes
 pub mod NoRepeats
 pub mod Corresponds
-pub mod Reached
-pub mod Marked
-pub mod Refused
-pub mod Deep

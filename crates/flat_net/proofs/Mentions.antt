@@ -12,7 +12,7 @@ use Rattle.std.proofs.lemmas.Slice.Eq.{bytes_eq-Decides}
 use Rattle.ste_base.specs.declared.id.NodeId.{NodeId}
 use Rattle.indexmap.specs.IndexSet.{insert_key, insert_all}
 use Rattle.blif_syntax.specs.Words.{is_one_of}
-use Rattle.flat_net.specs.Lines.{first_mentions}
+use Rattle.hierarchy.specs.Lines.{first_mentions}
 use Rattle.flat_net.specs.Flat.{net_of}
 use Rattle.flat_net.specs.Supported.{are_distinct}
 

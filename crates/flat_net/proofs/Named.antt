@@ -9,7 +9,7 @@ use Rattle.blif_syntax.specs.declared.models.What.{What}
 use Rattle.blif_syntax.specs.declared.models.What.TheVariants.{Inputs, Outputs, Clock, Names, Latch, Subckt}
 use Rattle.net_core.specs.Cover.{IsCover}
 use Rattle.blif_syntax.specs.Covered.{IsCovered}
-use Rattle.flat_net.specs.Lines.{GateLine, LatchLine, gate_lines, gate_of, input_words, inputs_of, latch_lines, latch_of, output_words, outputs_of, signal_words, signals}
+use Rattle.hierarchy.specs.Lines.{GateLine, LatchLine, gate_lines, gate_of, input_words, inputs_of, latch_lines, latch_of, output_words, outputs_of, signal_words, signals}
 use Rattle.flat_net.proofs.Mentions.{Within, also, both_within, cons_within, in_left, in_right, is_first, later, mentioned, mentions_within, on_right}
 
 -- the words of the gates

@@ -21,7 +21,7 @@ use Rattle.blif_syntax.specs.Words.{is_one_of}
 use Rattle.net_core.specs.Cover.{IsCover}
 use Rattle.blif_syntax.specs.Covered.{IsCovered}
 use Rattle.flat_net.specs.declared.flat.FlatNet.{FlatNet}
-use Rattle.flat_net.specs.Lines.{GateLine, LatchLine, gate_lines, inputs_of, latch_lines, outputs_of, signals}
+use Rattle.hierarchy.specs.Lines.{GateLine, LatchLine, gate_lines, inputs_of, latch_lines, outputs_of, signals}
 use Rattle.flat_net.specs.Flat.{flat_of, gates_from, latch_at, net_of}
 use Rattle.flat_net.specs.Supported.{are_distinct, are_in_order, driven, is_clocked_once, is_driven_once, is_narrow, is_supported_model, is_use}
 use Rattle.flat_net.proofs.Mentions.{Within, distinct_apart, distinct_right, each_of_words, in_left, in_rest, in_right, nets_apart, nets_differ, number_below}

@@ -6,10 +6,10 @@ use Rattle.std.specs.List.{list_any, position_or_len, enumerate_from}
 use Rattle.std.proofs.lemmas.Slice.Eq.{bytes_eq-Decides}
 use Rattle.indexmap.specs.IndexSet.{insert_key, insert_all}
 use Rattle.blif_syntax.specs.declared.models.Model.{Model}
-use Rattle.flat_net.specs.Lines.{use_lines, signal_words, signals}
-use Rattle.flat_net.specs.Instances.{model_named, model_at, is_bound, bound_to, had_by, instances_below, instances}
-use Rattle.flat_net.specs.Nets.{InstanceSignal, is_same_signal, home, own_nets, nets}
-use Rattle.flat_net.proofs.Members.{In, append_cases, flat_map_in, map_in, filter_in, in_at, in_map}
+use Rattle.hierarchy.specs.Lines.{use_lines, signal_words, signals}
+use Rattle.hierarchy.specs.Instances.{model_named, model_at, is_bound, bound_to, had_by, instances_below, instances}
+use Rattle.hierarchy.specs.Nets.{InstanceSignal, is_same_signal, home, own_nets, nets}
+use Rattle.hierarchy.proofs.Members.{In, append_cases, flat_map_in, map_in, filter_in, in_at, in_map}
 use Rattle.flat_net.proofs.Homes.{signal_same, signal_itself}
 
 abbrev pub Distinct : {X : Type 0} → List X → Type 0

@@ -3,11 +3,11 @@ use Rattle.std.specs.Prelude.{◌≡◌, ◌<◌, ℕ, [], List, Some, Bool, All
 use Rattle.net_core.specs.Run.{IsRun, MayStart}
 use Rattle.net_core.specs.declared.raw.RawNet.{RawNet}
 use Rattle.blif_syntax.specs.declared.models.Model.{Model}
-use Rattle.flat_net.specs.Lines.{signals}
-use Rattle.flat_net.specs.Instances.{model_at}
-use Rattle.flat_net.specs.Nets.{nets, number_at}
+use Rattle.hierarchy.specs.Lines.{signals}
+use Rattle.hierarchy.specs.Instances.{model_at}
+use Rattle.hierarchy.specs.Nets.{nets, number_at}
 use Rattle.flat_net.specs.Flat.{IsFlat, IsShallow}
-use Rattle.flat_net.specs.Runs.{IsHierarchicalRun, StartsAsAsked}
+use Rattle.hierarchy.specs.Runs.{IsHierarchicalRun, StartsAsAsked}
 
 -- the bits of nets, from those of signals: a net has the bit of the signal that it is made for
 abbrev pub flat_bits : List Model → (List ℕ → List ℕ → ℕ → Bool) → ℕ → ℕ → Bool

@@ -7,9 +7,9 @@ use Rattle.net_core.specs.declared.raw.Gate.{Gate}
 use Rattle.net_core.specs.declared.raw.Latch.{Latch}
 use Rattle.net_core.specs.declared.raw.RawNet.{RawNet}
 use Rattle.blif_syntax.specs.declared.models.Model.{Model}
-use Rattle.flat_net.specs.Lines.{GateLine, LatchLine, gate_lines, inputs_of, latch_lines, outputs_of, signals}
-use Rattle.flat_net.specs.Instances.{model_at}
-use Rattle.flat_net.specs.Nets.{gates, input_numbers, latches, nets, number_at, output_numbers}
+use Rattle.hierarchy.specs.Lines.{GateLine, LatchLine, gate_lines, inputs_of, latch_lines, outputs_of, signals}
+use Rattle.hierarchy.specs.Instances.{model_at}
+use Rattle.hierarchy.specs.Nets.{gates, input_numbers, latches, nets, number_at, output_numbers}
 
 -- the net of a signal
 abbrev pub net_of : List (List ℕ) → List ℕ → NodeId

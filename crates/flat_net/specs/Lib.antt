@@ -1,12 +1,3 @@
-pub mod Lines
-pub mod Instances
-pub mod Nets
 pub mod Flat
-pub mod Runs
 pub mod Corresponds
-pub mod Reach
-pub mod Sizes
-pub mod Names
-pub mod Faults
 pub mod Supported
-pub mod private

@@ -2,13 +2,11 @@
 use Rattle.std.specs.Prelude.{ℕ, ◌&&◌, ◌++◌, ◌∷◌, [], List, length, map, filter_map, Bool, true, false, not, Option, Some, None, nat_eq, nat_le, bytes_eq}
 use Rattle.std.specs.Bool.{beq}
 use Rattle.std.specs.List.{list_all, list_any}
-use Rattle.blif_syntax.specs.declared.models.LatchKind.{LatchKind}
-use Rattle.blif_syntax.specs.declared.models.LatchKind.TheVariants.{Plain, Rising, Falling}
 use Rattle.blif_syntax.specs.declared.models.Model.{Model}
 use Rattle.blif_syntax.specs.declared.models.What.{What}
 use Rattle.blif_syntax.specs.declared.models.What.TheVariants.{Subckt}
 use Rattle.blif_syntax.specs.Words.{is_one_of}
-use Rattle.flat_net.specs.Lines.{GateLine, gate_lines, inputs_of, latch_lines, signals, top}
+use Rattle.hierarchy.specs.Lines.{GateLine, gate_lines, inputs_of, is_rising, latch_lines, signals, top}
 
 -- the line uses a model
 abbrev pub is_use : What → Bool
@@ -27,12 +25,6 @@ driven model = map (λ line. line.output) (gate_lines model) ++ map (λ line. li
 -- no signal is driven twice, and no input is driven
 abbrev pub is_driven_once : Model → Bool
 is_driven_once model = are_distinct (inputs_of model ++ driven model)
-
--- whether a latch's type is `re`, where it has one
-abbrev pub is_rising : LatchKind → Option Bool
-is_rising Plain = None
-is_rising Rising = Some true
-is_rising Falling = Some false
 
 -- all are as the first
 abbrev pub are_alike : {X : Type 0} → (X → X → Bool) → List X → Bool

@@ -3,12 +3,12 @@
 ghost use Rattle.std.specs.Prelude.{◌≡◌, ◌<◌, ◌≤◌, ◌^◌, All, IfOk, IfSome, IfNone, IsTrue, false, length, map};
 ghost use Rattle.net_core.specs.Flat.{IsInRange, HasOneDriver, IsListedInOrder};
 ghost use Rattle.blif_syntax.specs.Covered.{AreCovered};
-ghost use Rattle.flat_net.specs.Lines.{gate_lines, latch_lines, signals, top};
+ghost use Rattle.hierarchy.specs.Lines.{gate_lines, latch_lines, signals, top};
 ghost use Rattle.flat_net.specs.Flat.{flat_of, gates_from, latch_at, net_of};
 ghost use Rattle.flat_net.specs.Supported.{is_supported, is_supported_model};
 
-use crate::lines::{GateLine, LatchLine, gate_lines, latch_lines};
-use crate::signals::{inputs_of, outputs_of, signals};
+use hierarchy::lines::{GateLine, LatchLine, gate_lines, latch_lines};
+use hierarchy::signals::{inputs_of, outputs_of, signals};
 use crate::supported::is_supported_model;
 use blif_syntax::{Model, Models};
 use indexmap::IndexSet;

@@ -4,11 +4,12 @@ ghost use Rattle.std.specs.Prelude.{◌≡◌, ◌++◌, IfOk, OnOk, bytes_eq, f
 ghost use Rattle.std.specs.List.{list_all, list_any};
 ghost use Rattle.indexmap.specs.IndexSet.{insert_all};
 ghost use Rattle.blif_syntax.specs.Words.{is_one_of};
-ghost use Rattle.flat_net.specs.Lines.{gate_lines, inputs_of, latch_lines, signals};
-ghost use Rattle.flat_net.specs.Supported.{are_alike, are_distinct, are_in_order, driven, is_clocked_once, is_driven_once, is_narrow, is_rising, is_supported_model, is_use};
+ghost use Rattle.hierarchy.specs.Lines.{gate_lines, inputs_of, latch_lines, signals};
+ghost use Rattle.flat_net.specs.Supported.{are_alike, are_distinct, are_in_order, driven, is_clocked_once, is_driven_once, is_narrow, is_supported_model, is_use};
+ghost use Rattle.hierarchy.specs.Lines.{is_rising};
 
-use crate::lines::{GateLine, LatchLine};
-use crate::signals::{add, inputs_of};
+use hierarchy::lines::{GateLine, LatchLine};
+use hierarchy::signals::{add, inputs_of};
 use blif_syntax::{Item, LatchKind, Model, What};
 use indexmap::IndexSet;
 use std::alloc::{AllocError, Global};

@@ -4,7 +4,7 @@ use Rattle.std.specs.Prelude.{◌≢◌, ◌⊎◌}
 use Rattle.std.proofs.lemmas.Bool.{and_parts}
 use Rattle.blif_syntax.specs.declared.models.Model.{Model}
 use Rattle.flat_net.specs.Flat.{flat_of}
-use Rattle.flat_net.specs.Lines.{top}
+use Rattle.hierarchy.specs.Lines.{top}
 use Rattle.flat_net.specs.Supported.{is_supported}
 use Rattle.flat_net.proofs.Nets.{in_order}
 use Rattle.net_core.specs.Run.{IsSettled}

@@ -15,7 +15,7 @@ use Rattle.blif_syntax.specs.declared.form.LineFault.{LineFault}
 use Rattle.blif_syntax.specs.declared.models.Model.{Model}
 use Rattle.blif_syntax.specs.declared.models.Models.{Models}
 use Rattle.blif_syntax.proofs.Sound.{read_is_sayable}
-use Rattle.flat_net.specs.Lines.{signals, top}
+use Rattle.hierarchy.specs.Lines.{signals, top}
 use Rattle.flat_net.specs.Supported.{is_supported}
 use Rattle.ste_program.specs.Answer.{AskedSome, WhyUnprepared}
 use Rattle.ste_program.specs.Command.{Command}

@@ -1,7 +1,7 @@
 -- Meaning, and two laws. The report on the texts of a netlist and of a task: what is read, and what is written.
 use Rattle.std.specs.Prelude.{◌≡◌, ◌≤◌, ◌⊎◌, ◌++◌, ℕ, Bool, true, false, List, length, codes, IsTrue, Option, Some}
 use Rattle.flat_net.specs.Flat.{flat_of}
-use Rattle.flat_net.specs.Lines.{signals, top}
+use Rattle.hierarchy.specs.Lines.{signals, top}
 use Rattle.flat_net.specs.Supported.{is_supported}
 use Rattle.blif_syntax.specs.declared.models.Model.{Model}
 use Rattle.ste_model.specs.declared.task.Assertion.{Assertion}

@@ -2,7 +2,7 @@
 use Rattle.std.specs.Prelude.{◌≡◌, ◌≢◌, ⊤, ℕ, List, IsTrue, Option, Some}
 use Rattle.blif_syntax.specs.declared.models.Model.{Model}
 use Rattle.flat_net.specs.Flat.{flat_of}
-use Rattle.flat_net.specs.Lines.{signals, top}
+use Rattle.hierarchy.specs.Lines.{signals, top}
 use Rattle.flat_net.specs.Supported.{is_supported}
 use Rattle.net_core.specs.declared.raw.RawNet.{RawNet}
 use Rattle.ste_program.specs.Answer.{AskedAll}

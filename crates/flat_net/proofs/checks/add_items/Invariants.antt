@@ -1,7 +1,0 @@
-use Rattle.std.proofs.Common.{◌≡◌, ◌++◌, drop, map}
-use Rattle.flat_net.specs.private.Checks.{item_at}
-use Rattle.flat_net.proofs.checks.add_items.Given as goal
-
-abbrev pub invariant-loop-item : goal.invariant-loop-item
-invariant-loop-item l =
-    l.lines.items ++ map (item_at l.number) (drop l.item-index l.items) ≡ l.initial.lines.items ++ map (item_at l.number) l.items

@@ -1,9 +1,0 @@
-use Rattle.std.proofs.Common.{◌≡◌, drop}
-use Rattle.flat_net.specs.Faults.{bad_formal_of, in_use}
-use Rattle.flat_net.specs.private.Checks.{first_fault_in}
-use Rattle.flat_net.proofs.formals.first_bad_formal.Given as goal
-
-abbrev pub invariant-loop-at : goal.invariant-loop-at
-invariant-loop-at l =
-    first_fault_in (λ at. in_use (bad_formal_of l.models) at.item) (drop l.at-index l.lines)
-    ≡ first_fault_in (λ at. in_use (bad_formal_of l.models) at.item) l.lines

@@ -1,9 +1,0 @@
-use Rattle.std.proofs.Common.{◌≡◌, ◌++◌, drop}
-use Rattle.std.specs.Prelude.{bytes_eq, filter_map, position}
-use Rattle.flat_net.specs.Lines.{use_lines, use_of}
-use Rattle.flat_net.proofs.uses.used_by.Given as goal
-
-abbrev pub invariant-loop-item : goal.invariant-loop-item
-invariant-loop-item l =
-    l.numbers ++ filter_map (λ used. position (bytes_eq used.model) l.names.keys) (filter_map use_of (drop l.item-index l.model.items))
-    ≡ filter_map (λ used. position (bytes_eq used.model) l.names.keys) (use_lines l.model)

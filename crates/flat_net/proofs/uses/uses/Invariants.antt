@@ -1,6 +1,0 @@
-use Rattle.std.proofs.Common.{◌≡◌, ◌++◌, drop, map}
-use Rattle.flat_net.specs.Reach.{used_by, uses}
-use Rattle.flat_net.proofs.uses.uses.Given as goal
-
-abbrev pub invariant-loop-model : goal.invariant-loop-model
-invariant-loop-model l = l.graph.items ++ map (used_by l.models) (drop l.model-index l.models) ≡ uses l.models

@@ -1,0 +1,6 @@
+pub mod Members
+pub mod Instances
+pub mod Reached
+pub mod Marked
+pub mod Refused
+pub mod Deep

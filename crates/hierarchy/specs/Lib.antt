@@ -1,0 +1,9 @@
+pub mod Lines
+pub mod Instances
+pub mod Nets
+pub mod Runs
+pub mod Reach
+pub mod Sizes
+pub mod Names
+pub mod Faults
+pub mod private

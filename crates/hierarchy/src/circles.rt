@@ -1,0 +1,103 @@
+//! Uses that lead back to their own model; begin with `refuse_recursive`.
+
+ghost use Rattle.std.specs.Prelude.{◌≡◌, ◌⊎◌, ◌<◌, IfErr, OnOk, false, length, slice_index_or};
+ghost use Rattle.hierarchy.specs.declared.fault.NetFault.{NetFault};
+ghost use Rattle.hierarchy.specs.Faults.{HasRecursive, IsFree, IsRecursive};
+ghost use Rattle.hierarchy.specs.Instances.{model_names};
+ghost use Rattle.hierarchy.specs.Reach.{uses};
+ghost use Rattle.hierarchy.specs.private.Checks.{AreReachable, FirstIn, NoneIn};
+
+use crate::checks::ItemAt;
+use crate::depth::is_deep;
+use crate::fault::NetFault;
+use crate::reach::reached;
+use crate::uses::use_of;
+use blif_syntax::Model;
+use indexmap::IndexSet;
+use std::alloc::Global;
+use ste_base::{Items, Name};
+
+/// Whether a number is marked.
+fn is_marked(marks: &[bool], number: usize) -> bool
+    ensures { result ≡ slice_index_or marks.now number false }
+{
+    marks.get(number).copied().unwrap_or(false)
+}
+
+/// Refuses a line that uses a model from which its own model is reached.
+fn refuse_circle(
+    alloc: Global,
+    models: &[Model],
+    names: &IndexSet<Name>,
+    graph: &[Items<usize>],
+    at: &ItemAt,
+) -> Result<(), NetFault>
+    requires names { names.now.keys ≡ model_names models.now }
+    requires graph { graph.now ≡ uses models.now }
+    ensures ok { OnOk result ((its : NetFault) → IsRecursive models.now at.now.number at.now.item its → ⊥) }
+    ensures err { IfErr result (λ fault. (fault ≡ NetFault.OutOfMemory)
+        ⊎ IsRecursive models.now at.now.number at.now.item fault) }
+{
+    let Some(used) = use_of(at.item) else {
+        return Ok(())
+    };
+    let Some(number) = names.get_index_of(used.model) else {
+        return Ok(())
+    };
+    let marks = reached(alloc, graph, number)?;
+    if !is_marked(marks.as_slice(), at.number) {
+        return Ok(());
+    }
+    let name = used.model.clone()?;
+    Err(NetFault::Recursive {
+        line: used.line,
+        name,
+    })
+}
+
+/// Refuses the first of the lines that use a model from which their own model is reached. The time is that of a search for
+/// each line.
+fn first_recursive(
+    alloc: Global,
+    models: &[Model],
+    names: &IndexSet<Name>,
+    graph: &[Items<usize>],
+    lines: &[ItemAt],
+) -> Result<(), NetFault>
+    requires names { names.now.keys ≡ model_names models.now }
+    requires graph { graph.now ≡ uses models.now }
+    ensures ok { OnOk result (NoneIn (λ at its. IsRecursive models.now at.number at.item its) lines.now) }
+    ensures err { IfErr result (λ fault. (fault ≡ NetFault.OutOfMemory)
+        ⊎ FirstIn (λ at its. IsRecursive models.now at.number at.item its) lines.now fault) }
+{
+    for at in lines {
+        if let Err(fault) = refuse_circle(alloc, models, names, graph, at) {
+            return Err(fault);
+        }
+    }
+    Ok(())
+}
+
+/// Refuses the first line of a reachable model that uses a model from which its own model is reached. `lines` has the items
+/// of just the reachable models, `names` the names of all, and `graph` the numbers of those that each uses. Where no more
+/// than 64 steps lead on from the top no line is searched for.
+pub(crate) fn refuse_recursive(
+    alloc: Global,
+    models: &[Model],
+    names: &IndexSet<Name>,
+    graph: &[Items<usize>],
+    lines: &[ItemAt],
+) -> Result<(), NetFault>
+    requires some { 0 < length models.now }
+    requires names { names.now.keys ≡ model_names models.now }
+    requires graph { graph.now ≡ uses models.now }
+    requires lines { AreReachable models.now lines.now }
+    ensures ok { OnOk result (IsFree (HasRecursive models.now)) }
+    ensures err { IfErr result (λ fault. (fault ≡ NetFault.OutOfMemory)
+        ⊎ HasRecursive models.now fault) }
+{
+    if !is_deep(alloc, graph)? {
+        return Ok(());
+    }
+    first_recursive(alloc, models, names, graph, lines)
+}

@@ -1,0 +1,19 @@
+//! Hierarchies: what the lines of models say of their signals, the instances of models, and what a hierarchy is refused for
+//! before any instance is built.
+#![tactic(auto)]
+
+mod checks;
+mod circles;
+mod depth;
+pub mod fault;
+mod formals;
+pub mod lines;
+mod reach;
+#[cfg(test)]
+mod refusal_tests;
+pub mod refusals;
+pub mod signals;
+pub mod uses;
+
+pub use fault::NetFault;
+pub use refusals::refuse;

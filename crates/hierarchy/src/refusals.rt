@@ -1,0 +1,79 @@
+//! What a hierarchy is refused for; begin with `refuse`.
+
+ghost use Rattle.std.specs.Prelude.{◌≡◌, ◌⊎◌, ◌<◌, IfErr, IfOk, OnOk, length};
+ghost use Rattle.hierarchy.specs.Faults.{Else, HasBadFormal, HasFaultyUse, HasRecursive, IsFree, IsRefusalSoFar};
+ghost use Rattle.hierarchy.specs.Instances.{model_names};
+ghost use Rattle.hierarchy.specs.Reach.{uses};
+ghost use Rattle.hierarchy.specs.private.Checks.{AreReachable};
+
+use crate::checks::{ItemAt, marked_items, refuse_unknown_models};
+use crate::circles::refuse_recursive;
+use crate::fault::NetFault;
+use crate::formals::refuse_bad_formals;
+use crate::reach::reached;
+use crate::uses::{names_of, uses};
+use blif_syntax::{Model, Models};
+use indexmap::IndexSet;
+use std::alloc::{AllocError, Global};
+use ste_base::{Items, Name};
+
+/// The items of the models that the top reaches, by line. `graph` has for each model the numbers of those that it uses.
+fn reachable_items<'a>(
+    alloc: Global,
+    models: &'a [Model],
+    graph: &[Items<usize>],
+) -> Result<Vec<ItemAt<'a>>, AllocError>
+    requires some { 0 < length models.now }
+    requires graph { graph.now ≡ uses models.now }
+    ensures { IfOk result (λ lines. AreReachable models.now lines.items) }
+{
+    let marks = reached(alloc, graph, 0)?;
+    marked_items(alloc, models, marks.as_slice())
+}
+
+/// Refuses the first recursive use, or where there is none the first bad formal. `lines` has the items of just the reachable
+/// models, `names` the names of all, and `graph` the numbers of those that each uses.
+fn refuse_known_uses(
+    alloc: Global,
+    models: &[Model],
+    names: &IndexSet<Name>,
+    graph: &[Items<usize>],
+    lines: &[ItemAt],
+) -> Result<(), NetFault>
+    requires some { 0 < length models.now }
+    requires names { names.now.keys ≡ model_names models.now }
+    requires graph { graph.now ≡ uses models.now }
+    requires lines { AreReachable models.now lines.now }
+    ensures ok { OnOk result (IsFree (Else (HasRecursive models.now) (HasBadFormal models.now))) }
+    ensures err { IfErr result (λ fault. (fault ≡ NetFault.OutOfMemory)
+        ⊎ Else (HasRecursive models.now) (HasBadFormal models.now) fault) }
+{
+    refuse_recursive(alloc, models, names, graph, lines)?;
+    refuse_bad_formals(alloc, models, names, lines)
+}
+
+/// Refuses the first use of an unknown model, or where there is none what `refuse_known_uses` does.
+fn refuse_uses(alloc: Global, models: &[Model], names: &IndexSet<Name>) -> Result<(), NetFault>
+    requires some { 0 < length models.now }
+    requires names { names.now.keys ≡ model_names models.now }
+    ensures ok { OnOk result (IsFree (HasFaultyUse models.now)) }
+    ensures err { IfErr result (λ fault. (fault ≡ NetFault.OutOfMemory)
+        ⊎ HasFaultyUse models.now fault) }
+{
+    let graph = uses(alloc, names, models)?;
+    let lines = reachable_items(alloc, models, graph.as_slice())?;
+    refuse_unknown_models(models, names, lines.as_slice())?;
+    refuse_known_uses(alloc, models, names, graph.as_slice(), lines.as_slice())
+}
+
+/// Refuses a hierarchy for the first fault there is of the kinds that are looked for so far: a double model, then an unknown
+/// model, then a recursive one, then a bad formal. The error is that fault, or want of memory.
+pub fn refuse(alloc: Global, models: &Models) -> Result<(), NetFault>
+    ensures ok { OnOk result (IsFree (IsRefusalSoFar models.now.models)) }
+    ensures err { IfErr result (λ fault. (fault ≡ NetFault.OutOfMemory)
+        ⊎ IsRefusalSoFar models.now.models fault) }
+{
+    let models = models.models.as_slice();
+    let names = names_of(alloc, models)?;
+    refuse_uses(alloc, models, &names)
+}
