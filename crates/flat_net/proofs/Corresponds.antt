@@ -19,7 +19,7 @@ use Rattle.flat_net.specs.Flat.{IsFlat, IsGateOf, IsLatchOf, IsShallow}
 use Rattle.hierarchy.specs.Runs.{IsHierarchicalRun, StartsAsAsked}
 use Rattle.flat_net.specs.Corresponds.{flat_bits, signal_bits}
 use Rattle.hierarchy.proofs.Members.{In, in_append_left, in_append_right, in_flat_map, flat_map_in, in_map, map_in, filter_map_in, in_from_contains, contains_from_in, zip_left, zip_right}
-use Rattle.flat_net.proofs.Homes.{is_signal, home_bit, at_number, met}
+use Rattle.instances.proofs.Homes.{is_signal, home_bit, at_number, met}
 
 -- the signals of a gate's line, and of a latch's, are among its words
 gate_line : (what : What) (gate : GateLine) → gate_of what ≡ Some gate → (In (signal_words what) gate.output) × ((x : List ℕ) → In gate.inputs x → In (signal_words what) x)

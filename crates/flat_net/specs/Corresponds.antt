@@ -6,7 +6,8 @@ use Rattle.blif_syntax.specs.declared.models.Model.{Model}
 use Rattle.hierarchy.specs.Lines.{signals}
 use Rattle.hierarchy.specs.Instances.{model_at}
 use Rattle.hierarchy.specs.Nets.{nets, number_at}
-use Rattle.flat_net.specs.Flat.{IsFlat, IsShallow}
+use Rattle.hierarchy.specs.Sizes.{IsShallow}
+use Rattle.flat_net.specs.Flat.{IsFlat}
 use Rattle.hierarchy.specs.Runs.{IsHierarchicalRun, StartsAsAsked}
 
 -- the bits of nets, from those of signals: a net has the bit of the signal that it is made for

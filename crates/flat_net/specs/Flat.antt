@@ -56,7 +56,3 @@ pub record IsFlat (models : List Model) (net : RawNet) : Type 0 where
   pub outputs : map (λ output. output.0) net.outputs ≡ output_numbers models
   pub gates : AllZip (IsGateOf models net) net.gates (gates models)
   pub latches : AllZip (IsLatchOf models) net.latches (latches models)
-
--- no instance's path has more than 64 numbers
-abbrev pub IsShallow : List Model → Type 0
-IsShallow models = (path : List ℕ) (model : Model) → model_at models path ≡ Some model → length path ≤ 64

@@ -149,7 +149,7 @@ module _ {X Y : Type 0} (f : X → Option Y) where
 
 -- a test that is equality finds a member, and there is the member itself
 module _ {X : Type 0} (test : X → Bool) (x : X) (passes : test x ≡ true) (only : (y : X) → test y ≡ true → x ≡ y) where
-  found : (xs : List X) → In xs x → position_or_len test xs < length xs
+  pub found : (xs : List X) → In xs x → position_or_len test xs < length xs
   found [] h = absurd h
   found (y ∷ ys) (inl e) = rw (e, passes) (omega arith)
   found (y ∷ ys) (inr h) = by (test y) (found ys h)

@@ -1,5 +1,5 @@
 -- Meaning. How deep and how large a hierarchy is, and the limits. Source: this project's own choice.
-use Rattle.std.specs.Prelude.{◌≡◌, ◌<◌, ◌⊎◌, ℕ, suc, List, Some, length, flat_map, sum_by}
+use Rattle.std.specs.Prelude.{◌≡◌, ◌<◌, ◌≤◌, ◌⊎◌, ℕ, suc, List, Some, length, flat_map, sum_by}
 use Rattle.blif_syntax.specs.declared.models.Model.{Model}
 use Rattle.hierarchy.specs.Lines.{signal_words}
 use Rattle.hierarchy.specs.Instances.{had_by, instances, model_at}
@@ -23,3 +23,7 @@ pub record IsTooDeep (models : List Model) : Type 0 where
 -- there are more than 200,000 nets, or the size is above 4,000,000
 abbrev pub IsTooLarge : List Model → Type 0
 IsTooLarge models = (200000 < length (nets models)) ⊎ (4000000 < size models)
+
+-- no instance's path has more than 64 numbers
+abbrev pub IsShallow : List Model → Type 0
+IsShallow models = (path : List ℕ) (model : Model) → model_at models path ≡ Some model → length path ≤ 64

@@ -3,7 +3,7 @@ use Rattle.hierarchy.specs.Lines.{signals}
 use Rattle.hierarchy.specs.Nets.{nets}
 use Rattle.flat_net.proofs.Corresponds.{bit_at, starts_flat, starts_hierarchy, to_flat_gate, to_flat_latch, to_formal, to_gate, to_latch}
 use Rattle.hierarchy.proofs.Members.{in_at, in_from_contains}
-use Rattle.flat_net.proofs.NoRepeats.{number_of_net}
+use Rattle.instances.proofs.NoRepeats.{number_of_net}
 use Rattle.flat_net.proofs.laws.runs_correspond.Goals as goal
 
 pub returns : goal.returns

@@ -12,7 +12,7 @@ use Rattle.blif_syntax.specs.declared.models.Model.{Model}
 use Rattle.hierarchy.specs.Lines.{UseLine, use_lines, use_of, signal_words, signals}
 use Rattle.hierarchy.specs.Instances.{use_at, model_at, actual_of, bound_to, is_bound, had_by, instances}
 use Rattle.hierarchy.specs.Nets.{InstanceSignal, is_same_signal, home, own_nets, nets, number_at}
-use Rattle.flat_net.specs.Flat.{IsShallow}
+use Rattle.hierarchy.specs.Sizes.{IsShallow}
 use Rattle.hierarchy.specs.Runs.{IsHierarchicalRun}
 use Rattle.hierarchy.proofs.Members.{In, in_append_left, in_append_right, in_flat_map, in_map, in_filter, filter_map_in, in_get, at_found}
 use Rattle.hierarchy.proofs.Instances.{complete, stands_on}
@@ -73,7 +73,7 @@ use_line (Clock _) line used x e h = absurd (cc)
 use_line (Names _ _ _) line used x e h = absurd (cc)
 use_line (Latch _ _ _ _ _) line used x e h = absurd (cc)
 
-actual_is_signal : (model : Model) (n : ℕ) (used : UseLine) (signal actual : List ℕ) → slice_get (use_lines model) n ≡ Some used → actual_of used signal ≡ Some actual → In (signals model) actual
+pub actual_is_signal : (model : Model) (n : ℕ) (used : UseLine) (signal actual : List ℕ) → slice_get (use_lines model) n ≡ Some used → actual_of used signal ≡ Some actual → In (signals model) actual
 actual_is_signal model n used signal actual at is =
     let line = filter_map_in use_of model.items used (in_get (use_lines model) n used at) in
     let bind = mapped (λ b. b.1) (find (λ b. bytes_eq b.0 signal) used.bindings) actual is in

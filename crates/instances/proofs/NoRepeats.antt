@@ -10,7 +10,7 @@ use Rattle.hierarchy.specs.Lines.{use_lines, signal_words, signals}
 use Rattle.hierarchy.specs.Instances.{model_named, model_at, is_bound, bound_to, had_by, instances_below, instances}
 use Rattle.hierarchy.specs.Nets.{InstanceSignal, is_same_signal, home, own_nets, nets}
 use Rattle.hierarchy.proofs.Members.{In, append_cases, flat_map_in, map_in, filter_in, in_at, in_map}
-use Rattle.flat_net.proofs.Homes.{signal_same, signal_itself}
+use Rattle.instances.proofs.Homes.{signal_same, signal_itself}
 
 abbrev pub Distinct : {X : Type 0} → List X → Type 0
 Distinct [] = ⊤

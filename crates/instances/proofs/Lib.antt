@@ -1,0 +1,6 @@
+pub mod Homes
+pub mod NoRepeats
+pub mod Tabled
+pub mod Numbered
+pub mod Bound
+pub mod Rows

@@ -1,0 +1,9 @@
+//! The instances of a hierarchy in preorder, and in each the numbers of its signals' nets.
+#![tactic(auto)]
+
+mod above;
+mod bounds;
+pub mod numbers;
+pub mod table;
+
+pub use table::{Row, instance_rows};
