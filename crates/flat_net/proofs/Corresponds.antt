@@ -15,7 +15,8 @@ use Rattle.std.specs.List.{position_or_len}
 use Rattle.std.specs.Option.{option_map_or}
 use Rattle.hierarchy.specs.Instances.{model_at, bound_to, had_by, in_instances, instances}
 use Rattle.hierarchy.specs.Nets.{is_same_signal, home, nets, number_at, gates, latches}
-use Rattle.flat_net.specs.Flat.{IsFlat, IsGateOf, IsLatchOf, IsShallow}
+use Rattle.flat_net.specs.Flat.{IsFlat, IsGateOf, IsLatchOf}
+use Rattle.hierarchy.specs.Sizes.{IsShallow}
 use Rattle.hierarchy.specs.Runs.{IsHierarchicalRun, StartsAsAsked}
 use Rattle.flat_net.specs.Corresponds.{flat_bits, signal_bits}
 use Rattle.hierarchy.proofs.Members.{In, in_append_left, in_append_right, in_flat_map, flat_map_in, in_map, map_in, filter_map_in, in_from_contains, contains_from_in, zip_left, zip_right}

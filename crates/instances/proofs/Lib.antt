@@ -4,3 +4,4 @@ pub mod Tabled
 pub mod Numbered
 pub mod Bound
 pub mod Rows
+pub mod OwnNames

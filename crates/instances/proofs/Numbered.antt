@@ -3,14 +3,15 @@ use Rattle.std.proofs.Common.{◌≡◌, ℕ, zero, suc, ◌+◌, ◌<◌, ◌�
 use Rattle.std.specs.Prelude.{filter, flat_map, is_none, is_some, option_map, option_and_then, count_by}
 use Rattle.std.specs.Option.{option_map_or}
 use Rattle.std.specs.List.{position_or_len}
-use Rattle.std.proofs.lemmas.List.{length_push, take_more}
+use Rattle.std.proofs.lemmas.List.{length_push, map-append, take_more}
 use Rattle.std.proofs.lemmas.Grind.{flat_map-append}
 use Rattle.std.proofs.lemmas.List.Sums.{sum_by-cons}
 use Rattle.blif_syntax.specs.declared.models.Model.{Model}
 use Rattle.hierarchy.specs.Lines.{UseLine, signals}
 use Rattle.hierarchy.specs.Instances.{bound_to, had_by, instances, is_bound, model_at}
 use Rattle.hierarchy.specs.Nets.{InstanceSignal, home, is_same_signal, nets, number_at, own_nets}
-use Rattle.instances.specs.Numbers.{numbers_from, numbers_in}
+use Rattle.hierarchy.specs.Names.{own_name, path_text}
+use Rattle.instances.specs.Numbers.{numbers_from, numbers_in, own_names_in}
 use Rattle.instances.proofs.NoRepeats.{number_of_net}
 
 at_end : {X : Type 0} (before rest : List X) (x d : X) → (length before < length (before ++ x ∷ rest)) × (get_or (before ++ x ∷ rest) (length before) d ≡ x)
@@ -90,6 +91,15 @@ module _ (models : List Model) (path : List ℕ) where
       by (Some number) is again = subst (λ (t : Bool). count_by is_none (Some number ∷ map (bound_net models path) words) ≡ length (map at (cond (not t) (s ∷ filter (λ signal. not (is_bound models path signal)) words) (filter (λ signal. not (is_bound models path signal)) words)))) (sym (bound_is s number is).0) (sum_by-cons (λ (o : Option ℕ). cond (is_none o) 1 0) (Some number) (map (bound_net models path) words) ∙ zero_more (count_by is_none (map (bound_net models path) words)) ∙ again)
       by None is again = subst (λ (t : Bool). count_by is_none (None ∷ map (bound_net models path) words) ≡ length (map at (cond (not t) (s ∷ filter (λ signal. not (is_bound models path signal)) words) (filter (λ signal. not (is_bound models path signal)) words)))) (sym (free_is s is).0) (sum_by-cons (λ (o : Option ℕ). cond (is_none o) 1 0) None (map (bound_net models path) words) ∙ ap (λ n. 1 + n) again ∙ one_more (length (own words)))
 
+  -- the own names of what is not bound are those of the nets that it makes
+  named : (words : List (List ℕ)) → own_names_in (path_text path) words (map (bound_net models path) words) ≡ map own_name (own words)
+  named [] = refl
+  named (s ∷ words) = by (bound_net models path s) refl (named words)
+    where
+      by : (o : Option ℕ) → bound_net models path s ≡ o → own_names_in (path_text path) words (map (bound_net models path) words) ≡ map own_name (own words) → own_names_in (path_text path) (s ∷ words) (o ∷ map (bound_net models path) words) ≡ map own_name (map at (cond (not (is_bound models path s)) (s ∷ filter (λ signal. not (is_bound models path signal)) words) (filter (λ signal. not (is_bound models path signal)) words)))
+      by (Some number) is again = subst (λ (t : Bool). own_names_in (path_text path) words (map (bound_net models path) words) ≡ map own_name (map at (cond (not t) (s ∷ filter (λ signal. not (is_bound models path signal)) words) (filter (λ signal. not (is_bound models path signal)) words)))) (sym (bound_is s number is).0) again
+      by None is again = subst (λ (t : Bool). (path_text path ++ s) ∷ own_names_in (path_text path) words (map (bound_net models path) words) ≡ map own_name (map at (cond (not t) (s ∷ filter (λ signal. not (is_bound models path signal)) words) (filter (λ signal. not (is_bound models path signal)) words)))) (sym (free_is s is).0) (ap (λ l. (path_text path ++ s) ∷ l) again)
+
 split_at : {X : Type 0} (xs : List X) (k : ℕ) (x : X) → slice_get xs k ≡ Some x → xs ≡ take k xs ++ x ∷ drop (suc k) xs
 split_at [] k x e = absurd (cc)
 split_at (y ∷ xs) zero x e = ap (λ z. z ∷ xs) (one y x e)
@@ -148,3 +158,10 @@ module _ (models : List Model) (k : ℕ) (path : List ℕ) (here : slice_get (in
         let b : count_by is_none bounds ≡ length (own_nets models path) = ap (λ l. count_by is_none l) bound ∙ counted models path (signals model) ∙ ap (λ l. length l) (sym own_is) in
         let c = is in
         omega (arith, a, b, c, d)
+
+    pub names_are : map own_name (flat_map (λ p. own_nets models p) (take k (instances models))) ++ own_names_in (path_text path) (signals model) bounds ≡ map own_name (flat_map (λ p. own_nets models p) (take (k + 1) (instances models)))
+    names_are =
+        ap (λ l. map own_name (flat_map (λ p. own_nets models p) (take k (instances models))) ++ l)
+        (ap (λ b. own_names_in (path_text path) (signals model) b) bound ∙ named models path (signals model) ∙ ap (λ o. map own_name o) (sym own_is))
+        ∙ sym (map-append own_name (flat_map (λ p. own_nets models p) (take k (instances models))) (own_nets models path))
+        ∙ ap (λ l. map own_name l) (sym before_next)

@@ -9,14 +9,15 @@ use Rattle.blif_syntax.specs.declared.models.Model.{Model}
 use Rattle.hierarchy.specs.Lines.{UseLine, signals, use_lines}
 use Rattle.hierarchy.specs.Instances.{actual_of, bound_to, had_by, instances, model_at, use_at}
 use Rattle.hierarchy.specs.Nets.{nets, number_at, own_nets}
+use Rattle.hierarchy.specs.Names.{own_name, path_text}
 use Rattle.hierarchy.proofs.Members.{In, at_found, found}
 use Rattle.hierarchy.proofs.Instances.{stands_on}
 use Rattle.instances.specs.declared.table.Row.{Row}
-use Rattle.instances.specs.Table.{IsBelow}
-use Rattle.instances.specs.Numbers.{AreRows, FitsModels, bound_number, number_of, numbers_from, numbers_in}
+use Rattle.instances.specs.Table.{AreLinked, IsBelow, LinksFit}
+use Rattle.instances.specs.Numbers.{AreRows, FitsModels, bound_number, number_of, numbers_from, numbers_in, own_names_in}
 use Rattle.instances.specs.private.Above.{Above, above_at, bound_by}
 use Rattle.instances.proofs.Homes.{actual_is_signal}
-use Rattle.instances.proofs.Numbered.{bound_net, numbers_are, next_is, next_fits, take_next}
+use Rattle.instances.proofs.Numbered.{bound_net, names_are, numbers_are, next_is, next_fits, take_next}
 
 -- the number of a name, among numbers that are given name by name
 pub number_among : (f : List ℕ → ℕ) (names : List (List ℕ)) (word : List ℕ) → In names word → number_of names (map f names) word ≡ f word
@@ -48,6 +49,21 @@ one_some e = cc
 map_same : {X Y : Type 0} (f g : X → Y) → ((x : X) → f x ≡ g x) → (xs : List X) → map f xs ≡ map g xs
 map_same f g h [] = refl
 map_same f g h (x ∷ xs) = ap (λ y. y ∷ map f xs) (h x) ∙ ap (λ l. g x ∷ l) (map_same f g h xs)
+
+less : {X : Type 0} (xs : List X) (k n : ℕ) → n < length (take k xs) → n < k
+less xs zero n h = absurd (omega arith)
+less [] (suc k) n h = absurd (omega arith)
+less (x ∷ xs) (suc k) zero h = omega arith
+less (x ∷ xs) (suc k) (suc n) h = let r = less xs k n (omega arith) in omega arith
+
+-- the signals of a model by its number
+signals_of : (models : List Model) (names : List (List (List ℕ))) (number : ℕ) (model : Model) → names ≡ map signals models → slice_get models number ≡ Some model → slice_index_or names number [] ≡ signals model
+signals_of models names number model known at = got names number (signals model) (ap (λ l. slice_get l number) known ∙ slice_get-map signals models number ∙ ap (λ o. option_map signals o) at)
+  where
+    got : {X : Type 0} (xs : List (List X)) (k : ℕ) (x : List X) → slice_get xs k ≡ Some x → slice_index_or xs k [] ≡ x
+    got [] k x e = absurd (cc)
+    got (y ∷ xs) zero x e = one_some e
+    got (y ∷ xs) (suc k) x e = got xs k x e
 
 -- what a use binds has the number of the actual's net
 module _ (models : List Model) (above : List ℕ) (number : ℕ) (over : Model) (used : UseLine) (has : model_at models above ≡ Some over) (at : slice_get (use_lines over) number ≡ Some used) where
@@ -93,12 +109,6 @@ module _ (models : List Model) (uses : List (List UseLine)) (names : List (List 
       let its_numbers : slice_get numbers above ≡ Some (numbers_in models pa) = ap (λ l. slice_get l above) done ∙ slice_get-map (λ p. numbers_in models p) (take k (instances models)) above ∙ ap (λ o. option_map (λ p. numbers_in models p) o) in_taken in
       (pa, over, s.1, s.2, s.3, link.1, found_above row.above e over_row over_at (signals over) its_names (numbers_in models pa) its_numbers (use_lines over) its_uses s.1 s.3)
     where
-      less : {X : Type 0} (xs : List X) (k n : ℕ) → n < length (take k xs) → n < k
-      less xs zero n h = absurd (omega arith)
-      less [] (suc k) n h = absurd (omega arith)
-      less (x ∷ xs) (suc k) zero h = omega arith
-      less (x ∷ xs) (suc k) (suc n) h = let r = less xs k n (omega arith) in omega arith
-
       found_above : (o : Option ℕ) → o ≡ Some above → (over : Row) → slice_get rows above ≡ Some over → (its_names : List (List ℕ)) → slice_get names over.model ≡ Some its_names → (its_numbers : List ℕ) → slice_get numbers above ≡ Some its_numbers → (its_uses : List UseLine) → slice_get uses over.model ≡ Some its_uses → (used : UseLine) → slice_get its_uses row.number ≡ Some used →
           option_and_then (λ a. option_and_then (λ over. option_and_then (λ its_names. option_and_then (λ its_numbers. option_and_then (λ its_uses. option_and_then {U = Above} (λ (used : UseLine). Some (record { names = its_names; numbers = its_numbers; bindings = used.bindings })) (slice_get its_uses row.number)) (slice_get uses over.model)) (slice_get numbers a)) (slice_get names over.model)) (slice_get rows a)) o ≡ Some (record { names = its_names; numbers = its_numbers; bindings = used.bindings })
       found_above o oe over re its_names ne its_numbers me its_uses ue used ge = rw (oe, re, ne, me, ue, ge) refl
@@ -111,12 +121,7 @@ module _ (models : List Model) (uses : List (List UseLine)) (names : List (List 
       own_model = sym fits.model ∙ has
 
       own_names : slice_index_or names row.model [] ≡ signals model
-      own_names = got names row.model (signals model) (ap (λ l. slice_get l row.model) names_known ∙ slice_get-map signals models row.model ∙ ap (λ o. option_map signals o) own_model)
-        where
-          got : {X : Type 0} (xs : List (List X)) (k : ℕ) (x : List X) → slice_get xs k ≡ Some x → slice_index_or xs k [] ≡ x
-          got [] k x e = absurd (cc)
-          got (y ∷ xs) zero x e = one_some e
-          got (y ∷ xs) (suc k) x e = got xs k x e
+      own_names = signals_of models names row.model model names_known own_model
 
       by : (o : Option ℕ) → row.above ≡ o → (signal : List ℕ) → bound_by (above_at uses names rows numbers row) signal ≡ bound_net models path signal
       by None e signal =
@@ -159,6 +164,9 @@ row_low keys models rows names k d table e low =
     let f = r.low in
     omega (arith, a, b, c, f)
 
+pub links_fit : (models : List Model) (rows : List Row) → AreRows models rows → LinksFit rows (instances models)
+links_fit models rows table = record { long = table.long; fits = λ k row path here its. (table.fits k row path here its).link }
+
 -- the next row
 module _ (models : List Model) (uses : List (List UseLine)) (names : List (List (List ℕ))) (rows : List Row) (numbers : List (List ℕ)) (next k : ℕ) (d : Row)
     (table : AreRows models rows) (uses_known : uses ≡ map use_lines models) (names_known : names ≡ map signals models)
@@ -185,3 +193,26 @@ module _ (models : List Model) (uses : List (List UseLine)) (names : List (List 
 
   pub turn_next : next + count_by is_none bounds ≡ length (flat_map (λ path. own_nets models path) (take (k + 1) (instances models)))
   turn_next = next_is models k r.path r.its r.model r.has next is bounds its_bounds
+
+  pub turn_names : (old added : List (List ℕ)) (its : List (Option ℕ)) → old ≡ map own_name (flat_map (λ path. own_nets models path) (take k (instances models))) → its ≡ bounds →
+    ((paths : List (List ℕ)) → LinksFit rows paths → (path : List ℕ) → slice_get paths k ≡ Some path → added ≡ old ++ own_names_in (path_text path) (slice_index_or names (get_or rows k d).model []) its) →
+    added ≡ map own_name (flat_map (λ path. own_nets models path) (take (k + 1) (instances models)))
+  turn_names old added its before same add =
+      let mine = signals_of models names (get_or rows k d).model r.model names_known r.number in
+      add (instances models) (links_fit models rows table) r.path r.its
+      ∙ ap (λ l. l ++ own_names_in (path_text r.path) (slice_index_or names (get_or rows k d).model []) its) before
+      ∙ ap (λ l. map own_name (flat_map (λ path. own_nets models path) (take k (instances models))) ++ own_names_in (path_text r.path) l its) mine
+      ∙ ap (λ b. map own_name (flat_map (λ path. own_nets models path) (take k (instances models))) ++ own_names_in (path_text r.path) (signals r.model) b) same
+      ∙ names_are models k r.path r.its r.model r.has next is bounds its_bounds
+
+  pub turn_long : length bounds ≡ length (slice_index_or names (get_or rows k d).model [])
+  turn_long = ap (λ l. length l) bound ∙ length-map (slice_index_or names (get_or rows k d).model []) (bound_by (above_at uses names rows numbers (get_or rows k d)))
+
+pub are_linked : (models : List Model) (rows : List Row) → AreRows models rows → AreLinked rows
+are_linked models rows table k row above here e =
+    let low = below rows k row here in
+    let long = table.long in
+    let path = get_or (instances models) k [] in
+    let its = at_place (instances models) k [] (omega (arith, low, long)) in
+    let link : (above < length (take k (instances models))) × (path ≡ row.number ∷ slice_index_or (take k (instances models)) above []) = subst (λ o. IsBelow (take k (instances models)) o row.number path) e (table.fits k row path here its).link in
+    less (instances models) k above link.0

@@ -1,5 +1,5 @@
 -- The numbers of the nets of an instance's signals.
-use Rattle.std.specs.Prelude.{◌≡◌, ◌<◌, ℕ, ◌+◌, ◌∷◌, [], List, Option, None, Some, bytes_eq, find, length, map, option_map, slice_get, slice_index_or, take}
+use Rattle.std.specs.Prelude.{◌≡◌, ◌<◌, ℕ, ◌+◌, ◌++◌, ◌∷◌, [], List, Option, None, Some, bytes_eq, find, length, map, option_map, slice_get, slice_index_or, take}
 use Rattle.std.specs.List.{position_or_len}
 use Rattle.blif_syntax.specs.declared.models.Model.{Model}
 use Rattle.hierarchy.specs.Lines.{UseLine, signals, use_lines}
@@ -43,3 +43,10 @@ pub record AreRows (models : List Model) (rows : List Row) : Type 0 where
 pub record AreKnown (models : List Model) (uses : List (List UseLine)) (names : List (List (List ℕ))) : Type 0 where
   pub uses_known : uses ≡ map use_lines models
   pub names_known : names ≡ map signals models
+
+-- the own names of the signals of an instance that are not bound; `path` is the text of its path
+abbrev pub own_names_in : List ℕ → List (List ℕ) → List (Option ℕ) → List (List ℕ)
+own_names_in path [] bounds = []
+own_names_in path (word ∷ words) [] = []
+own_names_in path (word ∷ words) (None ∷ bounds) = (path ++ word) ∷ own_names_in path words bounds
+own_names_in path (word ∷ words) (Some number ∷ bounds) = own_names_in path words bounds

@@ -26,3 +26,13 @@ pub record IsTable (graph : List (List ℕ)) (rows : List Row) (paths : List (Li
   pub long : length rows ≡ length paths
   pub fits : (k : ℕ) (row : Row) (path : List ℕ) → slice_get rows k ≡ Some row → slice_get paths k ≡ Some path →
       Fits graph (take k paths) row path
+
+-- each row stands behind the row of the instance above it
+abbrev pub AreLinked : List Row → Type 0
+AreLinked rows = (k : ℕ) (row : Row) (above : ℕ) → slice_get rows k ≡ Some row → row.above ≡ Some above → above < k
+
+-- the rows are linked as the paths are
+pub record LinksFit (rows : List Row) (paths : List (List ℕ)) : Type 0 where
+  pub long : length rows ≡ length paths
+  pub fits : (k : ℕ) (row : Row) (path : List ℕ) → slice_get rows k ≡ Some row → slice_get paths k ≡ Some path →
+      IsBelow (take k paths) row.above row.number path

@@ -4,6 +4,7 @@
 mod above;
 mod bounds;
 pub mod numbers;
+mod own_names;
 pub mod table;
 
 pub use table::{Row, instance_rows};

@@ -3,10 +3,12 @@
 ghost use Rattle.std.specs.Prelude.{◌≡◌, ◌+◌, ◌≤◌, IfOk, OnOk, count_by, is_none, length, map};
 ghost use Rattle.hierarchy.specs.Instances.{instances};
 ghost use Rattle.hierarchy.specs.Lines.{signals, use_lines};
+ghost use Rattle.hierarchy.specs.Names.{own_name};
 ghost use Rattle.hierarchy.specs.Nets.{nets};
 ghost use Rattle.instances.specs.Numbers.{AreRows, numbers_from, numbers_in};
 
 use crate::above::{row_bounds, use_lines};
+use crate::own_names::add_own_names;
 use crate::table::Row;
 use blif_syntax::Model;
 use hierarchy::uses::UseLine;
@@ -48,26 +50,40 @@ fn all_uses<'a>(alloc: Global, models: &'a [Model]) -> Result<Vec<Items<UseLine<
     Ok(uses)
 }
 
-/// For each instance, in preorder, the numbers of the nets of its signals, by first mention. `names` has the signals of
-/// each model, and `rows` the instances. Each binding and each signal of an instance takes one look-up by name.
+/// The numbers of nets: for each instance, in preorder, those of the nets of its signals, by first mention; and the nets'
+/// own names, by number.
+#[derive(Drop)]
+pub struct Numbered {
+    pub numbers: Vec<Items<u32>>,
+    pub names: Items<Name>,
+}
+
+/// The numbers of the nets of each instance's signals. `names` has the signals of each model, and `rows` the instances. Each
+/// binding of an instance takes two look-ups by name.
 pub fn instance_numbers(
     alloc: Global,
     models: &[Model],
     names: &[IndexSet<Name>],
     rows: &[Row],
-) -> Result<Vec<Items<u32>>, AllocError>
+) -> Result<Numbered, AllocError>
     requires names { map (λ set. set.keys) names.now ≡ map signals models.now }
     requires rows { AreRows models.now rows.now }
     requires few { length (nets models.now) ≤ 4294967295 }
-    ensures { IfOk result (λ numbers. numbers.items
+    ensures numbers { IfOk result (λ made. made.numbers.items
         ≡ map (λ path. numbers_in models.now path) (instances models.now)) }
+    ensures names { IfOk result (λ made. made.names ≡ map own_name (nets models.now)) }
 {
     let uses = all_uses(alloc, models)?;
     let mut numbers = Vec::new(alloc);
+    let mut own = Items::new(alloc);
     let mut next = 0;
-    for row in rows {
+    for (place, row) in rows.iter().enumerate() {
         let bounds = row_bounds(alloc, uses.as_slice(), names, rows, numbers.as_slice(), row)?;
+        add_own_names(alloc, &mut own, rows, place, names, row.model, bounds.as_slice())?;
         numbers.push(numbers_of(alloc, bounds.as_slice(), &mut next)?)?;
     }
-    Ok(numbers)
+    Ok(Numbered {
+        numbers,
+        names: own,
+    })
 }
