@@ -1,4 +1,5 @@
 pub mod Members
+pub mod Sets
 pub mod Instances
 pub mod Reached
 pub mod Marked

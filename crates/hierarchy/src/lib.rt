@@ -13,6 +13,7 @@ mod reach;
 mod refusal_tests;
 pub mod refusals;
 pub mod signals;
+mod unbound;
 pub mod uses;
 
 pub use fault::NetFault;

@@ -81,6 +81,31 @@ const TABLE: &[(&[u8], &[u8])] = &[
         b".model m\n.subckt k\n.subckt n\n.end\n.model n\n.subckt k q=x\n.end\n.model k\n.inputs a\n",
         b"bad formal 6 q",
     ),
+    // A missing formal: a word of `.inputs` alone has to be bound; the first such; after every bad formal.
+    (
+        b".model m\n.subckt n b=x\n.end\n.model n\n.inputs a\n.inputs b c\n.outputs d\n.clock e\n",
+        b"missing formal 2 a",
+    ),
+    (
+        b".model m\n.subckt n b=x a=y\n.end\n.model n\n.inputs b b a\n.outputs d\n.clock e\n",
+        b"nothing",
+    ),
+    (
+        b".model m\n.subckt n e=x\n.end\n.model n\n.clock e f\n.inputs e\n.outputs f\n",
+        b"nothing",
+    ),
+    (
+        b".model m\n.subckt n\n.subckt n b=x\n.end\n.model n\n.outputs a\n.inputs b a\n",
+        b"missing formal 2 b",
+    ),
+    (
+        b".model m\n.subckt n\n.subckt n a=x q=y\n.end\n.model n\n.inputs a\n",
+        b"bad formal 3 q",
+    ),
+    (
+        b".model m\n.end\n.model k\n.subckt n\n.end\n.model n\n.inputs a\n",
+        b"nothing",
+    ),
 ];
 
 /// A kind with a line and a name.
@@ -98,6 +123,7 @@ fn shown(alloc: Global, fault: &NetFault) -> Result<Vec<u8>, AllocError> {
         NetFault::UnknownModel { line, name } => line_fault(alloc, b"unknown model", *line, name),
         NetFault::Recursive { line, name } => line_fault(alloc, b"recursive model", *line, name),
         NetFault::BadFormal { line, name } => line_fault(alloc, b"bad formal", *line, name),
+        NetFault::MissingFormal { line, name } => line_fault(alloc, b"missing formal", *line, name),
         _ => b"another kind".to_vec(alloc),
     }
 }

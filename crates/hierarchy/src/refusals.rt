@@ -1,16 +1,18 @@
 //! What a hierarchy is refused for; begin with `refuse`.
 
 ghost use Rattle.std.specs.Prelude.{◌≡◌, ◌⊎◌, ◌<◌, IfErr, IfOk, OnOk, length};
-ghost use Rattle.hierarchy.specs.Faults.{Else, HasBadFormal, HasFaultyUse, HasRecursive, IsFree, IsRefusalSoFar};
+ghost use Rattle.hierarchy.specs.Faults.{IsFree, IsRefusalSoFar};
 ghost use Rattle.hierarchy.specs.Instances.{model_names};
 ghost use Rattle.hierarchy.specs.Reach.{uses};
 ghost use Rattle.hierarchy.specs.private.Checks.{AreReachable};
+ghost use Rattle.hierarchy.specs.private.Kinds.{FromBadFormal, FromRecursive, FromUnknownModel};
 
 use crate::checks::{ItemAt, marked_items, refuse_unknown_models};
 use crate::circles::refuse_recursive;
 use crate::fault::NetFault;
 use crate::formals::refuse_bad_formals;
 use crate::reach::reached;
+use crate::unbound::refuse_missing_formals;
 use crate::uses::{names_of, uses};
 use blif_syntax::{Model, Models};
 use indexmap::IndexSet;
@@ -31,8 +33,26 @@ fn reachable_items<'a>(
     marked_items(alloc, models, marks.as_slice())
 }
 
-/// Refuses the first recursive use, or where there is none the first bad formal. `lines` has the items of just the reachable
-/// models, `names` the names of all, and `graph` the numbers of those that each uses.
+/// Refuses the first use with a bad formal, or where there is none the first that leaves a formal unbound. `lines` has the
+/// items of just the reachable models, and `names` the names of all.
+fn refuse_bindings(
+    alloc: Global,
+    models: &[Model],
+    names: &IndexSet<Name>,
+    lines: &[ItemAt],
+) -> Result<(), NetFault>
+    requires names { names.now.keys ≡ model_names models.now }
+    requires lines { AreReachable models.now lines.now }
+    ensures ok { OnOk result (IsFree (FromBadFormal models.now)) }
+    ensures err { IfErr result (λ fault. (fault ≡ NetFault.OutOfMemory)
+        ⊎ FromBadFormal models.now fault) }
+{
+    refuse_bad_formals(alloc, models, names, lines)?;
+    refuse_missing_formals(alloc, models, names, lines)
+}
+
+/// Refuses the first recursive use, or where there is none what `refuse_bindings` does. `graph` has for each model the numbers
+/// of those that it uses.
 fn refuse_known_uses(
     alloc: Global,
     models: &[Model],
@@ -44,21 +64,21 @@ fn refuse_known_uses(
     requires names { names.now.keys ≡ model_names models.now }
     requires graph { graph.now ≡ uses models.now }
     requires lines { AreReachable models.now lines.now }
-    ensures ok { OnOk result (IsFree (Else (HasRecursive models.now) (HasBadFormal models.now))) }
+    ensures ok { OnOk result (IsFree (FromRecursive models.now)) }
     ensures err { IfErr result (λ fault. (fault ≡ NetFault.OutOfMemory)
-        ⊎ Else (HasRecursive models.now) (HasBadFormal models.now) fault) }
+        ⊎ FromRecursive models.now fault) }
 {
     refuse_recursive(alloc, models, names, graph, lines)?;
-    refuse_bad_formals(alloc, models, names, lines)
+    refuse_bindings(alloc, models, names, lines)
 }
 
 /// Refuses the first use of an unknown model, or where there is none what `refuse_known_uses` does.
 fn refuse_uses(alloc: Global, models: &[Model], names: &IndexSet<Name>) -> Result<(), NetFault>
     requires some { 0 < length models.now }
     requires names { names.now.keys ≡ model_names models.now }
-    ensures ok { OnOk result (IsFree (HasFaultyUse models.now)) }
+    ensures ok { OnOk result (IsFree (FromUnknownModel models.now)) }
     ensures err { IfErr result (λ fault. (fault ≡ NetFault.OutOfMemory)
-        ⊎ HasFaultyUse models.now fault) }
+        ⊎ FromUnknownModel models.now fault) }
 {
     let graph = uses(alloc, names, models)?;
     let lines = reachable_items(alloc, models, graph.as_slice())?;
@@ -67,7 +87,7 @@ fn refuse_uses(alloc: Global, models: &[Model], names: &IndexSet<Name>) -> Resul
 }
 
 /// Refuses a hierarchy for the first fault there is of the kinds that are looked for so far: a double model, then an unknown
-/// model, then a recursive one, then a bad formal. The error is that fault, or want of memory.
+/// model, a recursive one, a bad formal, a missing formal. The error is that fault, or want of memory.
 pub fn refuse(alloc: Global, models: &Models) -> Result<(), NetFault>
     ensures ok { OnOk result (IsFree (IsRefusalSoFar models.now.models)) }
     ensures err { IfErr result (λ fault. (fault ≡ NetFault.OutOfMemory)
