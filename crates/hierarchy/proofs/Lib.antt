@@ -5,3 +5,4 @@ pub mod Reached
 pub mod Marked
 pub mod Refused
 pub mod Deep
+pub mod Wide

@@ -7,6 +7,7 @@ mod circles;
 mod depth;
 pub mod fault;
 mod formals;
+mod gates;
 pub mod lines;
 mod reach;
 #[cfg(test)]

@@ -124,6 +124,9 @@ fn shown(alloc: Global, fault: &NetFault) -> Result<Vec<u8>, AllocError> {
         NetFault::Recursive { line, name } => line_fault(alloc, b"recursive model", *line, name),
         NetFault::BadFormal { line, name } => line_fault(alloc, b"bad formal", *line, name),
         NetFault::MissingFormal { line, name } => line_fault(alloc, b"missing formal", *line, name),
+        NetFault::GateTooWide { line } => {
+            Ok(format!(in alloc; "cover too wide {line}")?.into_bytes())
+        }
         _ => b"another kind".to_vec(alloc),
     }
 }
@@ -131,7 +134,7 @@ fn shown(alloc: Global, fault: &NetFault) -> Result<Vec<u8>, AllocError> {
 /// What a text is refused for.
 #[tactic(auto, using(blif_syntax::proofs::Fit::words_fit))]
 fn refusal(alloc: Global, text: &[u8]) -> Result<Vec<u8>, AllocError>
-    requires { length text.now ≤ 1000 }
+    requires { length text.now ≤ 67108864 }
 {
     let lines = logical_lines(alloc, text)?;
     let Ok(models) = read_models(alloc, lines.as_slice()) else {
@@ -146,9 +149,53 @@ fn refusal(alloc: Global, text: &[u8]) -> Result<Vec<u8>, AllocError>
 #[test]
 fn refusals(rt: HostRuntime) -> Result<(), Fail> {
     for (text, want) in TABLE {
-        assert!(rt; text.len() < 1000);
+        assert!(rt; text.len() <= 67_108_864);
         let got = refusal(rt.alloc(), text)?;
         assert_eq!(rt; got.as_slice(), *want, "at {text:?}");
+    }
+    Ok(())
+}
+
+/// A netlist of one model with one gate: it has so many inputs, and then pairs of inputs. There is a row for each pair, which
+/// asks that the inputs and the pair are 1; where there is no pair there is no row.
+fn gate_text(alloc: Global, singles: u32, pairs: u32) -> Result<Vec<u8>, AllocError> {
+    let mut out = b".model m\n.names".to_vec(alloc)?;
+    for _ in 0..singles {
+        out.extend_from_slice(b" a")?;
+    }
+    for _ in 0..pairs {
+        out.extend_from_slice(b" b c")?;
+    }
+    out.extend_from_slice(b" y\n")?;
+    for row in 0..pairs {
+        for _ in 0..singles {
+            out.push(b'1')?;
+        }
+        for pair in 0..pairs {
+            out.extend_from_slice(if pair == row { b"11" } else { b"--" })?;
+        }
+        out.extend_from_slice(b" 1\n")?;
+    }
+    Ok(out)
+}
+
+#[test]
+fn widest_gates(rt: HostRuntime) -> Result<(), Fail> {
+    // 15 pairs have 65,535 cases, and each single input before them one more.
+    let table: &[(u32, u32, &[u8])] = &[
+        (1000, 0, b"nothing"),
+        (1001, 0, b"cover too wide 2"),
+        (0, 15, b"nothing"),
+        (1, 15, b"nothing"),
+        (2, 15, b"cover too wide 2"),
+        (0, 16, b"cover too wide 2"),
+        (970, 15, b"cover too wide 2"),
+    ];
+    for (singles, pairs, want) in table {
+        let text = gate_text(rt.alloc(), *singles, *pairs)?;
+        assert!(rt; text.len() <= 67_108_864);
+        let got = refusal(rt.alloc(), text.as_slice())?;
+        assert_eq!(rt; got.as_slice(), *want, "at {singles} and {pairs}");
     }
     Ok(())
 }

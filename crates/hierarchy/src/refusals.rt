@@ -1,16 +1,18 @@
 //! What a hierarchy is refused for; begin with `refuse`.
 
 ghost use Rattle.std.specs.Prelude.{◌≡◌, ◌⊎◌, ◌<◌, IfErr, IfOk, OnOk, length};
+ghost use Rattle.blif_syntax.specs.Covered.{AreCovered};
 ghost use Rattle.hierarchy.specs.Faults.{IsFree, IsRefusalSoFar};
 ghost use Rattle.hierarchy.specs.Instances.{model_names};
 ghost use Rattle.hierarchy.specs.Reach.{uses};
 ghost use Rattle.hierarchy.specs.private.Checks.{AreReachable};
-ghost use Rattle.hierarchy.specs.private.Kinds.{FromBadFormal, FromRecursive, FromUnknownModel};
+ghost use Rattle.hierarchy.specs.private.Kinds.{FromBadFormal, FromMissingFormal, FromRecursive, FromUnknownModel};
 
 use crate::checks::{ItemAt, marked_items, refuse_unknown_models};
 use crate::circles::refuse_recursive;
 use crate::fault::NetFault;
 use crate::formals::refuse_bad_formals;
+use crate::gates::refuse_wide_gates;
 use crate::reach::reached;
 use crate::unbound::refuse_missing_formals;
 use crate::uses::{names_of, uses};
@@ -33,14 +35,33 @@ fn reachable_items<'a>(
     marked_items(alloc, models, marks.as_slice())
 }
 
-/// Refuses the first use with a bad formal, or where there is none the first that leaves a formal unbound. `lines` has the
-/// items of just the reachable models, and `names` the names of all.
-fn refuse_bindings(
+/// Refuses the first use that leaves a formal unbound, or where there is none the first gate that is too wide. `lines` has
+/// the items of just the reachable models, and `names` the names of all.
+fn refuse_missing_formals_on(
     alloc: Global,
     models: &[Model],
     names: &IndexSet<Name>,
     lines: &[ItemAt],
 ) -> Result<(), NetFault>
+    requires covered { AreCovered models.now }
+    requires names { names.now.keys ≡ model_names models.now }
+    requires lines { AreReachable models.now lines.now }
+    ensures ok { OnOk result (IsFree (FromMissingFormal models.now)) }
+    ensures err { IfErr result (λ fault. (fault ≡ NetFault.OutOfMemory)
+        ⊎ FromMissingFormal models.now fault) }
+{
+    refuse_missing_formals(alloc, models, names, lines)?;
+    refuse_wide_gates(alloc, models, lines)
+}
+
+/// Refuses the first use with a bad formal, or where there is none what `refuse_missing_formals_on` does.
+fn refuse_bad_formals_on(
+    alloc: Global,
+    models: &[Model],
+    names: &IndexSet<Name>,
+    lines: &[ItemAt],
+) -> Result<(), NetFault>
+    requires covered { AreCovered models.now }
     requires names { names.now.keys ≡ model_names models.now }
     requires lines { AreReachable models.now lines.now }
     ensures ok { OnOk result (IsFree (FromBadFormal models.now)) }
@@ -48,18 +69,19 @@ fn refuse_bindings(
         ⊎ FromBadFormal models.now fault) }
 {
     refuse_bad_formals(alloc, models, names, lines)?;
-    refuse_missing_formals(alloc, models, names, lines)
+    refuse_missing_formals_on(alloc, models, names, lines)
 }
 
-/// Refuses the first recursive use, or where there is none what `refuse_bindings` does. `graph` has for each model the numbers
+/// Refuses the first recursive use, or where there is none what `refuse_bad_formals_on` does. `graph` has for each model the numbers
 /// of those that it uses.
-fn refuse_known_uses(
+fn refuse_recursive_on(
     alloc: Global,
     models: &[Model],
     names: &IndexSet<Name>,
     graph: &[Items<usize>],
     lines: &[ItemAt],
 ) -> Result<(), NetFault>
+    requires covered { AreCovered models.now }
     requires some { 0 < length models.now }
     requires names { names.now.keys ≡ model_names models.now }
     requires graph { graph.now ≡ uses models.now }
@@ -69,11 +91,16 @@ fn refuse_known_uses(
         ⊎ FromRecursive models.now fault) }
 {
     refuse_recursive(alloc, models, names, graph, lines)?;
-    refuse_bindings(alloc, models, names, lines)
+    refuse_bad_formals_on(alloc, models, names, lines)
 }
 
-/// Refuses the first use of an unknown model, or where there is none what `refuse_known_uses` does.
-fn refuse_uses(alloc: Global, models: &[Model], names: &IndexSet<Name>) -> Result<(), NetFault>
+/// Refuses the first use of an unknown model, or where there is none what `refuse_recursive_on` does.
+fn refuse_unknown_models_on(
+    alloc: Global,
+    models: &[Model],
+    names: &IndexSet<Name>,
+) -> Result<(), NetFault>
+    requires covered { AreCovered models.now }
     requires some { 0 < length models.now }
     requires names { names.now.keys ≡ model_names models.now }
     ensures ok { OnOk result (IsFree (FromUnknownModel models.now)) }
@@ -83,17 +110,18 @@ fn refuse_uses(alloc: Global, models: &[Model], names: &IndexSet<Name>) -> Resul
     let graph = uses(alloc, names, models)?;
     let lines = reachable_items(alloc, models, graph.as_slice())?;
     refuse_unknown_models(models, names, lines.as_slice())?;
-    refuse_known_uses(alloc, models, names, graph.as_slice(), lines.as_slice())
+    refuse_recursive_on(alloc, models, names, graph.as_slice(), lines.as_slice())
 }
 
 /// Refuses a hierarchy for the first fault there is of the kinds that are looked for so far: a double model, then an unknown
-/// model, a recursive one, a bad formal, a missing formal. The error is that fault, or want of memory.
+/// model, a recursive one, a bad formal, a missing formal, a gate that is too wide. The error is that fault, or want of memory.
 pub fn refuse(alloc: Global, models: &Models) -> Result<(), NetFault>
+    requires { AreCovered models.now.models }
     ensures ok { OnOk result (IsFree (IsRefusalSoFar models.now.models)) }
     ensures err { IfErr result (λ fault. (fault ≡ NetFault.OutOfMemory)
         ⊎ IsRefusalSoFar models.now.models fault) }
 {
     let models = models.models.as_slice();
     let names = names_of(alloc, models)?;
-    refuse_uses(alloc, models, &names)
+    refuse_unknown_models_on(alloc, models, &names)
 }

@@ -1,15 +1,19 @@
 -- For private functions. The kinds of fault from some kind on, in their order, and what a check of one use finds.
-use Rattle.std.specs.Prelude.{List, ℕ, Option, not, find, map, option_map}
+use Rattle.std.specs.Prelude.{List, ℕ, Option, None, Some, not, find, map, option_map, if◌then◌else◌}
+use Rattle.blif_syntax.specs.declared.models.Item.{Item}
 use Rattle.blif_syntax.specs.declared.models.Model.{Model}
 use Rattle.blif_syntax.specs.Words.{is_one_of}
 use Rattle.hierarchy.specs.declared.fault.NetFault.{NetFault}
-use Rattle.hierarchy.specs.declared.fault.NetFault.TheVariants.{MissingFormal}
-use Rattle.hierarchy.specs.Faults.{Else, HasBadFormal, HasMissingFormal, HasRecursive, HasUnknownModel}
+use Rattle.hierarchy.specs.declared.fault.NetFault.TheVariants.{GateTooWide, MissingFormal}
+use Rattle.hierarchy.specs.Faults.{Else, HasBadFormal, HasGateTooWide, HasMissingFormal, HasRecursive, HasUnknownModel, is_too_wide}
 use Rattle.hierarchy.specs.Lines.{UseLine}
 
 -- the fault of the first kind from that of the name on for which there is one
+abbrev pub FromMissingFormal : List Model → NetFault → Type 0
+FromMissingFormal models = Else (HasMissingFormal models) (HasGateTooWide models)
+
 abbrev pub FromBadFormal : List Model → NetFault → Type 0
-FromBadFormal models = Else (HasBadFormal models) (HasMissingFormal models)
+FromBadFormal models = Else (HasBadFormal models) (FromMissingFormal models)
 
 abbrev pub FromRecursive : List Model → NetFault → Type 0
 FromRecursive models = Else (HasRecursive models) (FromBadFormal models)
@@ -22,3 +26,7 @@ abbrev pub missing_formal_among : List (List ℕ) → UseLine → Option NetFaul
 missing_formal_among needed used =
     option_map (λ name. MissingFormal used.line name)
     (find (λ name. not (is_one_of (map (λ binding. binding.0) used.bindings) name)) needed)
+
+-- the line is a gate that is too wide
+abbrev pub wide_gate : Item → Option NetFault
+wide_gate item = if is_too_wide item.what then Some (GateTooWide item.line) else None

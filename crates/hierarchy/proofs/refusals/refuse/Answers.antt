@@ -10,17 +10,17 @@ use Rattle.hierarchy.proofs.refusals.refuse.Goals as goal
 pub returns-clause-ok : goal.returns-clause-ok
 returns-clause-ok c =
     let models = c.as_slice-models.result.now in
-    subst (λ all. OnOk c.refuse_uses.result (IsFree (IsRefusalSoFar all))) c.as_slice-models.ensures
-    (on_ok_weaker c.refuse_uses.result
+    subst (λ all. OnOk c.refuse_unknown_models_on.result (IsFree (IsRefusalSoFar all))) c.as_slice-models.ensures
+    (on_ok_weaker c.refuse_unknown_models_on.result
     (else_free (HasDoubleModel models) (FromUnknownModel models) (double_free models c.in_ok-names.ensures.ok))
-    c.refuse_uses.ensures.ok)
+    c.refuse_unknown_models_on.ensures.ok)
 
 pub returns-clause-err : goal.returns-clause-err
 returns-clause-err c =
     let models = c.as_slice-models.result.now in
-    subst (λ all. IfErr c.refuse_uses.result (λ fault. (fault ≡ OutOfMemory) ⊎ IsRefusalSoFar all fault)) c.as_slice-models.ensures
-    (IfErr-weaker c.refuse_uses.result
+    subst (λ all. IfErr c.refuse_unknown_models_on.result (λ fault. (fault ≡ OutOfMemory) ⊎ IsRefusalSoFar all fault)) c.as_slice-models.ensures
+    (IfErr-weaker c.refuse_unknown_models_on.result
     (λ fault. (fault ≡ OutOfMemory) ⊎ FromUnknownModel models fault)
     (λ fault. (fault ≡ OutOfMemory) ⊎ IsRefusalSoFar models fault)
     (else_later (HasDoubleModel models) (FromUnknownModel models) (double_free models c.in_ok-names.ensures.ok))
-    c.refuse_uses.ensures.err)
+    c.refuse_unknown_models_on.ensures.err)
