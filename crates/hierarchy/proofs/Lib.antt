@@ -6,3 +6,5 @@ pub mod Marked
 pub mod Refused
 pub mod Deep
 pub mod Wide
+pub mod Free
+pub mod Levels

@@ -1,5 +1,5 @@
 -- The lines of reachable models are lines of models; gates that are too wide, as a check and as a kind of fault.
-use Rattle.std.proofs.Common.{◌≡◌, ℕ, suc, Bool, true, false, cond, List, [], ◌∷◌, ◌++◌, map, get_or, Option, None, Some, refl, sym, ap, ◌∙◌, inl, inr, subst}
+use Rattle.std.proofs.Common.{◌≡◌, ℕ, suc, Bool, true, false, cond, List, [], ◌∷◌, map, get_or, None, Some, refl, sym, ap, ◌∙◌, inl, inr, subst}
 use Rattle.std.specs.Prelude.{◌⊎◌, All}
 use Rattle.blif_syntax.specs.Covered.{AreCovered, IsCovered}
 use Rattle.blif_syntax.specs.declared.models.Item.{Item}

@@ -181,4 +181,4 @@ IsRefusal models =
 abbrev pub IsRefusalSoFar : List Model → NetFault → Type 0
 IsRefusalSoFar models =
     Else (HasDoubleModel models) (Else (HasUnknownModel models) (Else (HasRecursive models)
-    (Else (HasBadFormal models) (Else (HasMissingFormal models) (HasGateTooWide models)))))
+    (Else (HasBadFormal models) (Else (HasMissingFormal models) (Else (HasGateTooWide models) (HasTooDeep models))))))

@@ -127,6 +127,7 @@ fn shown(alloc: Global, fault: &NetFault) -> Result<Vec<u8>, AllocError> {
         NetFault::GateTooWide { line } => {
             Ok(format!(in alloc; "cover too wide {line}")?.into_bytes())
         }
+        NetFault::TooDeep => b"hierarchy too deep".to_vec(alloc),
         _ => b"another kind".to_vec(alloc),
     }
 }
@@ -196,6 +197,72 @@ fn widest_gates(rt: HostRuntime) -> Result<(), Fail> {
         assert!(rt; text.len() <= 67_108_864);
         let got = refusal(rt.alloc(), text.as_slice())?;
         assert_eq!(rt; got.as_slice(), *want, "at {singles} and {pairs}");
+    }
+    Ok(())
+}
+
+/// A netlist whose models use one another in a chain of so many uses, from the model of the first number on. The last model
+/// has these lines.
+fn chain_text(alloc: Global, head: &[u8], uses: u32, last: &[u8]) -> Result<Vec<u8>, AllocError> {
+    let mut out = head.to_vec(alloc)?;
+    for number in 1..uses {
+        out.extend_from_slice(format!(in alloc;
+            ".model m{}\n.subckt m{number}\n.end\n",
+            number - 1
+        )?.as_bytes())?;
+    }
+    out.extend_from_slice(last)?;
+    Ok(out)
+}
+
+#[test]
+fn deepest_hierarchies(rt: HostRuntime) -> Result<(), Fail> {
+    // The last of so many models lies one level less below the first.
+    let table: &[(&[u8], u32, &[u8], &[u8])] = &[
+        (b"", 65, b".model m64\n", b"nothing"),
+        (
+            b"",
+            65,
+            b".model m64\n.subckt n\n.end\n.model n\n",
+            b"hierarchy too deep",
+        ),
+        (b".model top\n.end\n", 90, b".model m89\n", b"nothing"),
+        (
+            b".model top\n.subckt m26\n.end\n",
+            90,
+            b".model m89\n",
+            b"nothing",
+        ),
+        (
+            b".model top\n.subckt m25\n.end\n",
+            90,
+            b".model m89\n",
+            b"hierarchy too deep",
+        ),
+        (
+            b".model top\n.subckt m1\n.subckt m0\n.end\n",
+            65,
+            b".model m64\n",
+            b"hierarchy too deep",
+        ),
+        (
+            b"",
+            90,
+            b".model m89\n.subckt m85\n",
+            b"recursive model 257 m86",
+        ),
+        (
+            b"",
+            90,
+            b".model m89\n.inputs a a\n.end\n.model n\n.inputs b\n",
+            b"missing formal 266 a",
+        ),
+    ];
+    for (head, uses, last, want) in table {
+        let text = chain_text(rt.alloc(), head, *uses, last)?;
+        assert!(rt; text.len() <= 67_108_864);
+        let got = refusal(rt.alloc(), text.as_slice())?;
+        assert_eq!(rt; got.as_slice(), *want, "at {head:?}, {uses} and {last:?}");
     }
     Ok(())
 }
