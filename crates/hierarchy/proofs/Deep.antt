@@ -7,7 +7,7 @@ use Rattle.hierarchy.specs.private.Depth.{has_steps}
 use Rattle.hierarchy.proofs.Members.{In, contains_from_in, in_get}
 
 -- steps behind steps
-joined : (graph : List (List ℕ)) (a b c : ℕ) (first more : List ℕ) → end_of graph a first ≡ Some b → end_of graph b more ≡ Some c → end_of graph a (more ++ first) ≡ Some c
+pub joined : (graph : List (List ℕ)) (a b c : ℕ) (first more : List ℕ) → end_of graph a first ≡ Some b → end_of graph b more ≡ Some c → end_of graph a (more ++ first) ≡ Some c
 joined graph a b c first [] e f = e ∙ f
 joined graph a b c first (n ∷ more) e f = by (end_of graph b more) refl f (λ d. joined graph a b d first more e)
   where
@@ -59,13 +59,13 @@ one_more graph marks n k each low =
     next n = omega arith
 
 -- with more steps there are fewer
-fewer_steps : (graph : List (List ℕ)) (n more k : ℕ) → n ≤ more → has_steps graph more k ≡ true → has_steps graph n k ≡ true
+pub fewer_steps : (graph : List (List ℕ)) (n more k : ℕ) → n ≤ more → has_steps graph more k ≡ true → has_steps graph n k ≡ true
 fewer_steps graph zero more k low e = refl
 fewer_steps graph (suc n) zero k low e = absurd (omega arith)
 fewer_steps graph (suc n) (suc more) k low e = any_weaker (has_steps graph more) (has_steps graph n) (get_or graph k []) (λ x h. fewer_steps graph n more x (omega arith) h) e
 
 -- steps to a model, and those that lead on from it
-steps_on : (graph : List (List ℕ)) (from : ℕ) (steps : List ℕ) (to n all : ℕ) → end_of graph from steps ≡ Some to → has_steps graph n to ≡ true → all ≡ length steps + n → has_steps graph all from ≡ true
+pub steps_on : (graph : List (List ℕ)) (from : ℕ) (steps : List ℕ) (to n all : ℕ) → end_of graph from steps ≡ Some to → has_steps graph n to ≡ true → all ≡ length steps + n → has_steps graph all from ≡ true
 steps_on graph from [] to n all e h is =
     let same : from ≡ to = cc in
     let count : all ≡ n = omega arith in

@@ -1,6 +1,10 @@
 pub mod Members
+pub mod Sets
 pub mod Instances
 pub mod Reached
 pub mod Marked
 pub mod Refused
 pub mod Deep
+pub mod Wide
+pub mod Free
+pub mod Levels

@@ -9,7 +9,7 @@ use Rattle.hierarchy.specs.declared.fault.NetFault.{NetFault}
 use Rattle.hierarchy.specs.declared.fault.NetFault.TheVariants.{OutOfMemory}
 use Rattle.hierarchy.specs.Faults.{Else, HasDoubleModel, HasRecursive, IsFree, double_model}
 use Rattle.hierarchy.specs.Instances.{model_named, model_names, number_named}
-use Rattle.hierarchy.specs.Lines.{UseLine, formals_of, use_lines, use_of}
+use Rattle.hierarchy.specs.Lines.{UseLine, use_lines, use_of}
 use Rattle.hierarchy.specs.Reach.{used_by, uses}
 use Rattle.hierarchy.specs.private.Depth.{has_steps}
 use Rattle.hierarchy.proofs.Deep.{no_circle}
@@ -62,20 +62,20 @@ shallow_free models short fault f =
     let step = use_leads models f.number f.place f.line.model f.item f.faulty.used f.faulty.other f.line.found f.line.at f.faulty.is_use f.faulty.names in
     no_circle (uses models) short f.number f.faulty.other step.0 f.line.reached step.1 f.faulty.returns
 
--- what a check of a model's formals finds, where these are kept by number
-module _ {S : Type 0} (keys : S → List (List ℕ)) where
-  kept_at : (sets : List S) (models : List Model) (n : ℕ) (set : S) → map keys sets ≡ map formals_of models → n < length sets → set ≡ get_or sets n set → (model : Model) × (slice_get models n ≡ Some model) × (formals_of model ≡ keys set)
+-- what a check of names that a model has finds, where these are kept by number
+module _ {S : Type 0} (had : Model → List (List ℕ)) (keys : S → List (List ℕ)) where
+  kept_at : (sets : List S) (models : List Model) (n : ℕ) (set : S) → map keys sets ≡ map had models → n < length sets → set ≡ get_or sets n set → (model : Model) × (slice_get models n ≡ Some model) × (had model ≡ keys set)
   kept_at [] models n set e low at = absurd (omega arith)
   kept_at (s ∷ sets) [] n set e low at = absurd (cc)
   kept_at (s ∷ sets) (m ∷ models) zero set e low at =
-      let here : keys s ≡ formals_of m = cc in
+      let here : keys s ≡ had m = cc in
       (m, refl, sym here ∙ ap keys (sym at))
   kept_at (s ∷ sets) (m ∷ models) (suc n) set e low at = kept_at sets models n set (cc) (omega arith) at
 
-  pub kept_check : (check : List (List ℕ) → Option NetFault) (sets : List S) (models : List Model) (names : List (List ℕ)) (name : List ℕ) (number : ℕ) (set : S) → map keys sets ≡ map formals_of models → names ≡ model_names models → position (bytes_eq name) names ≡ Some number → number < length sets → set ≡ get_or sets number set → check (keys set) ≡ option_and_then (λ model. check (formals_of model)) (model_named models name)
+  pub kept_check : (check : List (List ℕ) → Option NetFault) (sets : List S) (models : List Model) (names : List (List ℕ)) (name : List ℕ) (number : ℕ) (set : S) → map keys sets ≡ map had models → names ≡ model_names models → position (bytes_eq name) names ≡ Some number → number < length sets → set ≡ get_or sets number set → check (keys set) ≡ option_and_then (λ model. check (had model)) (model_named models name)
   kept_check check sets models names name number set e all named low at =
       let m = kept_at sets models number set e low at in
       let found : number_named models name ≡ Some number = ap (λ ns. position (bytes_eq name) ns) (sym all) ∙ named in
       ap check (sym m.2)
-      ∙ ap (λ o. option_and_then (λ model. check (formals_of model)) o) (sym m.1)
-      ∙ ap (λ o. option_and_then (λ model. check (formals_of model)) (option_and_then (slice_get models) o)) (sym found)
+      ∙ ap (λ o. option_and_then (λ model. check (had model)) o) (sym m.1)
+      ∙ ap (λ o. option_and_then (λ model. check (had model)) (option_and_then (slice_get models) o)) (sym found)

@@ -177,9 +177,8 @@ IsRefusal models =
     (Else (HasBadFormal models) (Else (HasMissingFormal models) (Else (HasGateTooWide models)
     (Else (HasTooDeep models) (Else (HasTooManyNodes models) (Else (HasDrivenTwice models) (HasMixedClocks models)))))))))
 
--- the fault among the kinds that are looked for so far: those of uses behind a double model
-abbrev pub HasFaultyUse : List Model → NetFault → Type 0
-HasFaultyUse models = Else (HasUnknownModel models) (Else (HasRecursive models) (HasBadFormal models))
-
+-- the same among the kinds that are looked for so far
 abbrev pub IsRefusalSoFar : List Model → NetFault → Type 0
-IsRefusalSoFar models = Else (HasDoubleModel models) (HasFaultyUse models)
+IsRefusalSoFar models =
+    Else (HasDoubleModel models) (Else (HasUnknownModel models) (Else (HasRecursive models)
+    (Else (HasBadFormal models) (Else (HasMissingFormal models) (Else (HasGateTooWide models) (HasTooDeep models))))))

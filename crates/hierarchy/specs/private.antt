@@ -2,3 +2,4 @@
 pub mod Checks
 pub mod Search
 pub mod Depth
+pub mod Kinds

@@ -1,14 +1,14 @@
 //! Uses that lead back to their own model; begin with `refuse_recursive`.
 
-ghost use Rattle.std.specs.Prelude.{◌≡◌, ◌⊎◌, ◌<◌, IfErr, OnOk, false, length, slice_index_or};
+ghost use Rattle.std.specs.Prelude.{◌≡◌, ◌⊎◌, IfErr, OnOk, false, slice_index_or};
 ghost use Rattle.hierarchy.specs.declared.fault.NetFault.{NetFault};
 ghost use Rattle.hierarchy.specs.Faults.{HasRecursive, IsFree, IsRecursive};
 ghost use Rattle.hierarchy.specs.Instances.{model_names};
 ghost use Rattle.hierarchy.specs.Reach.{uses};
 ghost use Rattle.hierarchy.specs.private.Checks.{AreReachable, FirstIn, NoneIn};
+ghost use Rattle.hierarchy.specs.private.Depth.{has_steps};
 
 use crate::checks::ItemAt;
-use crate::depth::is_deep;
 use crate::fault::NetFault;
 use crate::reach::reached;
 use crate::uses::use_of;
@@ -80,23 +80,24 @@ fn first_recursive(
 
 /// Refuses the first line of a reachable model that uses a model from which its own model is reached. `lines` has the items
 /// of just the reachable models, `names` the names of all, and `graph` the numbers of those that each uses. Where no more
-/// than 64 steps lead on from the top no line is searched for.
+/// than 64 steps lead on from the top (`deep` says whether they do) no line is searched for.
 pub(crate) fn refuse_recursive(
     alloc: Global,
     models: &[Model],
     names: &IndexSet<Name>,
     graph: &[Items<usize>],
     lines: &[ItemAt],
+    deep: bool,
 ) -> Result<(), NetFault>
-    requires some { 0 < length models.now }
     requires names { names.now.keys ≡ model_names models.now }
     requires graph { graph.now ≡ uses models.now }
     requires lines { AreReachable models.now lines.now }
+    requires deep { deep ≡ has_steps (uses models.now) 65 0 }
     ensures ok { OnOk result (IsFree (HasRecursive models.now)) }
     ensures err { IfErr result (λ fault. (fault ≡ NetFault.OutOfMemory)
         ⊎ HasRecursive models.now fault) }
 {
-    if !is_deep(alloc, graph)? {
+    if !deep {
         return Ok(());
     }
     first_recursive(alloc, models, names, graph, lines)

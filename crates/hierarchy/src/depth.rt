@@ -1,9 +1,13 @@
-//! How many steps of uses lead on from the top; begin with `is_deep`.
+//! How many steps of uses lead on from the top; begin with `refuse_too_deep`.
 
-ghost use Rattle.std.specs.Prelude.{◌≡◌, ◌<◌, [], ℕ, All, IfOk, false, length, slice_index_or};
+ghost use Rattle.std.specs.Prelude.{◌≡◌, ◌<◌, [], ℕ, All, IfErr, IfOk, OnOk, false, length, slice_index_or};
 ghost use Rattle.std.specs.List.{list_any};
+ghost use Rattle.hierarchy.specs.Faults.{HasTooDeep, HasUnknownModel, IsFree};
+ghost use Rattle.hierarchy.specs.Reach.{uses};
 ghost use Rattle.hierarchy.specs.private.Depth.{has_steps};
 
+use crate::fault::NetFault;
+use blif_syntax::Model;
 use std::alloc::{AllocError, Global};
 use ste_base::Items;
 
@@ -55,4 +59,20 @@ pub(crate) fn is_deep(alloc: Global, graph: &[Items<usize>]) -> Result<bool, All
         marks = use_marked(alloc, graph, marks.as_slice())?;
     }
     Ok(marks[0])
+}
+
+/// Refuses a hierarchy with an instance more than 64 levels below the top. `deep` says whether more than 64 steps of uses lead
+/// on from the top; each use of a reachable model names a model.
+pub(crate) fn refuse_too_deep(models: &[Model], deep: bool) -> Result<(), NetFault>
+    requires some { 0 < length models.now }
+    requires known { IsFree (HasUnknownModel models.now) }
+    requires deep { deep ≡ has_steps (uses models.now) 65 0 }
+    ensures ok { OnOk result (IsFree (HasTooDeep models.now)) }
+    ensures err { IfErr result (HasTooDeep models.now) }
+{
+    let _ = models;
+    if deep {
+        return Err(NetFault::TooDeep);
+    }
+    Ok(())
 }

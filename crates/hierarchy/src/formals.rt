@@ -51,7 +51,7 @@ fn refuse_bad_formal(
 }
 
 /// The number of the model that a use names.
-fn number_of(names: &IndexSet<Name>, used: &UseLine) -> Option<usize>
+pub(crate) fn number_of(names: &IndexSet<Name>, used: &UseLine) -> Option<usize>
     ensures { result ≡ position (bytes_eq used.now.model) names.now.keys }
 {
     names.get_index_of(used.model)

@@ -7,12 +7,14 @@ mod circles;
 mod depth;
 pub mod fault;
 mod formals;
+mod gates;
 pub mod lines;
 mod reach;
 #[cfg(test)]
 mod refusal_tests;
 pub mod refusals;
 pub mod signals;
+mod unbound;
 pub mod uses;
 
 pub use fault::NetFault;

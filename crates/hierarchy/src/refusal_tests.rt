@@ -81,6 +81,31 @@ const TABLE: &[(&[u8], &[u8])] = &[
         b".model m\n.subckt k\n.subckt n\n.end\n.model n\n.subckt k q=x\n.end\n.model k\n.inputs a\n",
         b"bad formal 6 q",
     ),
+    // A missing formal: a word of `.inputs` alone has to be bound; the first such; after every bad formal.
+    (
+        b".model m\n.subckt n b=x\n.end\n.model n\n.inputs a\n.inputs b c\n.outputs d\n.clock e\n",
+        b"missing formal 2 a",
+    ),
+    (
+        b".model m\n.subckt n b=x a=y\n.end\n.model n\n.inputs b b a\n.outputs d\n.clock e\n",
+        b"nothing",
+    ),
+    (
+        b".model m\n.subckt n e=x\n.end\n.model n\n.clock e f\n.inputs e\n.outputs f\n",
+        b"nothing",
+    ),
+    (
+        b".model m\n.subckt n\n.subckt n b=x\n.end\n.model n\n.outputs a\n.inputs b a\n",
+        b"missing formal 2 b",
+    ),
+    (
+        b".model m\n.subckt n\n.subckt n a=x q=y\n.end\n.model n\n.inputs a\n",
+        b"bad formal 3 q",
+    ),
+    (
+        b".model m\n.end\n.model k\n.subckt n\n.end\n.model n\n.inputs a\n",
+        b"nothing",
+    ),
 ];
 
 /// A kind with a line and a name.
@@ -98,6 +123,11 @@ fn shown(alloc: Global, fault: &NetFault) -> Result<Vec<u8>, AllocError> {
         NetFault::UnknownModel { line, name } => line_fault(alloc, b"unknown model", *line, name),
         NetFault::Recursive { line, name } => line_fault(alloc, b"recursive model", *line, name),
         NetFault::BadFormal { line, name } => line_fault(alloc, b"bad formal", *line, name),
+        NetFault::MissingFormal { line, name } => line_fault(alloc, b"missing formal", *line, name),
+        NetFault::GateTooWide { line } => {
+            Ok(format!(in alloc; "cover too wide {line}")?.into_bytes())
+        }
+        NetFault::TooDeep => b"hierarchy too deep".to_vec(alloc),
         _ => b"another kind".to_vec(alloc),
     }
 }
@@ -105,7 +135,7 @@ fn shown(alloc: Global, fault: &NetFault) -> Result<Vec<u8>, AllocError> {
 /// What a text is refused for.
 #[tactic(auto, using(blif_syntax::proofs::Fit::words_fit))]
 fn refusal(alloc: Global, text: &[u8]) -> Result<Vec<u8>, AllocError>
-    requires { length text.now ≤ 1000 }
+    requires { length text.now ≤ 67108864 }
 {
     let lines = logical_lines(alloc, text)?;
     let Ok(models) = read_models(alloc, lines.as_slice()) else {
@@ -120,9 +150,119 @@ fn refusal(alloc: Global, text: &[u8]) -> Result<Vec<u8>, AllocError>
 #[test]
 fn refusals(rt: HostRuntime) -> Result<(), Fail> {
     for (text, want) in TABLE {
-        assert!(rt; text.len() < 1000);
+        assert!(rt; text.len() <= 67_108_864);
         let got = refusal(rt.alloc(), text)?;
         assert_eq!(rt; got.as_slice(), *want, "at {text:?}");
+    }
+    Ok(())
+}
+
+/// A netlist of one model with one gate: it has so many inputs, and then pairs of inputs. There is a row for each pair, which
+/// asks that the inputs and the pair are 1; where there is no pair there is no row.
+fn gate_text(alloc: Global, singles: u32, pairs: u32) -> Result<Vec<u8>, AllocError> {
+    let mut out = b".model m\n.names".to_vec(alloc)?;
+    for _ in 0..singles {
+        out.extend_from_slice(b" a")?;
+    }
+    for _ in 0..pairs {
+        out.extend_from_slice(b" b c")?;
+    }
+    out.extend_from_slice(b" y\n")?;
+    for row in 0..pairs {
+        for _ in 0..singles {
+            out.push(b'1')?;
+        }
+        for pair in 0..pairs {
+            out.extend_from_slice(if pair == row { b"11" } else { b"--" })?;
+        }
+        out.extend_from_slice(b" 1\n")?;
+    }
+    Ok(out)
+}
+
+#[test]
+fn widest_gates(rt: HostRuntime) -> Result<(), Fail> {
+    // 15 pairs have 65,535 cases, and each single input before them one more.
+    let table: &[(u32, u32, &[u8])] = &[
+        (1000, 0, b"nothing"),
+        (1001, 0, b"cover too wide 2"),
+        (0, 15, b"nothing"),
+        (1, 15, b"nothing"),
+        (2, 15, b"cover too wide 2"),
+        (0, 16, b"cover too wide 2"),
+        (970, 15, b"cover too wide 2"),
+    ];
+    for (singles, pairs, want) in table {
+        let text = gate_text(rt.alloc(), *singles, *pairs)?;
+        assert!(rt; text.len() <= 67_108_864);
+        let got = refusal(rt.alloc(), text.as_slice())?;
+        assert_eq!(rt; got.as_slice(), *want, "at {singles} and {pairs}");
+    }
+    Ok(())
+}
+
+/// A netlist whose models use one another in a chain of so many uses, from the model of the first number on. The last model
+/// has these lines.
+fn chain_text(alloc: Global, head: &[u8], uses: u32, last: &[u8]) -> Result<Vec<u8>, AllocError> {
+    let mut out = head.to_vec(alloc)?;
+    for number in 1..uses {
+        out.extend_from_slice(format!(in alloc;
+            ".model m{}\n.subckt m{number}\n.end\n",
+            number - 1
+        )?.as_bytes())?;
+    }
+    out.extend_from_slice(last)?;
+    Ok(out)
+}
+
+#[test]
+fn deepest_hierarchies(rt: HostRuntime) -> Result<(), Fail> {
+    // The last of so many models lies one level less below the first.
+    let table: &[(&[u8], u32, &[u8], &[u8])] = &[
+        (b"", 65, b".model m64\n", b"nothing"),
+        (
+            b"",
+            65,
+            b".model m64\n.subckt n\n.end\n.model n\n",
+            b"hierarchy too deep",
+        ),
+        (b".model top\n.end\n", 90, b".model m89\n", b"nothing"),
+        (
+            b".model top\n.subckt m26\n.end\n",
+            90,
+            b".model m89\n",
+            b"nothing",
+        ),
+        (
+            b".model top\n.subckt m25\n.end\n",
+            90,
+            b".model m89\n",
+            b"hierarchy too deep",
+        ),
+        (
+            b".model top\n.subckt m1\n.subckt m0\n.end\n",
+            65,
+            b".model m64\n",
+            b"hierarchy too deep",
+        ),
+        (
+            b"",
+            90,
+            b".model m89\n.subckt m85\n",
+            b"recursive model 257 m86",
+        ),
+        (
+            b"",
+            90,
+            b".model m89\n.inputs a a\n.end\n.model n\n.inputs b\n",
+            b"missing formal 266 a",
+        ),
+    ];
+    for (head, uses, last, want) in table {
+        let text = chain_text(rt.alloc(), head, *uses, last)?;
+        assert!(rt; text.len() <= 67_108_864);
+        let got = refusal(rt.alloc(), text.as_slice())?;
+        assert_eq!(rt; got.as_slice(), *want, "at {head:?}, {uses} and {last:?}");
     }
     Ok(())
 }

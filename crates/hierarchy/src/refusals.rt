@@ -1,16 +1,22 @@
 //! What a hierarchy is refused for; begin with `refuse`.
 
 ghost use Rattle.std.specs.Prelude.{◌≡◌, ◌⊎◌, ◌<◌, IfErr, IfOk, OnOk, length};
-ghost use Rattle.hierarchy.specs.Faults.{Else, HasBadFormal, HasFaultyUse, HasRecursive, IsFree, IsRefusalSoFar};
+ghost use Rattle.blif_syntax.specs.Covered.{AreCovered};
+ghost use Rattle.hierarchy.specs.Faults.{HasUnknownModel, IsFree, IsRefusalSoFar};
 ghost use Rattle.hierarchy.specs.Instances.{model_names};
 ghost use Rattle.hierarchy.specs.Reach.{uses};
 ghost use Rattle.hierarchy.specs.private.Checks.{AreReachable};
+ghost use Rattle.hierarchy.specs.private.Depth.{has_steps};
+ghost use Rattle.hierarchy.specs.private.Kinds.{FromBadFormal, FromGateTooWide, FromMissingFormal, FromRecursive, FromUnknownModel};
 
 use crate::checks::{ItemAt, marked_items, refuse_unknown_models};
 use crate::circles::refuse_recursive;
+use crate::depth::{is_deep, refuse_too_deep};
 use crate::fault::NetFault;
 use crate::formals::refuse_bad_formals;
+use crate::gates::refuse_wide_gates;
 use crate::reach::reached;
+use crate::unbound::refuse_missing_formals;
 use crate::uses::{names_of, uses};
 use blif_syntax::{Model, Models};
 use indexmap::IndexSet;
@@ -31,49 +37,125 @@ fn reachable_items<'a>(
     marked_items(alloc, models, marks.as_slice())
 }
 
-/// Refuses the first recursive use, or where there is none the first bad formal. `lines` has the items of just the reachable
-/// models, `names` the names of all, and `graph` the numbers of those that each uses.
-fn refuse_known_uses(
+/// Refuses the first gate that is too wide, or where there is none a hierarchy that is too deep. `lines` has the items of just
+/// the reachable models, and `deep` says whether more than 64 steps of uses lead on from the top.
+fn refuse_wide_gates_on(
+    alloc: Global,
+    models: &[Model],
+    lines: &[ItemAt],
+    deep: bool,
+) -> Result<(), NetFault>
+    requires covered { AreCovered models.now }
+    requires some { 0 < length models.now }
+    requires lines { AreReachable models.now lines.now }
+    requires known { IsFree (HasUnknownModel models.now) }
+    requires deep { deep ≡ has_steps (uses models.now) 65 0 }
+    ensures ok { OnOk result (IsFree (FromGateTooWide models.now)) }
+    ensures err { IfErr result (λ fault. (fault ≡ NetFault.OutOfMemory)
+        ⊎ FromGateTooWide models.now fault) }
+{
+    refuse_wide_gates(alloc, models, lines)?;
+    refuse_too_deep(models, deep)
+}
+
+/// Refuses the first use that leaves a formal unbound, or where there is none what `refuse_wide_gates_on` does. `names` has the
+/// names of all models.
+fn refuse_missing_formals_on(
+    alloc: Global,
+    models: &[Model],
+    names: &IndexSet<Name>,
+    lines: &[ItemAt],
+    deep: bool,
+) -> Result<(), NetFault>
+    requires covered { AreCovered models.now }
+    requires some { 0 < length models.now }
+    requires names { names.now.keys ≡ model_names models.now }
+    requires lines { AreReachable models.now lines.now }
+    requires known { IsFree (HasUnknownModel models.now) }
+    requires deep { deep ≡ has_steps (uses models.now) 65 0 }
+    ensures ok { OnOk result (IsFree (FromMissingFormal models.now)) }
+    ensures err { IfErr result (λ fault. (fault ≡ NetFault.OutOfMemory)
+        ⊎ FromMissingFormal models.now fault) }
+{
+    refuse_missing_formals(alloc, models, names, lines)?;
+    refuse_wide_gates_on(alloc, models, lines, deep)
+}
+
+/// Refuses the first use with a bad formal, or where there is none what `refuse_missing_formals_on` does.
+fn refuse_bad_formals_on(
+    alloc: Global,
+    models: &[Model],
+    names: &IndexSet<Name>,
+    lines: &[ItemAt],
+    deep: bool,
+) -> Result<(), NetFault>
+    requires covered { AreCovered models.now }
+    requires some { 0 < length models.now }
+    requires names { names.now.keys ≡ model_names models.now }
+    requires lines { AreReachable models.now lines.now }
+    requires known { IsFree (HasUnknownModel models.now) }
+    requires deep { deep ≡ has_steps (uses models.now) 65 0 }
+    ensures ok { OnOk result (IsFree (FromBadFormal models.now)) }
+    ensures err { IfErr result (λ fault. (fault ≡ NetFault.OutOfMemory)
+        ⊎ FromBadFormal models.now fault) }
+{
+    refuse_bad_formals(alloc, models, names, lines)?;
+    refuse_missing_formals_on(alloc, models, names, lines, deep)
+}
+
+/// Refuses the first recursive use, or where there is none what `refuse_bad_formals_on` does. `graph` has for each model the
+/// numbers of those that it uses.
+fn refuse_recursive_on(
     alloc: Global,
     models: &[Model],
     names: &IndexSet<Name>,
     graph: &[Items<usize>],
     lines: &[ItemAt],
 ) -> Result<(), NetFault>
+    requires covered { AreCovered models.now }
     requires some { 0 < length models.now }
     requires names { names.now.keys ≡ model_names models.now }
     requires graph { graph.now ≡ uses models.now }
     requires lines { AreReachable models.now lines.now }
-    ensures ok { OnOk result (IsFree (Else (HasRecursive models.now) (HasBadFormal models.now))) }
+    requires known { IsFree (HasUnknownModel models.now) }
+    ensures ok { OnOk result (IsFree (FromRecursive models.now)) }
     ensures err { IfErr result (λ fault. (fault ≡ NetFault.OutOfMemory)
-        ⊎ Else (HasRecursive models.now) (HasBadFormal models.now) fault) }
+        ⊎ FromRecursive models.now fault) }
 {
-    refuse_recursive(alloc, models, names, graph, lines)?;
-    refuse_bad_formals(alloc, models, names, lines)
+    let deep = is_deep(alloc, graph)?;
+    refuse_recursive(alloc, models, names, graph, lines, deep)?;
+    refuse_bad_formals_on(alloc, models, names, lines, deep)
 }
 
-/// Refuses the first use of an unknown model, or where there is none what `refuse_known_uses` does.
-fn refuse_uses(alloc: Global, models: &[Model], names: &IndexSet<Name>) -> Result<(), NetFault>
+/// Refuses the first use of an unknown model, or where there is none what `refuse_recursive_on` does.
+fn refuse_unknown_models_on(
+    alloc: Global,
+    models: &[Model],
+    names: &IndexSet<Name>,
+) -> Result<(), NetFault>
+    requires covered { AreCovered models.now }
     requires some { 0 < length models.now }
     requires names { names.now.keys ≡ model_names models.now }
-    ensures ok { OnOk result (IsFree (HasFaultyUse models.now)) }
+    ensures ok { OnOk result (IsFree (FromUnknownModel models.now)) }
     ensures err { IfErr result (λ fault. (fault ≡ NetFault.OutOfMemory)
-        ⊎ HasFaultyUse models.now fault) }
+        ⊎ FromUnknownModel models.now fault) }
 {
     let graph = uses(alloc, names, models)?;
     let lines = reachable_items(alloc, models, graph.as_slice())?;
     refuse_unknown_models(models, names, lines.as_slice())?;
-    refuse_known_uses(alloc, models, names, graph.as_slice(), lines.as_slice())
+    refuse_recursive_on(alloc, models, names, graph.as_slice(), lines.as_slice())
 }
 
 /// Refuses a hierarchy for the first fault there is of the kinds that are looked for so far: a double model, then an unknown
-/// model, then a recursive one, then a bad formal. The error is that fault, or want of memory.
+/// model, a recursive one, a bad formal, a missing formal, a gate that is too wide, a hierarchy that is too deep. The error is
+/// that fault, or want of memory. Each cover has to be sound, with as many inputs as its line names.
 pub fn refuse(alloc: Global, models: &Models) -> Result<(), NetFault>
+    requires { AreCovered models.now.models }
     ensures ok { OnOk result (IsFree (IsRefusalSoFar models.now.models)) }
     ensures err { IfErr result (λ fault. (fault ≡ NetFault.OutOfMemory)
         ⊎ IsRefusalSoFar models.now.models fault) }
 {
     let models = models.models.as_slice();
     let names = names_of(alloc, models)?;
-    refuse_uses(alloc, models, &names)
+    refuse_unknown_models_on(alloc, models, &names)
 }

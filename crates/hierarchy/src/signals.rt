@@ -2,7 +2,7 @@
 
 ghost use Rattle.std.specs.Prelude.{◌≡◌, OnOk, IfOk, bytes_eq, map};
 ghost use Rattle.indexmap.specs.IndexSet.{insert_key, insert_all};
-ghost use Rattle.hierarchy.specs.Lines.{formal_words, formals_of, input_words, inputs_of, output_words, outputs_of, signal_words, signals};
+ghost use Rattle.hierarchy.specs.Lines.{formal_words, formals_of, input_words, inputs_of, needed_formals, needed_words, output_words, outputs_of, signal_words, signals};
 
 use blif_syntax::{Model, What};
 use indexmap::IndexSet;
@@ -102,6 +102,17 @@ fn add_formals(set: &mut IndexSet<Name>, what: &What) -> Result<(), AllocError>
     }
 }
 
+/// Adds the words of a line that each use of its model has to bind.
+fn add_needed(set: &mut IndexSet<Name>, what: &What) -> Result<(), AllocError>
+    ensures { OnOk result (set.new.keys
+        ≡ insert_all bytes_eq set.old.keys (needed_words what.now)) }
+{
+    match what {
+        What::Inputs(names) => add_all(set, names.as_slice()),
+        _ => Ok(()),
+    }
+}
+
 /// The signals of a model, in the order of first mention.
 pub fn signals(alloc: Global, model: &Model) -> Result<IndexSet<Name>, AllocError>
     ensures { IfOk result (λ set. set.keys ≡ signals model.now) }
@@ -142,6 +153,17 @@ pub fn formals_of(alloc: Global, model: &Model) -> Result<IndexSet<Name>, AllocE
     let mut set = IndexSet::new(alloc);
     for item in model.items.as_slice() {
         add_formals(&mut set, &item.what)?;
+    }
+    Ok(set)
+}
+
+/// The formals that each use of a model has to bind, in order, each once.
+pub fn needed_formals(alloc: Global, model: &Model) -> Result<IndexSet<Name>, AllocError>
+    ensures { IfOk result (λ set. set.keys ≡ needed_formals model.now) }
+{
+    let mut set = IndexSet::new(alloc);
+    for item in model.items.as_slice() {
+        add_needed(&mut set, &item.what)?;
     }
     Ok(set)
 }

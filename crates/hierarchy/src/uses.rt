@@ -45,10 +45,7 @@ pub fn use_of(item: &Item) -> Option<UseLine<'_>>
 }
 
 /// The names of the models, in order; or the first model whose name an earlier one has.
-pub fn names_of(
-    alloc: Global,
-    models: &[blif_syntax::Model],
-) -> Result<IndexSet<Name>, NetFault>
+pub fn names_of(alloc: Global, models: &[blif_syntax::Model]) -> Result<IndexSet<Name>, NetFault>
     ensures names { IfOk result (λ names. names.keys ≡ model_names models.now) }
     ensures ok { OnOk result (double_model [] models.now ≡ None) }
     ensures err { IfErr result (λ fault. (fault ≡ NetFault.OutOfMemory)

@@ -3,19 +3,20 @@ use Rattle.std.proofs.lemmas.Result.{IfErr-weaker, on_ok_weaker}
 use Rattle.std.specs.Prelude.{◌⊎◌}
 use Rattle.hierarchy.specs.declared.fault.NetFault.TheVariants.{OutOfMemory}
 use Rattle.hierarchy.specs.Faults.{bad_formal_among, bad_formal_of}
+use Rattle.hierarchy.specs.Lines.{formals_of}
 use Rattle.hierarchy.proofs.Refused.{kept_check}
 use Rattle.hierarchy.proofs.formals.refuse_bad_formal_of.Goals as goal
 
 pub returns-clause-ok : goal.returns-clause-ok
 returns-clause-ok c =
-    let same = kept_check (λ set. set.keys) (λ formals. bad_formal_among formals c.args.used.now) c.args.formals.now c.args.models.now c.args.names.now.keys
+    let same = kept_check formals_of (λ set. set.keys) (λ formals. bad_formal_among formals c.args.used.now) c.args.formals.now c.args.models.now c.args.names.now.keys
     c.args.used.now.model c.in-Some.number c.in-Some-get.formals.now c.requires.formals c.requires.names (sym c.number_of.ensures ∙ c.in-Some.is)
     c.in-Some-get.ensures.lookup.3.0 c.in-Some-get.ensures.lookup.1 in
     on_ok_weaker c.refuse_bad_formal.result (λ none. sym same ∙ none) c.refuse_bad_formal.ensures.ok
 
 pub returns-clause-err : goal.returns-clause-err
 returns-clause-err c =
-    let same = kept_check (λ set. set.keys) (λ formals. bad_formal_among formals c.args.used.now) c.args.formals.now c.args.models.now c.args.names.now.keys
+    let same = kept_check formals_of (λ set. set.keys) (λ formals. bad_formal_among formals c.args.used.now) c.args.formals.now c.args.models.now c.args.names.now.keys
     c.args.used.now.model c.in-Some.number c.in-Some-get.formals.now c.requires.formals c.requires.names (sym c.number_of.ensures ∙ c.in-Some.is)
     c.in-Some-get.ensures.lookup.3.0 c.in-Some-get.ensures.lookup.1 in
     IfErr-weaker c.refuse_bad_formal.result

@@ -2,24 +2,25 @@ use Rattle.std.proofs.Common.{◌≡◌, IfErr, OnOk, subst}
 use Rattle.std.proofs.lemmas.Result.{IfErr-weaker, on_ok_weaker}
 use Rattle.std.specs.Prelude.{◌⊎◌}
 use Rattle.hierarchy.specs.declared.fault.NetFault.TheVariants.{OutOfMemory}
-use Rattle.hierarchy.specs.Faults.{HasDoubleModel, HasFaultyUse, IsFree, IsRefusalSoFar}
+use Rattle.hierarchy.specs.Faults.{HasDoubleModel, IsFree, IsRefusalSoFar}
+use Rattle.hierarchy.specs.private.Kinds.{FromUnknownModel}
 use Rattle.hierarchy.proofs.Refused.{double_free, else_free, else_later}
 use Rattle.hierarchy.proofs.refusals.refuse.Goals as goal
 
 pub returns-clause-ok : goal.returns-clause-ok
 returns-clause-ok c =
     let models = c.as_slice-models.result.now in
-    subst (λ all. OnOk c.refuse_uses.result (IsFree (IsRefusalSoFar all))) c.as_slice-models.ensures
-    (on_ok_weaker c.refuse_uses.result
-    (else_free (HasDoubleModel models) (HasFaultyUse models) (double_free models c.in_ok-names.ensures.ok))
-    c.refuse_uses.ensures.ok)
+    subst (λ all. OnOk c.refuse_unknown_models_on.result (IsFree (IsRefusalSoFar all))) c.as_slice-models.ensures
+    (on_ok_weaker c.refuse_unknown_models_on.result
+    (else_free (HasDoubleModel models) (FromUnknownModel models) (double_free models c.in_ok-names.ensures.ok))
+    c.refuse_unknown_models_on.ensures.ok)
 
 pub returns-clause-err : goal.returns-clause-err
 returns-clause-err c =
     let models = c.as_slice-models.result.now in
-    subst (λ all. IfErr c.refuse_uses.result (λ fault. (fault ≡ OutOfMemory) ⊎ IsRefusalSoFar all fault)) c.as_slice-models.ensures
-    (IfErr-weaker c.refuse_uses.result
-    (λ fault. (fault ≡ OutOfMemory) ⊎ HasFaultyUse models fault)
+    subst (λ all. IfErr c.refuse_unknown_models_on.result (λ fault. (fault ≡ OutOfMemory) ⊎ IsRefusalSoFar all fault)) c.as_slice-models.ensures
+    (IfErr-weaker c.refuse_unknown_models_on.result
+    (λ fault. (fault ≡ OutOfMemory) ⊎ FromUnknownModel models fault)
     (λ fault. (fault ≡ OutOfMemory) ⊎ IsRefusalSoFar models fault)
-    (else_later (HasDoubleModel models) (HasFaultyUse models) (double_free models c.in_ok-names.ensures.ok))
-    c.refuse_uses.ensures.err)
+    (else_later (HasDoubleModel models) (FromUnknownModel models) (double_free models c.in_ok-names.ensures.ok))
+    c.refuse_unknown_models_on.ensures.err)
