@@ -5,3 +5,4 @@ pub mod Numbered
 pub mod Bound
 pub mod Rows
 pub mod OwnNames
+pub mod Bridge

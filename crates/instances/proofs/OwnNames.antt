@@ -31,7 +31,7 @@ module _ (rows : List Row) (place : ℕ) (d : Row) (low : place < length rows) (
 
   -- the path of an instance is that of the one above, and its number
   pub below_path : (text before after : List ℕ) (above : ℕ) → (get_or rows place d).above ≡ Some above →
-    ((p : List ℕ) → slice_get paths above ≡ Some p → before ≡ text ++ path_text p) → after ≡ before ++ (decimal (get_or rows place d).number ++ codes "/") → after ≡ text ++ path_text path
+      ((p : List ℕ) → slice_get paths above ≡ Some p → before ≡ text ++ path_text p) → after ≡ before ++ (decimal (get_or rows place d).number ++ codes "/") → after ≡ text ++ path_text path
   below_path text before after above e first then =
       let l : (above < length (take place paths)) × (path ≡ (get_or rows place d).number ∷ slice_index_or (take place paths) above []) = subst (λ o. IsBelow (take place paths) o (get_or rows place d).number path) e link in
       let p = get_or (take place paths) above [] in
@@ -58,7 +58,7 @@ add_next path words bounds k d low low' = grow words bounds k low low' ∙ ap (�
     grow (w ∷ words) (b ∷ bounds) zero e f = first w words b bounds
 
 pub one_added : (path : List ℕ) (words : List (List ℕ)) (bounds : List (Option ℕ)) (k : ℕ) (d : Option ℕ) (old names added : List (List ℕ)) (word : Option (List ℕ)) → length bounds ≡ length words → k < length bounds → word ≡ slice_get words k → added ≡ names ++ own_names_in path (option_to_list word) (get_or bounds k d ∷ []) →
-  names ++ own_names_in path (drop k words) (drop k bounds) ≡ old ++ own_names_in path words bounds → added ++ own_names_in path (drop (k + 1) words) (drop (k + 1) bounds) ≡ old ++ own_names_in path words bounds
+    names ++ own_names_in path (drop k words) (drop k bounds) ≡ old ++ own_names_in path words bounds → added ++ own_names_in path (drop (k + 1) words) (drop (k + 1) bounds) ≡ old ++ own_names_in path words bounds
 one_added path words bounds k d old names added word long low at is inv =
     let low' : k < length words = omega (arith, long, low) in
     ap (λ l. l ++ own_names_in path (drop (k + 1) words) (drop (k + 1) bounds)) (is ∙ ap (λ w. names ++ own_names_in path (option_to_list w) (get_or bounds k d ∷ [])) at)

@@ -195,8 +195,8 @@ module _ (models : List Model) (uses : List (List UseLine)) (names : List (List 
   turn_next = next_is models k r.path r.its r.model r.has next is bounds its_bounds
 
   pub turn_names : (old added : List (List ℕ)) (its : List (Option ℕ)) → old ≡ map own_name (flat_map (λ path. own_nets models path) (take k (instances models))) → its ≡ bounds →
-    ((paths : List (List ℕ)) → LinksFit rows paths → (path : List ℕ) → slice_get paths k ≡ Some path → added ≡ old ++ own_names_in (path_text path) (slice_index_or names (get_or rows k d).model []) its) →
-    added ≡ map own_name (flat_map (λ path. own_nets models path) (take (k + 1) (instances models)))
+      ((paths : List (List ℕ)) → LinksFit rows paths → (path : List ℕ) → slice_get paths k ≡ Some path → added ≡ old ++ own_names_in (path_text path) (slice_index_or names (get_or rows k d).model []) its) →
+      added ≡ map own_name (flat_map (λ path. own_nets models path) (take (k + 1) (instances models)))
   turn_names old added its before same add =
       let mine = signals_of models names (get_or rows k d).model r.model names_known r.number in
       add (instances models) (links_fit models rows table) r.path r.its

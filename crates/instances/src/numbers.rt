@@ -79,7 +79,15 @@ pub fn instance_numbers(
     let mut next = 0;
     for (place, row) in rows.iter().enumerate() {
         let bounds = row_bounds(alloc, uses.as_slice(), names, rows, numbers.as_slice(), row)?;
-        add_own_names(alloc, &mut own, rows, place, names, row.model, bounds.as_slice())?;
+        add_own_names(
+            alloc,
+            &mut own,
+            rows,
+            place,
+            names,
+            row.model,
+            bounds.as_slice(),
+        )?;
         numbers.push(numbers_of(alloc, bounds.as_slice(), &mut next)?)?;
     }
     Ok(Numbered {

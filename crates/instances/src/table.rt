@@ -1,8 +1,12 @@
 //! The instances of a hierarchy as a table, each by the one above it; begin with `instance_rows`.
 
 ghost use Rattle.std.specs.Prelude.{◌≡◌, ◌<◌, ◌++◌, ◌∷◌, [], ℕ, List, IfOk, OnOk, All, length, slice_index_or};
+ghost use Rattle.hierarchy.specs.Faults.{HasUnknownModel, IsFree};
+ghost use Rattle.hierarchy.specs.Reach.{uses};
+ghost use Rattle.instances.specs.Numbers.{AreRows};
 ghost use Rattle.instances.specs.Table.{Fits, IsTable, instances_on};
 
+use blif_syntax::Model;
 use std::alloc::{AllocError, Global};
 use ste_base::Items;
 
@@ -53,11 +57,7 @@ fn add_below(
 
 /// The instances whose paths have fewer numbers than `depth`, in preorder. `graph` has for each model the numbers of those
 /// that it uses; the top is number 0. The recursion is at most `depth` calls deep.
-pub fn instance_rows(
-    alloc: Global,
-    graph: &[Items<usize>],
-    depth: u32,
-) -> Result<Vec<Row>, AllocError>
+fn rows_on(alloc: Global, graph: &[Items<usize>], depth: u32) -> Result<Vec<Row>, AllocError>
     requires in_range { All (λ used. All (λ k. k < length graph.now) used) graph.now }
     requires some { 0 < length graph.now }
     ensures { IfOk result (λ rows. IsTable graph.now rows.items (instances_on graph.now depth [] 0)) }
@@ -69,5 +69,25 @@ pub fn instance_rows(
         model: 0,
     };
     add_below(graph, depth, top, &mut rows)?;
+    Ok(rows)
+}
+
+/// One more than the numbers that an instance's path may have.
+const LEVELS: u32 = 65;
+
+/// The instances of a hierarchy, in preorder. `graph` has for each model the numbers of those that it uses. The recursion is
+/// at most 65 calls deep.
+pub fn instance_rows(
+    alloc: Global,
+    models: &[Model],
+    graph: &[Items<usize>],
+) -> Result<Vec<Row>, AllocError>
+    requires some { 0 < length models.now }
+    requires known { IsFree (HasUnknownModel models.now) }
+    requires graph { graph.now ≡ uses models.now }
+    ensures { IfOk result (λ rows. AreRows models.now rows.items) }
+{
+    let _ = models;
+    let rows = rows_on(alloc, graph, LEVELS)?;
     Ok(rows)
 }

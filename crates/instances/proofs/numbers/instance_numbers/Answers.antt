@@ -16,13 +16,13 @@ add_own_names-requires-clause-model c = row_low (λ set. set.keys) c.args.models
 pub add_own_names-requires-clause-long : goal.add_own_names-requires-clause-long
 add_own_names-requires-clause-long c = ap (λ l. length l) c.as_slice-in-loop-place-2.ensures.value
     ∙ turn_long c.args.models.now c.as_slice.result.now (map (λ set. set.keys) c.args.names.now) c.args.rows.now c.as_slice-in-loop-place.result.now c.loop-place.next c.loop-place.place _
-          c.requires.rows (c.as_slice.ensures.value ∙ c.in_ok-uses.ensures) c.requires.names (c.as_slice-in-loop-place.ensures.value ∙ c.loop-place.invariant.numbers) c.loop-place.invariant.next c.loop-place-test.true c.in_ok-bounds.bounds.items c.in_ok-bounds.ensures
+    c.requires.rows (c.as_slice.ensures.value ∙ c.in_ok-uses.ensures) c.requires.names (c.as_slice-in-loop-place.ensures.value ∙ c.loop-place.invariant.numbers) c.loop-place.invariant.next c.loop-place-test.true c.in_ok-bounds.bounds.items c.in_ok-bounds.ensures
 
 pub numbers_of-requires : goal.numbers_of-requires
 numbers_of-requires c =
     let fits = turn_fits c.args.models.now c.as_slice.result.now (map (λ set. set.keys) c.args.names.now) c.args.rows.now c.as_slice-in-loop-place.result.now c.loop-place.next c.loop-place.place _
-      c.requires.rows (c.as_slice.ensures.value ∙ c.in_ok-uses.ensures) c.requires.names (c.as_slice-in-loop-place.ensures.value ∙ c.loop-place.invariant.numbers) c.loop-place.invariant.next c.loop-place-test.true
-      c.in_ok-bounds.bounds.items c.in_ok-bounds.ensures in
+    c.requires.rows (c.as_slice.ensures.value ∙ c.in_ok-uses.ensures) c.requires.names (c.as_slice-in-loop-place.ensures.value ∙ c.loop-place.invariant.numbers) c.loop-place.invariant.next c.loop-place-test.true
+    c.in_ok-bounds.bounds.items c.in_ok-bounds.ensures in
     let few = c.requires.few in
     let same : count_by is_none c.as_slice-in-loop-place-3.result.now ≡ count_by is_none c.in_ok-bounds.bounds.items = ap (λ l. count_by is_none l) c.as_slice-in-loop-place-3.ensures.value in
     omega (arith, fits, few, same)
@@ -32,14 +32,14 @@ loop-place-preserved c =
     let args = c.as_slice.ensures.value ∙ c.in_ok-uses.ensures in
     record {
       numbers = c.in_ok-push.ensures.items
-        ∙ ap (λ x. c.loop-place.numbers.items ++ x ∷ []) (c.in_ok-numbers_of.ensures.value ∙ ap (λ l. numbers_from c.loop-place.next l) c.as_slice-in-loop-place-3.ensures.value)
-        ∙ ap (λ l. l ++ numbers_from c.loop-place.next c.in_ok-bounds.bounds.items ∷ []) (sym c.as_slice-in-loop-place.ensures.value)
-        ∙ turn_numbers c.args.models.now c.as_slice.result.now (map (λ set. set.keys) c.args.names.now) c.args.rows.now c.as_slice-in-loop-place.result.now c.loop-place.next c.loop-place.place _
+          ∙ ap (λ x. c.loop-place.numbers.items ++ x ∷ []) (c.in_ok-numbers_of.ensures.value ∙ ap (λ l. numbers_from c.loop-place.next l) c.as_slice-in-loop-place-3.ensures.value)
+          ∙ ap (λ l. l ++ numbers_from c.loop-place.next c.in_ok-bounds.bounds.items ∷ []) (sym c.as_slice-in-loop-place.ensures.value)
+          ∙ turn_numbers c.args.models.now c.as_slice.result.now (map (λ set. set.keys) c.args.names.now) c.args.rows.now c.as_slice-in-loop-place.result.now c.loop-place.next c.loop-place.place _
           c.requires.rows args c.requires.names (c.as_slice-in-loop-place.ensures.value ∙ c.loop-place.invariant.numbers) c.loop-place.invariant.next c.loop-place-test.true c.in_ok-bounds.bounds.items c.in_ok-bounds.ensures;
       names = turn_names c.args.models.now c.as_slice.result.now (map (λ set. set.keys) c.args.names.now) c.args.rows.now c.as_slice-in-loop-place.result.now c.loop-place.next c.loop-place.place _
           c.requires.rows (c.as_slice.ensures.value ∙ c.in_ok-uses.ensures) c.requires.names (c.as_slice-in-loop-place.ensures.value ∙ c.loop-place.invariant.numbers) c.loop-place.invariant.next c.loop-place-test.true c.in_ok-bounds.bounds.items c.in_ok-bounds.ensures
           c.loop-place.own c.add_own_names.new.names c.as_slice-in-loop-place-2.result.now c.loop-place.invariant.names c.as_slice-in-loop-place-2.ensures.value c.in_ok-add_own_names.ensures;
       next = c.in_ok-numbers_of.ensures.next ∙ ap (λ l. c.loop-place.next + count_by is_none l) c.as_slice-in-loop-place-3.ensures.value
-        ∙ turn_next c.args.models.now c.as_slice.result.now (map (λ set. set.keys) c.args.names.now) c.args.rows.now c.as_slice-in-loop-place.result.now c.loop-place.next c.loop-place.place _
+          ∙ turn_next c.args.models.now c.as_slice.result.now (map (λ set. set.keys) c.args.names.now) c.args.rows.now c.as_slice-in-loop-place.result.now c.loop-place.next c.loop-place.place _
           c.requires.rows args c.requires.names (c.as_slice-in-loop-place.ensures.value ∙ c.loop-place.invariant.numbers) c.loop-place.invariant.next c.loop-place-test.true c.in_ok-bounds.bounds.items c.in_ok-bounds.ensures;
     }

@@ -1,7 +1,14 @@
-use Rattle.std.proofs.Common.{[], refl, subst, sym}
+use Rattle.std.proofs.Common.{◌≡◌, ◌<◌, List, refl, sym, subst, ℕ, length, get_or, []}
+use Rattle.hierarchy.specs.Reach.{uses}
+use Rattle.hierarchy.proofs.Refused.{uses_low}
 use Rattle.instances.specs.Table.{IsTable, instances_on}
-use Rattle.instances.proofs.Tabled.{from_top}
+use Rattle.instances.proofs.Bridge.{rows_of}
 use Rattle.instances.proofs.table.instance_rows.Goals as goal
 
+pub rows_on-requires-clause-in_range : goal.rows_on-requires-clause-in_range
+rows_on-requires-clause-in_range c =
+    subst (λ (graph : List (List ℕ)). (k : ℕ) (d : List ℕ) → k < length graph → (j e : ℕ) → j < length (get_or graph k d) → get_or (get_or graph k d) j e < length graph)
+    (sym c.requires.graph) (uses_low c.args.models.now)
+
 pub returns : goal.returns
-returns c = c.in_ok-add_below.ensures [] [] (from_top c.args.graph.now c.new-rows.result.items c.new-rows.ensures.items) (record { model = refl; link = refl })
+returns c = rows_of c.args.models.now c.requires.some c.requires.known c.args.graph.now c.in_ok-rows.rows.items 65 refl c.requires.graph c.in_ok-rows.ensures
