@@ -1,3 +1,4 @@
 pub mod Flat
 pub mod Corresponds
 pub mod Supported
+pub mod private

@@ -103,7 +103,7 @@ fn rows_copied(alloc: Global, rows: &[Row]) -> Result<Items<Row>, AllocError>
 }
 
 /// A copy of a cover.
-fn cover_copied(alloc: Global, cover: &Cover) -> Result<Cover, AllocError>
+pub(crate) fn cover_copied(alloc: Global, cover: &Cover) -> Result<Cover, AllocError>
     ensures { IfOk result (λ copy. copy ≡ cover.now) }
 {
     Ok(Cover {

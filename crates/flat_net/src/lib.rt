@@ -1,7 +1,10 @@
 //! The flat net of a netlist: its nets are numbered, and each gate and latch drives the nets of its signals.
 #![tactic(auto)]
 
+mod covers;
 pub mod flat;
+mod gates;
+mod instance;
 pub mod laws;
 mod supported;
 #[cfg(test)]

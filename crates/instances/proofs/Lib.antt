@@ -1,7 +1,7 @@
 pub mod Homes
 pub mod NoRepeats
 pub mod Tabled
-pub mod Numbered
+pub mod Counted
 pub mod Bound
 pub mod Rows
 pub mod OwnNames

@@ -17,7 +17,7 @@ use Rattle.instances.specs.Table.{AreLinked, IsBelow, LinksFit}
 use Rattle.instances.specs.Numbers.{AreRows, FitsModels, bound_number, number_of, numbers_from, numbers_in, own_names_in}
 use Rattle.instances.specs.private.Above.{Above, above_at, bound_by}
 use Rattle.instances.proofs.Homes.{actual_is_signal}
-use Rattle.instances.proofs.Numbered.{bound_net, names_are, numbers_are, next_is, next_fits, take_next}
+use Rattle.instances.proofs.Counted.{bound_net, names_are, numbers_are, next_is, next_fits, take_next}
 
 -- the number of a name, among numbers that are given name by name
 pub number_among : (f : List ℕ → ℕ) (names : List (List ℕ)) (word : List ℕ) → In names word → number_of names (map f names) word ≡ f word
@@ -57,7 +57,7 @@ less (x ∷ xs) (suc k) zero h = omega arith
 less (x ∷ xs) (suc k) (suc n) h = let r = less xs k n (omega arith) in omega arith
 
 -- the signals of a model by its number
-signals_of : (models : List Model) (names : List (List (List ℕ))) (number : ℕ) (model : Model) → names ≡ map signals models → slice_get models number ≡ Some model → slice_index_or names number [] ≡ signals model
+pub signals_of : (models : List Model) (names : List (List (List ℕ))) (number : ℕ) (model : Model) → names ≡ map signals models → slice_get models number ≡ Some model → slice_index_or names number [] ≡ signals model
 signals_of models names number model known at = got names number (signals model) (ap (λ l. slice_get l number) known ∙ slice_get-map signals models number ∙ ap (λ o. option_map signals o) at)
   where
     got : {X : Type 0} (xs : List (List X)) (k : ℕ) (x : List X) → slice_get xs k ≡ Some x → slice_index_or xs k [] ≡ x

@@ -2,9 +2,10 @@
 #![tactic(auto)]
 
 mod above;
-mod bounds;
+pub mod bounds;
 pub mod numbers;
 mod own_names;
 pub mod table;
 
+pub use numbers::{Numbered, instance_numbers};
 pub use table::{Row, instance_rows};
