@@ -45,13 +45,13 @@ latch_line (Clock _) latch e = absurd (cc)
 latch_line (Subckt _ _) latch e = absurd (cc)
 latch_line (Names _ _ _) latch e = absurd (cc)
 
-gate_signals : (model : Model) (gate : GateLine) → In (gate_lines model) gate → (In (signals model) gate.output) × ((x : List ℕ) → In gate.inputs x → In (signals model) x)
+pub gate_signals : (model : Model) (gate : GateLine) → In (gate_lines model) gate → (In (signals model) gate.output) × ((x : List ℕ) → In gate.inputs x → In (signals model) x)
 gate_signals model gate h =
     let l = filter_map_in (λ item. gate_of item.what) model.items gate h in
     let w = gate_line l.0.what gate l.2 in
     (is_signal model l.0 gate.output l.1 w.0, λ x i. is_signal model l.0 x l.1 (w.1 x i))
 
-latch_signals : (model : Model) (latch : LatchLine) → In (latch_lines model) latch → (In (signals model) latch.output) × (In (signals model) latch.input)
+pub latch_signals : (model : Model) (latch : LatchLine) → In (latch_lines model) latch → (In (signals model) latch.output) × (In (signals model) latch.input)
 latch_signals model latch h =
     let l = filter_map_in (λ item. latch_of item.what) model.items latch h in
     let w = latch_line l.0.what latch l.2 in

@@ -6,3 +6,4 @@ pub mod Nets
 pub mod Covered
 pub mod Placed
 pub mod Corresponds
+pub mod Flattened

@@ -7,6 +7,7 @@ mod gates;
 mod instance;
 pub mod laws;
 mod supported;
+mod whole;
 #[cfg(test)]
 mod tests;
 
