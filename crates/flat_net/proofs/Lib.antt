@@ -4,6 +4,7 @@ pub mod Driven
 pub mod Named
 pub mod Nets
 pub mod Covered
+pub mod Marks
 pub mod Placed
 pub mod Corresponds
 pub mod Flattened

@@ -1,7 +1,9 @@
 //! The flat net of a netlist: its nets are numbered, and each gate and latch drives the nets of its signals.
 #![tactic(auto)]
 
+mod clocks;
 mod covers;
+mod drivers;
 pub mod flat;
 mod gates;
 mod instance;
