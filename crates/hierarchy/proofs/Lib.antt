@@ -8,3 +8,6 @@ pub mod Deep
 pub mod Wide
 pub mod Free
 pub mod Levels
+pub mod Weighed
+pub mod Bindings
+pub mod Measured

@@ -3,3 +3,4 @@ pub mod Checks
 pub mod Search
 pub mod Depth
 pub mod Kinds
+pub mod Counts

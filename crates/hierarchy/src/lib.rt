@@ -4,6 +4,7 @@
 
 mod checks;
 mod circles;
+mod counts;
 mod depth;
 pub mod fault;
 mod formals;
@@ -16,6 +17,7 @@ pub mod refusals;
 pub mod signals;
 mod unbound;
 pub mod uses;
+mod weights;
 
 pub use fault::NetFault;
 pub use refusals::refuse;
