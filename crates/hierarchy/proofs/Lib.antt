@@ -11,3 +11,4 @@ pub mod Levels
 pub mod Weighed
 pub mod Bindings
 pub mod Measured
+pub mod Ranked

@@ -4,3 +4,4 @@ pub mod Search
 pub mod Depth
 pub mod Kinds
 pub mod Counts
+pub mod Ranks

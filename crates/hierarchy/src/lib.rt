@@ -4,12 +4,14 @@
 
 mod checks;
 mod circles;
+mod components;
 mod counts;
 mod depth;
 pub mod fault;
 mod formals;
 mod gates;
 pub mod lines;
+mod ranks;
 mod reach;
 #[cfg(test)]
 mod refusal_tests;

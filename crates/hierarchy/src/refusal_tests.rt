@@ -2,12 +2,13 @@
 
 ghost use Rattle.std.specs.Prelude.{◌≤◌, length};
 
+use crate::components::components;
 use crate::{NetFault, refuse};
 use blif_lines::logical_lines;
 use blif_syntax::read_models;
 use std::alloc::{AllocError, Global};
 use std::test::Fail;
-use ste_base::Name;
+use ste_base::{Items, Name};
 
 /// Netlists, and what each is refused for: nothing, or the kind with the number of the line and the name.
 const TABLE: &[(&[u8], &[u8])] = &[
@@ -273,6 +274,13 @@ fn deepest_hierarchies(rt: HostRuntime) -> Result<(), Fail> {
         ),
         (
             b"",
+            6000,
+            1,
+            b".model m5999\n.subckt m5999\n",
+            b"recursive model 17999 m5999",
+        ),
+        (
+            b"",
             90,
             1,
             b".model m89\n.inputs a a\n.end\n.model n\n.inputs b\n",
@@ -369,6 +377,39 @@ fn largest_sizes(rt: HostRuntime) -> Result<(), Fail> {
         assert!(rt; text.len() <= 67_108_864);
         let got = refusal(rt.alloc(), text.as_slice())?;
         assert_eq!(rt; got.as_slice(), *want, "at {top}, {uses} and {words}");
+    }
+    Ok(())
+}
+
+/// What each model uses, and the numbers of their components.
+const GRAPHS: &[(&[&[usize]], &[usize])] = &[
+    (&[&[]], &[0]),
+    (&[&[0]], &[0]),
+    (&[&[1], &[2], &[1, 3], &[]], &[2, 1, 1, 0]),
+    (&[&[1, 2], &[0], &[3], &[2]], &[1, 1, 0, 0]),
+    (&[&[1], &[2], &[0]], &[0, 0, 0]),
+    (&[&[], &[0, 2], &[1]], &[0, 1, 1]),
+    (&[&[1], &[0, 2], &[3], &[4], &[3]], &[2, 2, 1, 0, 0]),
+    (&[&[1], &[2], &[3], &[1, 0]], &[0, 0, 0, 0]),
+    (&[&[1, 1, 2], &[2, 2], &[]], &[2, 1, 0]),
+    (&[&[3], &[2], &[1, 0], &[3]], &[1, 2, 2, 0]),
+];
+
+/// What each model uses, as lists.
+fn graph_of(alloc: Global, uses: &[&[usize]]) -> Result<Vec<Items<usize>>, AllocError> {
+    let mut graph = Vec::new(alloc);
+    for used in uses {
+        graph.push(used.to_vec(alloc)?.into())?;
+    }
+    Ok(graph)
+}
+
+#[test]
+fn components_of_graphs(rt: HostRuntime) -> Result<(), Fail> {
+    for (uses, want) in GRAPHS {
+        let graph = graph_of(rt.alloc(), uses)?;
+        let got = components(rt.alloc(), graph.as_slice())?;
+        assert_eq!(rt; got.as_slice(), *want, "at {uses:?}");
     }
     Ok(())
 }
