@@ -35,16 +35,16 @@ map_capped cap f g (m ∷ models) each (suc k) = map_capped cap f g models each 
 
 module _ (models : List Model) (some : 0 < length models) (free : IsFree (HasUnknownModel models)) where
   -- the instance that a use of an instance makes
-  record Below (path : List ℕ) (n : ℕ) (used : UseLine) : Type 0 where
-    number : ℕ
-    model : Model
-    is : number_named models used.model ≡ Some number
-    found : slice_get models number ≡ Some model
-    ends : end_of (uses models) 0 (n ∷ path) ≡ Some number
-    at : model_at models (n ∷ path) ≡ Some model
-    named : model_named models used.model ≡ Some model
+  pub record Below (path : List ℕ) (n : ℕ) (used : UseLine) : Type 0 where
+    pub number : ℕ
+    pub model : Model
+    pub is : number_named models used.model ≡ Some number
+    pub found : slice_get models number ≡ Some model
+    pub ends : end_of (uses models) 0 (n ∷ path) ≡ Some number
+    pub at : model_at models (n ∷ path) ≡ Some model
+    pub named : model_named models used.model ≡ Some model
 
-  below : (path : List ℕ) (k : ℕ) (model : Model) → end_of (uses models) 0 path ≡ Some k → slice_get models k ≡ Some model → (n : ℕ) (used : UseLine) → slice_get (use_lines model) n ≡ Some used → Below path n used
+  pub below : (path : List ℕ) (k : ℕ) (model : Model) → end_of (uses models) 0 path ≡ Some k → slice_get models k ≡ Some model → (n : ℕ) (used : UseLine) → slice_get (use_lines model) n ≡ Some used → Below path n used
   below path k model is found n used at =
       let number = known models free k model used (path, is) found (in_get (use_lines model) n used at) in
       let ends : end_of (uses models) 0 (n ∷ path) ≡ Some number.0 =
@@ -67,7 +67,7 @@ module _ (models : List Model) (some : 0 < length models) (free : IsFree (HasUnk
   module _ (weight : List ℕ → ℕ) (by_use : UseLine → ℕ) (own : List ℕ)
       (weighs : (path : List ℕ) (k : ℕ) (model : Model) → end_of (uses models) 0 path ≡ Some k → slice_get models k ≡ Some model → (n : ℕ) (used : UseLine) → slice_get (use_lines model) n ≡ Some used → weight (n ∷ path) ≡ by_use used)
       (owns : (k : ℕ) (model : Model) → slice_get models k ≡ Some model → get_or own k 0 ≡ sum_of by_use (use_lines model)) where
-    total : (levels : ℕ) (path : List ℕ) (k : ℕ) (model : Model) → end_of (uses models) 0 path ≡ Some k → slice_get models k ≡ Some model → sum_of weight (instances_below models (suc levels) path (Some model)) ≡ weight path + weight_below (uses models) own levels k
+    pub total : (levels : ℕ) (path : List ℕ) (k : ℕ) (model : Model) → end_of (uses models) 0 path ≡ Some k → slice_get models k ≡ Some model → sum_of weight (instances_below models (suc levels) path (Some model)) ≡ weight path + weight_below (uses models) own levels k
     total zero path k model is found =
         let apart = sum_flat_map weight (λ at. instances_below models 0 (at.0 ∷ path) (model_named models at.1.model)) (enumerate_from 0 (use_lines model)) in
         let none = sum_none (enumerate_from 0 (use_lines model)) in
@@ -163,7 +163,7 @@ module _ (models : List Model) (some : 0 < length models) (free : IsFree (HasUnk
     as_sum Nets = length_flat_map (λ path. own_nets models path) (instances models)
     as_sum Size = sum_by_is (λ path. suc (length (had_by all_words (model_at models path)))) (instances models)
 
-    whole : (measure : Measure) (model : Model) → slice_get models 0 ≡ Some model → measured measure models ≡ get_or (map (model_weight measure) models) 0 0 + weight_below (uses models) (map (uses_weight measure (map (model_weight measure) models) (model_names models)) models) 64 0
+    pub whole : (measure : Measure) (model : Model) → slice_get models 0 ≡ Some model → measured measure models ≡ get_or (map (model_weight measure) models) 0 0 + weight_below (uses models) (map (uses_weight measure (map (model_weight measure) models) (model_names models)) models) 64 0
     whole measure model found =
         let own = map (uses_weight measure (map (model_weight measure) models) (model_names models)) models in
         let sum = as_sum measure in
