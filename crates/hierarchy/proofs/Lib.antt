@@ -8,3 +8,7 @@ pub mod Deep
 pub mod Wide
 pub mod Free
 pub mod Levels
+pub mod Weighed
+pub mod Bindings
+pub mod Measured
+pub mod Ranked

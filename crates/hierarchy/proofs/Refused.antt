@@ -7,11 +7,12 @@ use Rattle.blif_syntax.specs.declared.models.Item.{Item}
 use Rattle.blif_syntax.specs.declared.models.Model.{Model}
 use Rattle.hierarchy.specs.declared.fault.NetFault.{NetFault}
 use Rattle.hierarchy.specs.declared.fault.NetFault.TheVariants.{OutOfMemory}
-use Rattle.hierarchy.specs.Faults.{Else, HasDoubleModel, HasRecursive, IsFree, double_model}
+use Rattle.hierarchy.specs.Faults.{Else, HasBadFormal, HasDoubleModel, HasDrivenTwice, HasFaultBeforeInstances, HasGateTooWide, HasMissingFormal, HasMixedClocks, HasRecursive, HasTooDeep, HasTooManyNodes, HasUnknownModel, IsFree, IsRefusal, double_model}
 use Rattle.hierarchy.specs.Instances.{model_named, model_names, number_named}
 use Rattle.hierarchy.specs.Lines.{UseLine, use_lines, use_of}
 use Rattle.hierarchy.specs.Reach.{used_by, uses}
 use Rattle.hierarchy.specs.private.Depth.{has_steps}
+use Rattle.hierarchy.specs.private.Kinds.{FromBadFormal, FromGateTooWide, FromMissingFormal, FromRecursive, FromTooDeep, FromUnknownModel}
 use Rattle.hierarchy.proofs.Deep.{no_circle}
 use Rattle.hierarchy.proofs.Members.{In, filter_map_in, in_at, in_filter_map, in_get, map_in}
 
@@ -23,6 +24,100 @@ else_free kind others one two fault (inr h) = two fault h.1
 pub else_later : (kind others : NetFault → Type 0) → IsFree kind → (fault : NetFault) → (fault ≡ OutOfMemory) ⊎ others fault → (fault ≡ OutOfMemory) ⊎ Else kind others fault
 else_later kind others free fault (inl wanting) = inl wanting
 else_later kind others free fault (inr h) = inr (inr (free, h))
+
+-- where there is none of both there is none of either
+pub free_first : (kind others : NetFault → Type 0) → IsFree (Else kind others) → IsFree kind
+free_first kind others free fault h = free fault (inl h)
+
+pub free_rest : (kind others : NetFault → Type 0) → IsFree (Else kind others) → IsFree others
+free_rest kind others free fault h = free fault (inr (free_first kind others free, h))
+
+-- more kinds behind
+more_kinds : (kind others more : NetFault → Type 0) → ((fault : NetFault) → others fault → more fault) → (fault : NetFault) → Else kind others fault → Else kind more fault
+more_kinds kind others more each fault (inl h) = inl h
+more_kinds kind others more each fault (inr h) = inr (h.0, each fault h.1)
+
+-- each kind that can be told before any instance is made
+pub record AreFreeBefore (models : List Model) : Type 0 where
+  pub double_model : IsFree (HasDoubleModel models)
+  pub unknown_model : IsFree (HasUnknownModel models)
+  pub recursive : IsFree (HasRecursive models)
+  pub bad_formal : IsFree (HasBadFormal models)
+  pub missing_formal : IsFree (HasMissingFormal models)
+  pub gate_too_wide : IsFree (HasGateTooWide models)
+  pub too_deep : IsFree (HasTooDeep models)
+  pub too_many_nodes : IsFree (HasTooManyNodes models)
+
+pub free_before : (models : List Model) → IsFree (HasFaultBeforeInstances models) → AreFreeBefore models
+free_before models free =
+    let from_unknown = free_rest (HasDoubleModel models) (FromUnknownModel models) free in
+    let from_recursive = free_rest (HasUnknownModel models) (FromRecursive models) from_unknown in
+    let from_bad = free_rest (HasRecursive models) (FromBadFormal models) from_recursive in
+    let from_missing = free_rest (HasBadFormal models) (FromMissingFormal models) from_bad in
+    let from_wide = free_rest (HasMissingFormal models) (FromGateTooWide models) from_missing in
+    let from_deep = free_rest (HasGateTooWide models) (FromTooDeep models) from_wide in
+    record {
+      double_model = free_first (HasDoubleModel models) (FromUnknownModel models) free;
+      unknown_model = free_first (HasUnknownModel models) (FromRecursive models) from_unknown;
+      recursive = free_first (HasRecursive models) (FromBadFormal models) from_recursive;
+      bad_formal = free_first (HasBadFormal models) (FromMissingFormal models) from_bad;
+      missing_formal = free_first (HasMissingFormal models) (FromGateTooWide models) from_missing;
+      gate_too_wide = free_first (HasGateTooWide models) (FromTooDeep models) from_wide;
+      too_deep = free_first (HasTooDeep models) (HasTooManyNodes models) from_deep;
+      too_many_nodes = free_rest (HasTooDeep models) (HasTooManyNodes models) from_deep;
+    }
+
+-- kinds from the last of these on, with those of nets behind
+module _ (models : List Model) where
+  abbrev OfNets : NetFault → Type 0
+  OfNets = Else (HasDrivenTwice models) (HasMixedClocks models)
+
+  abbrev Deep : NetFault → Type 0
+  Deep = Else (HasTooDeep models) (Else (HasTooManyNodes models) OfNets)
+
+  abbrev Wide : NetFault → Type 0
+  Wide = Else (HasGateTooWide models) Deep
+
+  abbrev Missing : NetFault → Type 0
+  Missing = Else (HasMissingFormal models) Wide
+
+  abbrev Bad : NetFault → Type 0
+  Bad = Else (HasBadFormal models) Missing
+
+  abbrev Again : NetFault → Type 0
+  Again = Else (HasRecursive models) Bad
+
+  abbrev Unknown : NetFault → Type 0
+  Unknown = Else (HasUnknownModel models) Again
+
+  -- a fault that can be told before any instance is made is what the hierarchy is refused for
+  pub before_is_refusal : (fault : NetFault) → HasFaultBeforeInstances models fault → IsRefusal models fault
+  before_is_refusal =
+      more_kinds (HasDoubleModel models) (FromUnknownModel models) Unknown
+      (more_kinds (HasUnknownModel models) (FromRecursive models) Again
+      (more_kinds (HasRecursive models) (FromBadFormal models) Bad
+      (more_kinds (HasBadFormal models) (FromMissingFormal models) Missing
+      (more_kinds (HasMissingFormal models) (FromGateTooWide models) Wide
+      (more_kinds (HasGateTooWide models) (FromTooDeep models) Deep
+      (more_kinds (HasTooDeep models) (HasTooManyNodes models) (Else (HasTooManyNodes models) OfNets) (λ fault h. inl h)))))))
+
+  -- and where there is none it is the fault of a net
+  pub later_is_refusal : IsFree (HasFaultBeforeInstances models) → (fault : NetFault) → Else (HasDrivenTwice models) (HasMixedClocks models) fault → IsRefusal models fault
+  later_is_refusal free fault h =
+      let f = free_before models free in
+      inr (f.double_model, inr (f.unknown_model, inr (f.recursive, inr (f.bad_formal, inr (f.missing_formal, inr (f.gate_too_wide, inr (f.too_deep, inr (f.too_many_nodes, h))))))))
+
+  pub refusal_free : IsFree (HasFaultBeforeInstances models) → IsFree (Else (HasDrivenTwice models) (HasMixedClocks models)) → IsFree (IsRefusal models)
+  refusal_free free later =
+      let f = free_before models free in
+      else_free (HasDoubleModel models) Unknown f.double_model
+      (else_free (HasUnknownModel models) Again f.unknown_model
+      (else_free (HasRecursive models) Bad f.recursive
+      (else_free (HasBadFormal models) Missing f.bad_formal
+      (else_free (HasMissingFormal models) Wide f.missing_formal
+      (else_free (HasGateTooWide models) Deep f.gate_too_wide
+      (else_free (HasTooDeep models) (Else (HasTooManyNodes models) OfNets) f.too_deep
+      (else_free (HasTooManyNodes models) OfNets f.too_many_nodes later)))))))
 
 pub double_free : (models : List Model) → double_model [] models ≡ None → IsFree (HasDoubleModel models)
 double_free models none fault some = absurd (cc)

@@ -24,14 +24,14 @@ in_one_of (first ∷ words) word (inr h) = by (bytes_eq word first) (in_one_of w
     by true e = refl
     by false e = e
 
-insert_old : (keys : List (List ℕ)) (name x : List ℕ) → In keys x → In (insert_key bytes_eq keys name) x
+pub insert_old : (keys : List (List ℕ)) (name x : List ℕ) → In keys x → In (insert_key bytes_eq keys name) x
 insert_old keys name x h = by (list_any (bytes_eq name) keys)
   where
     by : (b : Bool) → In (cond b keys (keys ++ name ∷ [])) x
     by true = h
     by false = in_append_left keys (name ∷ []) x h
 
-insert_new : (keys : List (List ℕ)) (name : List ℕ) → In (insert_key bytes_eq keys name) name
+pub insert_new : (keys : List (List ℕ)) (name : List ℕ) → In (insert_key bytes_eq keys name) name
 insert_new keys name = by (list_any (bytes_eq name) keys) refl
   where
     by : (b : Bool) → list_any (bytes_eq name) keys ≡ b → In (cond b keys (keys ++ name ∷ [])) name

@@ -177,8 +177,10 @@ IsRefusal models =
     (Else (HasBadFormal models) (Else (HasMissingFormal models) (Else (HasGateTooWide models)
     (Else (HasTooDeep models) (Else (HasTooManyNodes models) (Else (HasDrivenTwice models) (HasMixedClocks models)))))))))
 
--- the same among the kinds that are looked for so far
-abbrev pub IsRefusalSoFar : List Model → NetFault → Type 0
-IsRefusalSoFar models =
+-- The fault that a hierarchy is refused for before any instance is made: that of the first kind for which there is one, among all
+-- kinds but the last two, which are faults of nets.
+abbrev pub HasFaultBeforeInstances : List Model → NetFault → Type 0
+HasFaultBeforeInstances models =
     Else (HasDoubleModel models) (Else (HasUnknownModel models) (Else (HasRecursive models)
-    (Else (HasBadFormal models) (Else (HasMissingFormal models) (Else (HasGateTooWide models) (HasTooDeep models))))))
+    (Else (HasBadFormal models) (Else (HasMissingFormal models) (Else (HasGateTooWide models)
+    (Else (HasTooDeep models) (HasTooManyNodes models)))))))

@@ -3,3 +3,5 @@ pub mod Checks
 pub mod Search
 pub mod Depth
 pub mod Kinds
+pub mod Counts
+pub mod Ranks

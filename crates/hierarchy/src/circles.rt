@@ -7,9 +7,11 @@ ghost use Rattle.hierarchy.specs.Instances.{model_names};
 ghost use Rattle.hierarchy.specs.Reach.{uses};
 ghost use Rattle.hierarchy.specs.private.Checks.{AreReachable, FirstIn, NoneIn};
 ghost use Rattle.hierarchy.specs.private.Depth.{has_steps};
+ghost use Rattle.hierarchy.specs.private.Ranks.{AreRanks};
 
 use crate::checks::ItemAt;
 use crate::fault::NetFault;
+use crate::ranks::{is_above, ranks};
 use crate::reach::reached;
 use crate::uses::use_of;
 use blif_syntax::Model;
@@ -24,16 +26,19 @@ fn is_marked(marks: &[bool], number: usize) -> bool
     marks.get(number).copied().unwrap_or(false)
 }
 
-/// Refuses a line that uses a model from which its own model is reached.
+/// Refuses a line that uses a model from which its own model is reached. There is a search only where the ranks do not tell that
+/// it is not.
 fn refuse_circle(
     alloc: Global,
     models: &[Model],
     names: &IndexSet<Name>,
     graph: &[Items<usize>],
+    ranks: &[usize],
     at: &ItemAt,
 ) -> Result<(), NetFault>
     requires names { names.now.keys ≡ model_names models.now }
     requires graph { graph.now ≡ uses models.now }
+    requires ranks { AreRanks graph.now ranks.now }
     ensures ok { OnOk result ((its : NetFault) → IsRecursive models.now at.now.number at.now.item its → ⊥) }
     ensures err { IfErr result (λ fault. (fault ≡ NetFault.OutOfMemory)
         ⊎ IsRecursive models.now at.now.number at.now.item fault) }
@@ -44,6 +49,9 @@ fn refuse_circle(
     let Some(number) = names.get_index_of(used.model) else {
         return Ok(())
     };
+    if is_above(graph, ranks, number, at.number) {
+        return Ok(());
+    }
     let marks = reached(alloc, graph, number)?;
     if !is_marked(marks.as_slice(), at.number) {
         return Ok(());
@@ -55,8 +63,8 @@ fn refuse_circle(
     })
 }
 
-/// Refuses the first of the lines that use a model from which their own model is reached. The time is that of a search for
-/// each line.
+/// Refuses the first of the lines that use a model from which their own model is reached. The first line whose models have the
+/// same rank is that line, so that there is one search.
 fn first_recursive(
     alloc: Global,
     models: &[Model],
@@ -70,8 +78,9 @@ fn first_recursive(
     ensures err { IfErr result (λ fault. (fault ≡ NetFault.OutOfMemory)
         ⊎ FirstIn (λ at its. IsRecursive models.now at.number at.item its) lines.now fault) }
 {
+    let ranks = ranks(alloc, graph)?;
     for at in lines {
-        if let Err(fault) = refuse_circle(alloc, models, names, graph, at) {
+        if let Err(fault) = refuse_circle(alloc, models, names, graph, ranks.as_slice(), at) {
             return Err(fault);
         }
     }

@@ -4,11 +4,14 @@
 
 mod checks;
 mod circles;
+mod components;
+mod counts;
 mod depth;
 pub mod fault;
 mod formals;
 mod gates;
 pub mod lines;
+mod ranks;
 mod reach;
 #[cfg(test)]
 mod refusal_tests;
@@ -16,6 +19,7 @@ pub mod refusals;
 pub mod signals;
 mod unbound;
 pub mod uses;
+mod weights;
 
 pub use fault::NetFault;
 pub use refusals::refuse;

@@ -2,12 +2,13 @@
 
 ghost use Rattle.std.specs.Prelude.{◌≤◌, length};
 
+use crate::components::components;
 use crate::{NetFault, refuse};
 use blif_lines::logical_lines;
 use blif_syntax::read_models;
 use std::alloc::{AllocError, Global};
 use std::test::Fail;
-use ste_base::Name;
+use ste_base::{Items, Name};
 
 /// Netlists, and what each is refused for: nothing, or the kind with the number of the line and the name.
 const TABLE: &[(&[u8], &[u8])] = &[
@@ -128,6 +129,7 @@ fn shown(alloc: Global, fault: &NetFault) -> Result<Vec<u8>, AllocError> {
             Ok(format!(in alloc; "cover too wide {line}")?.into_bytes())
         }
         NetFault::TooDeep => b"hierarchy too deep".to_vec(alloc),
+        NetFault::TooManyNodes => b"too many nodes".to_vec(alloc),
         _ => b"another kind".to_vec(alloc),
     }
 }
@@ -201,15 +203,28 @@ fn widest_gates(rt: HostRuntime) -> Result<(), Fail> {
     Ok(())
 }
 
-/// A netlist whose models use one another in a chain of so many uses, from the model of the first number on. The last model
-/// has these lines.
-fn chain_text(alloc: Global, head: &[u8], uses: u32, last: &[u8]) -> Result<Vec<u8>, AllocError> {
+/// Adds a text so many times.
+fn repeat(out: &mut Vec<u8>, text: &[u8], times: u32) -> Result<(), AllocError> {
+    for _ in 0..times {
+        out.extend_from_slice(text)?;
+    }
+    Ok(())
+}
+
+/// A netlist with a chain of so many models behind its head: each uses the next so many times. The last has these lines.
+fn chain_text(
+    alloc: Global,
+    head: &[u8],
+    models: u32,
+    times: u32,
+    last: &[u8],
+) -> Result<Vec<u8>, AllocError> {
     let mut out = head.to_vec(alloc)?;
-    for number in 1..uses {
-        out.extend_from_slice(format!(in alloc;
-            ".model m{}\n.subckt m{number}\n.end\n",
-            number - 1
-        )?.as_bytes())?;
+    for number in 1..models {
+        out.extend_from_slice(format!(in alloc; ".model m{}\n", number - 1)?.as_bytes())?;
+        let used = format!(in alloc; ".subckt m{number}\n")?;
+        repeat(&mut out, used.as_bytes(), times)?;
+        out.extend_from_slice(b".end\n")?;
     }
     out.extend_from_slice(last)?;
     Ok(out)
@@ -217,52 +232,184 @@ fn chain_text(alloc: Global, head: &[u8], uses: u32, last: &[u8]) -> Result<Vec<
 
 #[test]
 fn deepest_hierarchies(rt: HostRuntime) -> Result<(), Fail> {
-    // The last of so many models lies one level less below the first.
-    let table: &[(&[u8], u32, &[u8], &[u8])] = &[
-        (b"", 65, b".model m64\n", b"nothing"),
+    // The head, how many models there are and how often each uses the next, and the last; the n-th of the models is m(n - 1).
+    let table: &[(&[u8], u32, u32, &[u8], &[u8])] = &[
+        (b"", 65, 1, b".model m64\n", b"nothing"),
         (
             b"",
             65,
+            1,
             b".model m64\n.subckt n\n.end\n.model n\n",
             b"hierarchy too deep",
         ),
-        (b".model top\n.end\n", 90, b".model m89\n", b"nothing"),
+        (b".model top\n.end\n", 90, 1, b".model m89\n", b"nothing"),
         (
             b".model top\n.subckt m26\n.end\n",
             90,
+            1,
             b".model m89\n",
             b"nothing",
         ),
         (
             b".model top\n.subckt m25\n.end\n",
             90,
+            1,
             b".model m89\n",
             b"hierarchy too deep",
         ),
         (
             b".model top\n.subckt m1\n.subckt m0\n.end\n",
             65,
+            1,
             b".model m64\n",
             b"hierarchy too deep",
         ),
+        // Each other kind comes before.
         (
             b"",
             90,
+            1,
             b".model m89\n.subckt m85\n",
             b"recursive model 257 m86",
         ),
         (
             b"",
+            6000,
+            1,
+            b".model m5999\n.subckt m5999\n",
+            b"recursive model 17999 m5999",
+        ),
+        (
+            b"",
             90,
+            1,
             b".model m89\n.inputs a a\n.end\n.model n\n.inputs b\n",
             b"missing formal 266 a",
         ),
+        (
+            b"",
+            90,
+            1,
+            b".model m89\n.subckt n z=a\n.end\n.model n\n",
+            b"bad formal 269 z",
+        ),
+        // Too many instances to make one by one: up to 2 to the 65th.
+        (b"", 22, 2, b".model m21\n", b"too many nodes"),
+        (b"", 20, 2, b".model m19\n", b"nothing"),
+        (b"", 64, 2, b".model m63\n", b"too many nodes"),
+        (b"", 65, 2, b".model m64\n", b"too many nodes"),
+        (b"", 66, 2, b".model m65\n", b"hierarchy too deep"),
+        (b".model top\n.end\n", 30, 2, b".model m29\n", b"nothing"),
     ];
-    for (head, uses, last, want) in table {
-        let text = chain_text(rt.alloc(), head, *uses, last)?;
+    for (head, models, times, last, want) in table {
+        let text = chain_text(rt.alloc(), head, *models, *times, last)?;
         assert!(rt; text.len() <= 67_108_864);
         let got = refusal(rt.alloc(), text.as_slice())?;
-        assert_eq!(rt; got.as_slice(), *want, "at {head:?}, {uses} and {last:?}");
+        assert_eq!(rt;
+            got.as_slice(),
+            *want,
+            "at {head:?}, {models}, {times} and {last:?}"
+        );
+    }
+    Ok(())
+}
+
+/// A netlist whose first model has these lines, and then so many uses of one with so many outputs.
+fn nets_text(alloc: Global, top: &[u8], uses: u32, outputs: u32) -> Result<Vec<u8>, AllocError> {
+    let mut out = b".model m\n".to_vec(alloc)?;
+    out.extend_from_slice(top)?;
+    repeat(&mut out, b".subckt n\n", uses)?;
+    out.extend_from_slice(b".end\n.model n\n.outputs")?;
+    for number in 0..outputs {
+        out.extend_from_slice(format!(in alloc; " s{number}")?.as_bytes())?;
+    }
+    Ok(out)
+}
+
+#[test]
+fn most_nets(rt: HostRuntime) -> Result<(), Fail> {
+    // A bound formal makes no net, and its actual is a net of the first model.
+    let table: &[(&[u8], u32, u32, &[u8])] = &[
+        (b"", 1000, 200, b"nothing"),
+        (b".inputs a\n", 1000, 200, b"too many nodes"),
+        (b".subckt n s0=a\n", 999, 200, b"nothing"),
+        (b".subckt n s0=a s1=a\n.inputs c\n", 999, 200, b"nothing"),
+        (
+            b".subckt n s0=a s1=b\n.inputs c\n",
+            999,
+            200,
+            b"too many nodes",
+        ),
+        (b"", 10, 20_000, b"nothing"),
+        (b"", 10, 20_001, b"too many nodes"),
+        (b".end\n.model k\n", 2000, 200, b"nothing"),
+    ];
+    for (top, uses, outputs, want) in table {
+        let text = nets_text(rt.alloc(), top, *uses, *outputs)?;
+        assert!(rt; text.len() <= 67_108_864);
+        let got = refusal(rt.alloc(), text.as_slice())?;
+        assert_eq!(rt; got.as_slice(), *want, "at {top:?}, {uses} and {outputs}");
+    }
+    Ok(())
+}
+
+/// A netlist whose first model has so many words that are signals, and then so many uses of one with so many such words.
+fn size_text(alloc: Global, top: u32, uses: u32, words: u32) -> Result<Vec<u8>, AllocError> {
+    let mut out = b".model m\n.outputs".to_vec(alloc)?;
+    repeat(&mut out, b" a", top)?;
+    out.extend_from_slice(b"\n")?;
+    repeat(&mut out, b".subckt n\n", uses)?;
+    out.extend_from_slice(b".end\n.model n\n.outputs")?;
+    repeat(&mut out, b" a", words)?;
+    Ok(out)
+}
+
+#[test]
+fn largest_sizes(rt: HostRuntime) -> Result<(), Fail> {
+    let table: &[(u32, u32, u32, &[u8])] = &[
+        (3999, 999, 3999, b"nothing"),
+        (4000, 999, 3999, b"too many nodes"),
+        (0, 1000, 3998, b"nothing"),
+        (0, 1000, 4000, b"too many nodes"),
+    ];
+    for (top, uses, words, want) in table {
+        let text = size_text(rt.alloc(), *top, *uses, *words)?;
+        assert!(rt; text.len() <= 67_108_864);
+        let got = refusal(rt.alloc(), text.as_slice())?;
+        assert_eq!(rt; got.as_slice(), *want, "at {top}, {uses} and {words}");
+    }
+    Ok(())
+}
+
+/// What each model uses, and the numbers of their components.
+const GRAPHS: &[(&[&[usize]], &[usize])] = &[
+    (&[&[]], &[0]),
+    (&[&[0]], &[0]),
+    (&[&[1], &[2], &[1, 3], &[]], &[2, 1, 1, 0]),
+    (&[&[1, 2], &[0], &[3], &[2]], &[1, 1, 0, 0]),
+    (&[&[1], &[2], &[0]], &[0, 0, 0]),
+    (&[&[], &[0, 2], &[1]], &[0, 1, 1]),
+    (&[&[1], &[0, 2], &[3], &[4], &[3]], &[2, 2, 1, 0, 0]),
+    (&[&[1], &[2], &[3], &[1, 0]], &[0, 0, 0, 0]),
+    (&[&[1, 1, 2], &[2, 2], &[]], &[2, 1, 0]),
+    (&[&[3], &[2], &[1, 0], &[3]], &[1, 2, 2, 0]),
+];
+
+/// What each model uses, as lists.
+fn graph_of(alloc: Global, uses: &[&[usize]]) -> Result<Vec<Items<usize>>, AllocError> {
+    let mut graph = Vec::new(alloc);
+    for used in uses {
+        graph.push(used.to_vec(alloc)?.into())?;
+    }
+    Ok(graph)
+}
+
+#[test]
+fn components_of_graphs(rt: HostRuntime) -> Result<(), Fail> {
+    for (uses, want) in GRAPHS {
+        let graph = graph_of(rt.alloc(), uses)?;
+        let got = components(rt.alloc(), graph.as_slice())?;
+        assert_eq!(rt; got.as_slice(), *want, "at {uses:?}");
     }
     Ok(())
 }

@@ -2,15 +2,16 @@
 
 ghost use Rattle.std.specs.Prelude.{◌≡◌, ◌⊎◌, ◌<◌, IfErr, IfOk, OnOk, length};
 ghost use Rattle.blif_syntax.specs.Covered.{AreCovered};
-ghost use Rattle.hierarchy.specs.Faults.{HasUnknownModel, IsFree, IsRefusalSoFar};
+ghost use Rattle.hierarchy.specs.Faults.{HasBadFormal, HasFaultBeforeInstances, HasUnknownModel, IsFree};
 ghost use Rattle.hierarchy.specs.Instances.{model_names};
 ghost use Rattle.hierarchy.specs.Reach.{uses};
 ghost use Rattle.hierarchy.specs.private.Checks.{AreReachable};
 ghost use Rattle.hierarchy.specs.private.Depth.{has_steps};
-ghost use Rattle.hierarchy.specs.private.Kinds.{FromBadFormal, FromGateTooWide, FromMissingFormal, FromRecursive, FromUnknownModel};
+ghost use Rattle.hierarchy.specs.private.Kinds.{FromBadFormal, FromGateTooWide, FromMissingFormal, FromRecursive, FromTooDeep, FromUnknownModel};
 
 use crate::checks::{ItemAt, marked_items, refuse_unknown_models};
 use crate::circles::refuse_recursive;
+use crate::counts::refuse_too_many_nodes;
 use crate::depth::{is_deep, refuse_too_deep};
 use crate::fault::NetFault;
 use crate::formals::refuse_bad_formals;
@@ -37,25 +38,53 @@ fn reachable_items<'a>(
     marked_items(alloc, models, marks.as_slice())
 }
 
-/// Refuses the first gate that is too wide, or where there is none a hierarchy that is too deep. `lines` has the items of just
-/// the reachable models, and `deep` says whether more than 64 steps of uses lead on from the top.
+/// Refuses a hierarchy that is too deep, or one that is not but has too many nodes. `names` has the names of all models, `graph`
+/// the numbers of those that each uses, and `deep` says whether more than 64 steps of uses lead on from the top.
+fn refuse_too_deep_on(
+    alloc: Global,
+    models: &[Model],
+    names: &IndexSet<Name>,
+    graph: &[Items<usize>],
+    deep: bool,
+) -> Result<(), NetFault>
+    requires some { 0 < length models.now }
+    requires names { names.now.keys ≡ model_names models.now }
+    requires graph { graph.now ≡ uses models.now }
+    requires known { IsFree (HasUnknownModel models.now) }
+    requires bound { IsFree (HasBadFormal models.now) }
+    requires deep { deep ≡ has_steps (uses models.now) 65 0 }
+    ensures ok { OnOk result (IsFree (FromTooDeep models.now)) }
+    ensures err { IfErr result (λ fault. (fault ≡ NetFault.OutOfMemory)
+        ⊎ FromTooDeep models.now fault) }
+{
+    refuse_too_deep(models, deep)?;
+    refuse_too_many_nodes(alloc, models, names, graph)
+}
+
+/// Refuses the first gate that is too wide, or where there is none what `refuse_too_deep_on` does. `lines` has the items of just
+/// the reachable models.
 fn refuse_wide_gates_on(
     alloc: Global,
     models: &[Model],
+    names: &IndexSet<Name>,
+    graph: &[Items<usize>],
     lines: &[ItemAt],
     deep: bool,
 ) -> Result<(), NetFault>
     requires covered { AreCovered models.now }
     requires some { 0 < length models.now }
+    requires names { names.now.keys ≡ model_names models.now }
+    requires graph { graph.now ≡ uses models.now }
     requires lines { AreReachable models.now lines.now }
     requires known { IsFree (HasUnknownModel models.now) }
+    requires bound { IsFree (HasBadFormal models.now) }
     requires deep { deep ≡ has_steps (uses models.now) 65 0 }
     ensures ok { OnOk result (IsFree (FromGateTooWide models.now)) }
     ensures err { IfErr result (λ fault. (fault ≡ NetFault.OutOfMemory)
         ⊎ FromGateTooWide models.now fault) }
 {
     refuse_wide_gates(alloc, models, lines)?;
-    refuse_too_deep(models, deep)
+    refuse_too_deep_on(alloc, models, names, graph, deep)
 }
 
 /// Refuses the first use that leaves a formal unbound, or where there is none what `refuse_wide_gates_on` does. `names` has the
@@ -64,21 +93,24 @@ fn refuse_missing_formals_on(
     alloc: Global,
     models: &[Model],
     names: &IndexSet<Name>,
+    graph: &[Items<usize>],
     lines: &[ItemAt],
     deep: bool,
 ) -> Result<(), NetFault>
     requires covered { AreCovered models.now }
     requires some { 0 < length models.now }
     requires names { names.now.keys ≡ model_names models.now }
+    requires graph { graph.now ≡ uses models.now }
     requires lines { AreReachable models.now lines.now }
     requires known { IsFree (HasUnknownModel models.now) }
+    requires bound { IsFree (HasBadFormal models.now) }
     requires deep { deep ≡ has_steps (uses models.now) 65 0 }
     ensures ok { OnOk result (IsFree (FromMissingFormal models.now)) }
     ensures err { IfErr result (λ fault. (fault ≡ NetFault.OutOfMemory)
         ⊎ FromMissingFormal models.now fault) }
 {
     refuse_missing_formals(alloc, models, names, lines)?;
-    refuse_wide_gates_on(alloc, models, lines, deep)
+    refuse_wide_gates_on(alloc, models, names, graph, lines, deep)
 }
 
 /// Refuses the first use with a bad formal, or where there is none what `refuse_missing_formals_on` does.
@@ -86,12 +118,14 @@ fn refuse_bad_formals_on(
     alloc: Global,
     models: &[Model],
     names: &IndexSet<Name>,
+    graph: &[Items<usize>],
     lines: &[ItemAt],
     deep: bool,
 ) -> Result<(), NetFault>
     requires covered { AreCovered models.now }
     requires some { 0 < length models.now }
     requires names { names.now.keys ≡ model_names models.now }
+    requires graph { graph.now ≡ uses models.now }
     requires lines { AreReachable models.now lines.now }
     requires known { IsFree (HasUnknownModel models.now) }
     requires deep { deep ≡ has_steps (uses models.now) 65 0 }
@@ -100,7 +134,7 @@ fn refuse_bad_formals_on(
         ⊎ FromBadFormal models.now fault) }
 {
     refuse_bad_formals(alloc, models, names, lines)?;
-    refuse_missing_formals_on(alloc, models, names, lines, deep)
+    refuse_missing_formals_on(alloc, models, names, graph, lines, deep)
 }
 
 /// Refuses the first recursive use, or where there is none what `refuse_bad_formals_on` does. `graph` has for each model the
@@ -124,7 +158,7 @@ fn refuse_recursive_on(
 {
     let deep = is_deep(alloc, graph)?;
     refuse_recursive(alloc, models, names, graph, lines, deep)?;
-    refuse_bad_formals_on(alloc, models, names, lines, deep)
+    refuse_bad_formals_on(alloc, models, names, graph, lines, deep)
 }
 
 /// Refuses the first use of an unknown model, or where there is none what `refuse_recursive_on` does.
@@ -146,14 +180,15 @@ fn refuse_unknown_models_on(
     refuse_recursive_on(alloc, models, names, graph.as_slice(), lines.as_slice())
 }
 
-/// Refuses a hierarchy for the first fault there is of the kinds that are looked for so far: a double model, then an unknown
-/// model, a recursive one, a bad formal, a missing formal, a gate that is too wide, a hierarchy that is too deep. The error is
-/// that fault, or want of memory. Each cover has to be sound, with as many inputs as its line names.
+/// Refuses a hierarchy for the first fault there is of the kinds that can be told before any instance is made: a double model,
+/// then an unknown model, a recursive one, a bad formal, a missing formal, a gate that is too wide, a hierarchy that is too deep,
+/// and one with too many nodes. The error is that fault, or want of memory. Each cover has to be sound, with as many inputs as its
+/// line names.
 pub fn refuse(alloc: Global, models: &Models) -> Result<(), NetFault>
     requires { AreCovered models.now.models }
-    ensures ok { OnOk result (IsFree (IsRefusalSoFar models.now.models)) }
+    ensures ok { OnOk result (IsFree (HasFaultBeforeInstances models.now.models)) }
     ensures err { IfErr result (λ fault. (fault ≡ NetFault.OutOfMemory)
-        ⊎ IsRefusalSoFar models.now.models fault) }
+        ⊎ HasFaultBeforeInstances models.now.models fault) }
 {
     let models = models.models.as_slice();
     let names = names_of(alloc, models)?;

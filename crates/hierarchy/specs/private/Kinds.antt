@@ -5,12 +5,15 @@ use Rattle.blif_syntax.specs.declared.models.Model.{Model}
 use Rattle.blif_syntax.specs.Words.{is_one_of}
 use Rattle.hierarchy.specs.declared.fault.NetFault.{NetFault}
 use Rattle.hierarchy.specs.declared.fault.NetFault.TheVariants.{GateTooWide, MissingFormal}
-use Rattle.hierarchy.specs.Faults.{Else, HasBadFormal, HasGateTooWide, HasMissingFormal, HasRecursive, HasTooDeep, HasUnknownModel, is_too_wide}
+use Rattle.hierarchy.specs.Faults.{Else, HasBadFormal, HasGateTooWide, HasMissingFormal, HasRecursive, HasTooDeep, HasTooManyNodes, HasUnknownModel, is_too_wide}
 use Rattle.hierarchy.specs.Lines.{UseLine}
 
 -- the fault of the first kind from that of the name on for which there is one
+abbrev pub FromTooDeep : List Model → NetFault → Type 0
+FromTooDeep models = Else (HasTooDeep models) (HasTooManyNodes models)
+
 abbrev pub FromGateTooWide : List Model → NetFault → Type 0
-FromGateTooWide models = Else (HasGateTooWide models) (HasTooDeep models)
+FromGateTooWide models = Else (HasGateTooWide models) (FromTooDeep models)
 
 abbrev pub FromMissingFormal : List Model → NetFault → Type 0
 FromMissingFormal models = Else (HasMissingFormal models) (FromGateTooWide models)
