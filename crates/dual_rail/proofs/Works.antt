@@ -128,12 +128,10 @@ pub Built-made : {A : Type 0} (work : List Function) (Good : Store → A → Typ
 Built-made work Good s t a p h = record { ok = h; spends = Spends-out work s t ⊥ (Ok a ≡ Err StepsOut) (λ e. ok_differs a StepsOut e) p }
 
 -- with a want of memory between the calls
-pub Built-memory : {B : Type 0} (work : List Function) (Other : Store → B → Type 0) (s t : Store) (result : Result B OpFault) → SoFar work s t → IsErrAnd result (λ e. e ≡ OutOfMemory) → Built work Other s t result
-Built-memory {B} work Other s t result p is =
-    let q = err_from_is_err_and result is in
+pub Built-lost : {B : Type 0} (work : List Function) (Other : Store → B → Type 0) (s t : Store) → SoFar work s t → Built work Other s t (Err OutOfMemory)
+Built-lost {B} work Other s t p =
     let out : OpFault → Result B OpFault = Err in
-    let made : Built work Other s t (out OutOfMemory) = record { ok = tt; spends = Spends-out work s t ⊥ (out OutOfMemory ≡ Err StepsOut) (λ e. cc) p } in
-    subst (λ (r : Result B OpFault). Built work Other s t r) (sym (q.1 ∙ ap Err q.2)) made
+    record { ok = tt; spends = Spends-out work s t ⊥ (out OutOfMemory ≡ Err StepsOut) (λ e. cc) p }
 
 -- ---- rails
 
