@@ -30,18 +30,18 @@ Zip-keep s t [] (r ∷ rs) ds dt k h = absurd h
 Zip-keep s t (w ∷ ws) [] ds dt k h = absurd h
 Zip-keep s t (w ∷ ws) (r ∷ rs) ds dt k h = (Rails-keep s t w r ds dt k h.0, Zip-keep s t ws rs ds dt k h.1)
 
-pub zip_at : (s : Store) (sets : List SymbolicSet) (inputs : List Rails) (k : ℕ) (w : SymbolicSet) (r : Rails) → AllZip (AreRails s) sets inputs → k < length inputs → AreRails s (get_or sets k w) (get_or inputs k r)
-zip_at s [] [] k w r h lt = absurd (omega arith)
-zip_at s [] (x ∷ xs) k w r h lt = absurd h
-zip_at s (v ∷ vs) [] k w r h lt = absurd h
-zip_at s (v ∷ vs) (x ∷ xs) zero w r h lt = h.0
-zip_at s (v ∷ vs) (x ∷ xs) (suc k) w r h lt = zip_at s vs xs k w r h.1 (omega arith)
+pub zip_at : {X Y : Type 0} (R : X → Y → Type 0) (xs : List X) (ys : List Y) (k : ℕ) (x : X) (y : Y) → AllZip R xs ys → k < length ys → R (get_or xs k x) (get_or ys k y)
+zip_at R [] [] k x y h lt = absurd (omega arith)
+zip_at R [] (b ∷ ys) k x y h lt = absurd h
+zip_at R (a ∷ xs) [] k x y h lt = absurd h
+zip_at R (a ∷ xs) (b ∷ ys) zero x y h lt = h.0
+zip_at R (a ∷ xs) (b ∷ ys) (suc k) x y h lt = zip_at R xs ys k x y h.1 (omega arith)
 
-pub zip_long : (s : Store) (sets : List SymbolicSet) (inputs : List Rails) → AllZip (AreRails s) sets inputs → length sets ≡ length inputs
-zip_long s [] [] h = refl
-zip_long s [] (x ∷ xs) h = absurd h
-zip_long s (v ∷ vs) [] h = absurd h
-zip_long s (v ∷ vs) (x ∷ xs) h = ap suc (zip_long s vs xs h.1)
+pub zip_long : {X Y : Type 0} (R : X → Y → Type 0) (xs : List X) (ys : List Y) → AllZip R xs ys → length xs ≡ length ys
+zip_long R [] [] h = refl
+zip_long R [] (b ∷ ys) h = absurd h
+zip_long R (a ∷ xs) [] h = absurd h
+zip_long R (a ∷ xs) (b ∷ ys) h = ap suc (zip_long R xs ys h.1)
 
 pub own_zip : (s : Store) (inputs : List Rails) → All (AreRefs s) inputs → AllZip (AreRails s) (map (set_where s) inputs) inputs
 own_zip s [] h = tt
@@ -64,11 +64,11 @@ pub product_turn : (row : List Lit) (sets : List SymbolicSet) (inputs : List Rai
     → Built (row_work row sets) (HasFunction (whole conjunction always (take (k + 1) (factors row sets)))) s u result
 product_turn row sets inputs s t u k lit r all result ds dt du wide lt is_lit is_r zip p call =
     let fs : List Function = factors row sets in
-    let long = zip_long s sets inputs zip in
+    let long = zip_long (AreRails s) sets inputs zip in
     let n : length fs ≡ length row = length-factors row sets (omega (arith, wide, long)) in
     let f : Function = whole conjunction always (take k fs) in
     let w : SymbolicSet = get_or sets k everything in
-    let aw : AreRails s w r = subst (AreRails s w) is_r (zip_at s sets inputs k everything r zip (omega (arith, wide))) in
+    let aw : AreRails s w r = subst (AreRails s w) is_r (zip_at (AreRails s) sets inputs k everything r zip (omega (arith, wide))) in
     let same : get_or fs k never ≡ factor lit w = factors-at row sets k never lit everything (omega (arith, wide, long)) lt ∙ ap (λ l. factor l w) is_lit in
     let work : List Function = row_work row sets in
     let chained : Contains (products fs) (conjunction f (factor lit w)) = subst (λ (h : Function). Contains (products fs) (conjunction f h)) same (chain-has conjunction always fs k never (omega (arith, n))) in

@@ -89,6 +89,10 @@ Built-wider work part Good s t result within x = record {
   spends = Spends-wider part work s t (result ≡ Err StepsOut) (within_covers s.vars part work within) x.spends;
 }
 
+-- the same with other functions that have the same values
+pub Built-covers : {A : Type 0} (work part : List Function) (Good : Store → A → Type 0) (s t : Store) (result : Result A OpFault) → Covers s.vars part work → Built part Good s t result → Built work Good s t result
+Built-covers work part Good s t result covers x = record { ok = x.ok; spends = Spends-wider part work s t (result ≡ Err StepsOut) covers x.spends }
+
 -- another thing said of the result
 pub Built-good : {A : Type 0} (work : List Function) (Good Other : Store → A → Type 0) (s t : Store) (result : Result A OpFault) → ((a : A) → Good t a → Other t a) → Built work Good s t result → Built work Other s t result
 Built-good work Good Other s t (Ok a) give b = record { ok = give a b.ok; spends = b.spends }

@@ -1,8 +1,8 @@
 -- Cuts of one net, one after another.
-use Rattle.std.proofs.Common.{◌≡◌, ◌≢◌, ℕ, zero, suc, ◌+◌, ◌<◌, Bool, false, List, [], ◌∷◌, length, take, get_or, refl, sym, ◌∙◌, ap, subst, arith, Ok, Result, eq-eqb, ne_eqb}
+use Rattle.std.proofs.Common.{◌≡◌, ◌≢◌, ℕ, zero, suc, ◌+◌, ◌<◌, Bool, false, List, [], ◌∷◌, length, map, take, get_or, refl, sym, ◌∙◌, ap, subst, arith, Ok, Result, eq-eqb, ne_eqb, true, All}
 use Rattle.std.specs.Prelude.{if◌then◌else◌}
 use Rattle.std.specs.List.{AllZip}
-use Rattle.std.proofs.lemmas.List.Elements.{Contains-append_left, Contains-append_right}
+use Rattle.std.proofs.lemmas.List.Elements.{All-head, All-tail, Contains-append_left, Contains-append_right}
 use Rattle.dd_nodes.specs.Diagram.{Function}
 use Rattle.dd_nodes.specs.Stores.{Store, IsRef, Keeps, function}
 use Rattle.dd_nodes.proofs.Stores.{IsGood, Means-keeps}
@@ -15,6 +15,7 @@ use Rattle.dual_rail.proofs.Works.{Within, Built-wider, last, So-start, Built-ma
 use Rattle.dd_nodes.proofs.Spending.{own}
 use Rattle.sym_step.specs.declared.cut.Cut.{Cut}
 use Rattle.sym_step.specs.Step.{IsCutBy}
+use Rattle.sym_step.specs.private.Parts.{AreMarks}
 
 pub cut_here : (d : SymbolicCut) (sets : ℕ → SymbolicSet) (id : ℕ) (s t : Store) (result : Result Rails OpFault) → d.node ≡ id
     → Built (cut_work (sets id) d.guard d.value) (HasSet (cut_set (sets id) d.guard d.value)) s t result → Built (cut_work (sets d.node) d.guard d.value) (HasSet (after_cut d sets id)) s t result
@@ -87,3 +88,19 @@ cut_turn ds sets cuts s t u k c id left result gs gt gu lt is zip so means call 
     subst (λ (g : ℕ → SymbolicSet). Built work (HasSet (g id)) s u result) (sym (after_next ds sets k nothing inside))
     (last work (HasSet (after_cut d f id)) s t u result gt gu so
     (Built-wider work (cut_work (f d.node) d.guard d.value) (HasSet (after_cut d f id)) t u result (cuts_has ds sets k nothing inside) (call d f (SymbolicCut-keeps s t d c gs gt so.keeps asked) means)))
+
+-- no cut is of a net without a mark
+pub unmarked : (s : Store) (ds : List SymbolicCut) (cuts : List Cut) (marks : List Bool) (id : ℕ) (f : ℕ → SymbolicSet) → AllZip (IsCutBy s) ds cuts → AreMarks cuts marks → get_or marks id false ≡ false
+    → after_cuts ds f id ≡ f id
+unmarked s [] cuts marks id f zip h none = refl
+unmarked s (d ∷ ds) [] marks id f zip h none = absurd zip
+unmarked s (d ∷ ds) (c ∷ cuts) marks id f zip h none =
+    let here_marked : get_or marks c.node.0 false ≡ true = All-head (λ (x : Cut). get_or marks x.node.0 false ≡ true) c cuts h in
+    let ne : d.node ≢ id = λ e. let clash : true ≡ false = sym here_marked ∙ ap (λ i. get_or marks i false) (sym zip.0.node ∙ e) ∙ none in cc in
+    unmarked s ds cuts marks id (after_cut d f) zip.1 (All-tail (λ (x : Cut). get_or marks x.node.0 false ≡ true) c cuts h) none
+    ∙ ap (λ (x : Bool). if x then cut_set (f id) d.guard d.value else f id) (ne_eqb d.node id ne)
+
+-- cuts as what their references ask
+pub own_demands : (s : Store) (cuts : List Cut) → All (λ c. IsRef s c.guard) cuts → All (λ c. IsRef s c.value) cuts → AllZip (IsCutBy s) (map (λ (c : Cut). record { node = c.node.0; guard = function s c.guard; value = function s c.value }) cuts) cuts
+own_demands s [] hg hv = tt
+own_demands s (c ∷ cs) hg hv = (own_demand s c (All-head (λ c. IsRef s c.guard) c cs hg) (All-head (λ c. IsRef s c.value) c cs hv), own_demands s cs (All-tail (λ c. IsRef s c.guard) c cs hg) (All-tail (λ c. IsRef s c.value) c cs hv))

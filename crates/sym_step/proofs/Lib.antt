@@ -3,3 +3,7 @@ pub mod Placed
 pub mod Turning
 pub mod Sourced
 pub mod Emptied
+pub mod Compressing
+pub mod NetRefs
+pub mod Summing
+pub mod RowSums

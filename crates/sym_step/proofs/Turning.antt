@@ -1,16 +1,15 @@
 -- One turn of the loop over the gates in settled order.
 use Rattle.sym_step.specs.private.Parts.{HaveGates, asks}
-use Rattle.std.proofs.Common.{◌≡◌, ◌≢◌, ℕ, zero, suc, ◌+◌, ◌<◌, Bool, List, [], ◌∷◌, ◌++◌, length, map, get_or, set, sym, ◌∙◌, ap, subst, arith, inl, inr, Result, All, length-set, get_or-set_same, get_or-set_other}
+use Rattle.std.proofs.Common.{◌≡◌, ◌≢◌, ℕ, zero, suc, ◌+◌, ◌<◌, Bool, List, [], ◌∷◌, ◌++◌, length, map, get_or, set, sym, ◌∙◌, ap, subst, arith, inl, inr, Result, All, length-set, get_or-set_same, get_or-set_other, refl, false}
 use Rattle.std.specs.Prelude.{slice_get}
 use Rattle.std.specs.List.{AllZip}
 use Rattle.std.proofs.lemmas.Bool.{cases_lt, cases_eq}
 use Rattle.std.proofs.lemmas.Option.{slice_get-get_or}
 use Rattle.std.proofs.lemmas.List.{get_or_default}
-use Rattle.std.proofs.lemmas.List.Elements.{Contains-append_left, Contains-append_right, Contains-append_cases, All-head, All-tail}
+use Rattle.std.proofs.lemmas.List.Elements.{Contains-append_left, Contains-append_right, Contains-append_cases}
 use Rattle.std.proofs.Common.{⊎_elim, Contains}
-use Rattle.ste_base.specs.declared.id.NodeId.{NodeId}
 use Rattle.dd_nodes.specs.Diagram.{Function}
-use Rattle.dd_nodes.specs.Stores.{Store, Keeps, IsRef, function}
+use Rattle.dd_nodes.specs.Stores.{Store, Keeps}
 use Rattle.dd_nodes.proofs.Stores.{IsGood}
 use Rattle.dd_ops.specs.declared.fault.OpFault.{OpFault}
 use Rattle.net_core.specs.declared.bit_set.BitSet.{BitSet}
@@ -20,18 +19,25 @@ use Rattle.net_core.specs.declared.source.Source.TheVariants.{Gate as OfGate}
 use Rattle.net_core.specs.Flat.{IsInRange, HasOneDriver, IsSettledOrder}
 use Rattle.net_core.specs.Source.{source_of}
 use Rattle.net_core.specs.Work.{SymbolicSet, SymbolicCut, set_at, after_cuts, by_source, by_gate, uncut, cover_work, cuts_work, gates_work, output_set, input_sets, time_work, first_sets, some_bit, no_bit, sums}
-use Rattle.dual_rail.specs.declared.rails.Rails.{Rails}
-use Rattle.dual_rail.specs.Rail.{Built, HasSet, AreRails, AreRefs}
+use Rattle.sym_step.specs.declared.net_rails.NetRails.{NetRails}
+use Rattle.sym_step.specs.private.NetSets.{AreNetRails, AreNetRefs, HasNetSet, net_at}
+use Rattle.sym_step.proofs.NetRefs.{Net-keeps}
+use Rattle.dd_nodes.specs.Spending.{Has}
+use Rattle.dd_nodes.proofs.Spending.{Covers}
+use Rattle.dd_nodes.proofs.Members.{Contains-cons_cases}
+use Rattle.dual_rail.proofs.Chains.{some_bit-has}
+use Rattle.dual_rail.proofs.Works.{Built-covers, within_covers}
+use Rattle.std.specs.Prelude.{◌||◌}
+use Rattle.std.proofs.lemmas.List.{length-append, get_or_push}
+use Rattle.std.proofs.Math.ListN.{get_or-append}
+use Rattle.dual_rail.specs.Rail.{Built}
 use Rattle.dual_rail.proofs.Works.{SoFar}
-use Rattle.dual_rail.proofs.Works.{Within, Built-wider, last, Rails-keep, set_where, own_set}
+use Rattle.dual_rail.proofs.Works.{Within, last}
 use Rattle.sym_step.specs.declared.cut.Cut.{Cut}
-use Rattle.sym_step.specs.Step.{IsCutBy, rails_at}
+use Rattle.sym_step.specs.Step.{IsCutBy}
 use Rattle.net_core.specs.Work.{ArePossibleEach}
-use Rattle.sym_step.proofs.Cutting.{Demands-keep, own_demand}
+use Rattle.sym_step.proofs.Cutting.{Demands-keep}
 use Rattle.net_core.proofs.OneTime.{fixed, gate_source}
-
-pub own_rails : (s : Store) (nets : List Rails) (ids : List NodeId) → All (λ input. input.0 < length nets) ids → All (AreRefs s) nets → All (λ input. AreRails s (set_where s (rails_at nets input.0)) (rails_at nets input.0)) ids
-own_rails s nets ids inside refs = λ k d l. own_set s (rails_at nets (get_or ids k d).0) (refs (get_or ids k d).0 _ (inside k d l))
 
 -- what one gate builds is among the work of the time
 gates_has : (net : RawNet) (sets : ℕ → SymbolicSet) (gates : List Gate) (k : ℕ) (d : Gate) → k < length gates → Within (cover_work (slice_get net.covers (get_or gates k d).cover) (input_sets sets (get_or gates k d))) (gates_work net sets gates)
@@ -40,17 +46,31 @@ gates_has net sets (g ∷ gs) zero d lt = λ x h. Contains-append_left (cover_wo
 gates_has net sets (g ∷ gs) (suc k) d lt = λ x h. Contains-append_right (cover_work (slice_get net.covers g.cover) (input_sets sets g)) (gates_work net sets gs) x (gates_has net sets gs k d (omega arith) x h)
 
 -- equal under each assignment of the store's variables
-pub Rails-same : (u : Store) (v w : SymbolicSet) (r : Rails) → ((bits : List Bool) → length bits ≡ u.vars → set_at bits v ≡ set_at bits w) → AreRails u v r → AreRails u w r
-Rails-same u v w r same h = record {
+pub Net-same : (u : Store) (v w : SymbolicSet) (r : NetRails) → ((bits : List Bool) → length bits ≡ u.vars → set_at bits v ≡ set_at bits w) → AreNetRails u v r → AreNetRails u w r
+Net-same u v w r same h = record {
   zero = record { ref = h.zero.ref; value = λ bits l. h.zero.value bits l ∙ ap (λ (x : BitSet). x.zero) (same bits l) };
   one = record { ref = h.one.ref; value = λ bits l. h.one.value bits l ∙ ap (λ (x : BitSet). x.one) (same bits l) };
+  some = record { ref = h.some.ref; value = λ bits l. h.some.value bits l ∙ ap (λ (x : BitSet). x.zero || x.one) (same bits l) };
 }
 
-pub set_refs : (t : Store) (nets : List Rails) (id : ℕ) (r : Rails) → id < length nets → All (AreRefs t) nets → AreRefs t r → All (AreRefs t) (set nets id r)
+pub set_refs : (t : Store) (nets : List NetRails) (id : ℕ) (r : NetRails) → id < length nets → All (AreNetRefs t) nets → AreNetRefs t r → All (AreNetRefs t) (set nets id r)
 set_refs t nets id r lt h hr k d l = elim (cases_eq k id) [
-  | inl here ↦ subst (AreRefs t) (sym (ap (λ (i : ℕ). get_or (set nets id r) i d) here ∙ get_or-set_same nets id r d lt)) hr
-  | inr other ↦ subst (AreRefs t) (sym (get_or-set_other nets id k r d other)) (h k d (let n = length-set nets id r in omega (arith, n, l)))
+  | inl here ↦ subst (AreNetRefs t) (sym (ap (λ (i : ℕ). get_or (set nets id r) i d) here ∙ get_or-set_same nets id r d lt)) hr
+  | inr other ↦ subst (AreNetRefs t) (sym (get_or-set_other nets id k r d other)) (h k d (let n = length-set nets id r in omega (arith, n, l)))
 ]
+
+pub length-first_sets : (sets : ℕ → SymbolicSet) (n : ℕ) → length (first_sets sets n) ≡ n
+length-first_sets sets zero = refl
+length-first_sets sets (suc n) = length-append (first_sets sets n) (sets n ∷ []) ∙ let h = length-first_sets sets n in omega arith
+
+pub first_sets-at : (sets : ℕ → SymbolicSet) (n k : ℕ) (d : SymbolicSet) → k < n → get_or (first_sets sets n) k d ≡ sets k
+first_sets-at sets zero k d lt = absurd (omega arith)
+first_sets-at sets (suc n) k d lt =
+    let long = length-first_sets sets n in
+    elim (cases_lt k n) [
+      | inl old ↦ get_or-append (first_sets sets n) (sets n ∷ []) d k (omega arith) ∙ first_sets-at sets n k d old
+      | inr late ↦ let e : n ≡ k = omega arith in get_or_push (first_sets sets n) (sets n) d k (omega arith) ∙ ap sets e
+    ]
 
 module _ (net : RawNet) (order : List ℕ) (range : IsInRange net) (one : HasOneDriver net) (is_order : IsSettledOrder net order)
     (ls : List SymbolicSet) (ds : List SymbolicCut) (sets : ℕ → SymbolicSet) (long : length ls ≡ length net.latches) where
@@ -81,45 +101,62 @@ module _ (net : RawNet) (order : List ℕ) (range : IsInRange net) (one : HasOne
       rest : List Function
       rest = map some_bit all ++ (map no_bit all ++ sums (map no_bit all))
 
+  -- where a net has a bit is one of the functions
+  pub some_covered : (v id : ℕ) → ArePossibleEach v net ls (asks ds) sets → id < net.nets → Has v work (some_bit (after_cuts ds before id))
+  some_covered v id family inside =
+      let all : List SymbolicSet = first_sets sets net.nets in
+      let n = length-first_sets sets net.nets in
+      let tail : List Function = map no_bit all ++ sums (map no_bit all) in
+      let d : SymbolicSet = record { zero = λ bits. false; one = λ bits. false } in
+      let member : Contains (map some_bit all) (some_bit (sets id)) = subst (λ (w : SymbolicSet). Contains (map some_bit all) (some_bit w)) (first_sets-at sets net.nets id d inside) (some_bit-has all id d (omega (arith, n, inside))) in (
+        some_bit (sets id),
+        Contains-append_right (cuts_work ds before) (gates_work net sets net.gates ++ (map some_bit all ++ tail)) (some_bit (sets id))
+            (Contains-append_right (gates_work net sets net.gates) (map some_bit all ++ tail) (some_bit (sets id)) (Contains-append_left (map some_bit all) tail (some_bit (sets id)) member)),
+        λ bits l. ap (λ (x : BitSet). x.zero || x.one) (sym (fixed net v ls (asks ds) sets bits range one long family l id)),
+      )
+
+  pub with_some : (v id : ℕ) (part : List Function) → ArePossibleEach v net ls (asks ds) sets → id < net.nets → Within part work → Covers v (some_bit (after_cuts ds before id) ∷ part) work
+  with_some v id part family inside within f has = ⊎_elim
+      (λ (e : some_bit (after_cuts ds before id) ≡ f). subst (Has v work) e (some_covered v id family inside))
+      (λ (later : Contains part f). within_covers v part work within f later)
+      (Contains-cons_cases (some_bit (after_cuts ds before id)) part f has)
+
   -- one gate more has its set
-  pub place_turn : (s t u : Store) (cuts : List Cut) (nets : List Rails) (n number : ℕ) (gate : Gate) (result : Result Rails OpFault) → IsGood s → IsGood t → IsGood u
+  pub place_turn : (s t u : Store) (cuts : List Cut) (nets : List NetRails) (n number : ℕ) (gate : Gate) (result : Result NetRails OpFault) → IsGood s → IsGood t → IsGood u
       → ArePossibleEach s.vars net ls (asks ds) sets → AllZip (IsCutBy s) ds cuts → SoFar work s t → HaveGates net order sets t n nets
       → n < length order → number ≡ get_or order n 0 → gate ≡ get_or net.gates number gate
-      → ((bs : List SymbolicCut) (b ws : ℕ → SymbolicSet) → AllZip (IsCutBy t) bs cuts → All (λ input. AreRails t (ws input.0) (rails_at nets input.0)) gate.inputs → b gate.output.0 ≡ output_set net ws gate
-      → Built (cover_work (slice_get net.covers gate.cover) (input_sets ws gate) ++ cuts_work bs b) (HasSet (after_cuts bs b gate.output.0)) t u result)
-      → Built work (HasSet (after_cuts ds before gate.output.0)) s u result
+      → ((bs : List SymbolicCut) (b ws : ℕ → SymbolicSet) → AllZip (IsCutBy t) bs cuts → All (λ input. AreNetRails t (ws input.0) (net_at nets input.0)) gate.inputs → b gate.output.0 ≡ output_set net ws gate
+      → Built (some_bit (after_cuts bs b gate.output.0) ∷ (cover_work (slice_get net.covers gate.cover) (input_sets ws gate) ++ cuts_work bs b)) (HasNetSet (after_cuts bs b gate.output.0)) t u result)
+      → Built work (HasNetSet (after_cuts ds before gate.output.0)) s u result
   place_turn s t u cuts nets n number gate result gs gt gu family zip so have lt at_n is call =
       let known : number < length net.gates = rw at_n (is_order.gates n 0 lt) in
-      let ready : All (λ input. AreRails t (sets input.0) (rails_at nets input.0)) gate.inputs = λ i d li.
+      let ready : All (λ input. AreNetRails t (sets input.0) (net_at nets input.0)) gate.inputs = λ i d li.
       have (get_or gate.inputs i d).0 (subst (λ (x : Gate). All (λ input. input.0 < net.nets) x.inputs) (sym is) (range.gate_inputs number gate known) i d li)
       (λ k e le l same.
       let same_gate : get_or net.gates (get_or order n 0) e ≡ gate = ap (λ (j : ℕ). get_or net.gates j e) (sym at_n) ∙ get_or_default net.gates number e gate known ∙ sym is in
       subst (λ (x : Gate). All (λ input. input.0 ≢ (get_or net.gates (get_or order k 0) e).output.0) x.inputs) same_gate (is_order.behind n k e le l) i d li (sym same)) in
-      last work (HasSet (after_cuts ds before gate.output.0)) s t u result gt gu so
-      (Built-wider work (cover_work (slice_get net.covers gate.cover) (input_sets sets gate) ++ cuts_work ds before) (HasSet (after_cuts ds before gate.output.0)) t u result (gate_within number gate known is)
+      last work (HasNetSet (after_cuts ds before gate.output.0)) s t u result gt gu so
+      (Built-covers work (some_bit (after_cuts ds before gate.output.0) ∷ (cover_work (slice_get net.covers gate.cover) (input_sets sets gate) ++ cuts_work ds before)) (HasNetSet (after_cuts ds before gate.output.0)) t u result
+      (with_some t.vars gate.output.0 (cover_work (slice_get net.covers gate.cover) (input_sets sets gate) ++ cuts_work ds before) (subst (λ v. ArePossibleEach v net ls (asks ds) sets) (sym so.keeps.vars) family)
+      (subst (λ (x : Gate). x.output.0 < net.nets) (sym is) (range.gate_outputs number gate known)) (gate_within number gate known is))
       (call ds before sets (Demands-keep s t ds cuts gs gt so.keeps zip) ready (before_is number gate known is)))
 
   -- and the others keep theirs
-  pub placed : (s t u : Store) (nets : List Rails) (n number : ℕ) (gate : Gate) (r : Rails) → IsGood t → IsGood u → Keeps s u → Keeps t u → length nets ≡ net.nets
+  pub placed : (s t u : Store) (nets : List NetRails) (n number : ℕ) (gate : Gate) (r : NetRails) → IsGood t → IsGood u → Keeps s u → Keeps t u → length nets ≡ net.nets
       → ArePossibleEach s.vars net ls (asks ds) sets → HaveGates net order sets t n nets → n < length order → number ≡ get_or order n 0 → gate ≡ get_or net.gates number gate
-      → AreRails u (after_cuts ds before gate.output.0) r → HaveGates net order sets u (n + 1) (set nets gate.output.0 r)
+      → AreNetRails u (after_cuts ds before gate.output.0) r → HaveGates net order sets u (n + 1) (set nets gate.output.0 r)
   placed s t u nets n number gate r gt gu ksu ktu size family have lt at_n is made id inside none =
       let known : number < length net.gates = rw at_n (is_order.gates n 0 lt) in
       let out : gate.output.0 < net.nets = subst (λ (x : Gate). x.output.0 < net.nets) (sym is) (range.gate_outputs number gate known) in
-      let d0 : Rails = record { can0 = record { 0 = 1 }; can1 = record { 0 = 1 } } in
+      let d0 : NetRails = record { can0 = record { 0 = 1 }; can1 = record { 0 = 1 }; some = record { 0 = 1 } } in
       elim (cases_eq id gate.output.0) [
         | inl here ↦
-            let right : AreRails u (sets gate.output.0) r = Rails-same u (after_cuts ds (uncut net ls sets) gate.output.0) (sets gate.output.0) r (λ bits l. fixed net s.vars ls (asks ds) sets bits range one long family (l ∙ ksu.vars) gate.output.0) made in
-            subst (λ (i : ℕ). AreRails u (sets i) (rails_at (set nets gate.output.0 r) i)) (sym here) (subst (AreRails u (sets gate.output.0)) (sym (get_or-set_same nets gate.output.0 r d0 (omega (arith, size)))) right)
+            let right : AreNetRails u (sets gate.output.0) r = Net-same u (after_cuts ds (uncut net ls sets) gate.output.0) (sets gate.output.0) r (λ bits l. fixed net s.vars ls (asks ds) sets bits range one long family (l ∙ ksu.vars) gate.output.0) made in
+            subst (λ (i : ℕ). AreNetRails u (sets i) (net_at (set nets gate.output.0 r) i)) (sym here) (subst (AreNetRails u (sets gate.output.0)) (sym (get_or-set_same nets gate.output.0 r d0 (omega (arith, size)))) right)
         | inr other ↦
-            subst (AreRails u (sets id)) (sym (get_or-set_other nets gate.output.0 id r d0 other)) (Rails-keep t u (sets id) (rails_at nets id) gt gu ktu (have id inside (λ k d h p same. elim (cases_lt n k) [
+            subst (AreNetRails u (sets id)) (sym (get_or-set_other nets gate.output.0 id r d0 other)) (Net-keeps t u (sets id) (net_at nets id) gt gu ktu (have id inside (λ k d h p same. elim (cases_lt n k) [
               | inl later ↦ none k d (omega arith) p same
               | inr early ↦ let e : k ≡ n = omega arith in
                   other (sym same ∙ ap (λ (x : Gate). x.output.0) (ap (λ (i : ℕ). get_or net.gates (get_or order i 0) d) e ∙ ap (λ (j : ℕ). get_or net.gates j d) (sym at_n) ∙ get_or_default net.gates number d gate known ∙ sym is))
             ])))
       ]
-
--- cuts as what their references ask
-pub own_demands : (s : Store) (cuts : List Cut) → All (λ c. IsRef s c.guard) cuts → All (λ c. IsRef s c.value) cuts → AllZip (IsCutBy s) (map (λ (c : Cut). record { node = c.node.0; guard = function s c.guard; value = function s c.value }) cuts) cuts
-own_demands s [] hg hv = tt
-own_demands s (c ∷ cs) hg hv = (own_demand s c (All-head (λ c. IsRef s c.guard) c cs hg) (All-head (λ c. IsRef s c.value) c cs hv), own_demands s cs (All-tail (λ c. IsRef s c.guard) c cs hg) (All-tail (λ c. IsRef s c.value) c cs hv))

@@ -12,9 +12,12 @@ use Rattle.sym_step.specs.declared.cut.Cut.{Cut}
 use Rattle.sym_step.specs.declared.made.Step.{Step}
 use Rattle.sym_step.specs.declared.rows.CoverRows.{CoverRows}
 
--- both lists of rows of a cover
+-- both lists of rows of a cover, over its inputs
 abbrev pub rows_of : Cover → CoverRows
-rows_of cover = record { on = on_rows cover; off = off_rows cover }
+rows_of cover = record {
+  on = record { width = cover.inputs; list = on_rows cover };
+  off = record { width = cover.inputs; list = off_rows cover };
+}
 
 -- the rails of a net in a list, one for each net; both bits for a number that is no net
 abbrev pub rails_at : List Rails → ℕ → Rails

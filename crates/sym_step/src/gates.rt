@@ -1,81 +1,41 @@
-//! The set that a gate of the net gives; begin with `gate_at`.
+//! The set that a gate gives; begin with `gate_at`.
 
-ghost use Rattle.std.specs.Prelude.{◌≡◌, ◌<◌, ℕ, List, All, IfOk, Some, length, map, slice_get};
-ghost use Rattle.std.specs.List.{AllZip};
-ghost use Rattle.net_core.specs.declared.cover.Cover.{Cover};
-ghost use Rattle.net_core.specs.Cover.{IsCover};
-ghost use Rattle.net_core.specs.Work.{SymbolicSet, cover_set, cover_work, output_set, input_sets};
-ghost use Rattle.dual_rail.specs.Rail.{AreRefs, AreRails, Built, HasSet};
-ghost use Rattle.sym_step.specs.Step.{rails_at, rows_of};
+ghost use Rattle.std.specs.Prelude.{◌≡◌, ◌<◌, ℕ, List, All, length};
+ghost use Rattle.net_core.specs.Work.{SymbolicSet, gate_set, gate_work};
+ghost use Rattle.dual_rail.specs.Rail.{Built, HasSet};
+ghost use Rattle.sym_step.specs.private.NetSets.{AreNetRefs, HaveInputs, sets_at};
 
-use crate::rows::{CoverRows, GateRows};
-use dd_nodes::Nodes;
+use crate::net_rails::NetRails;
+use crate::rows::CoverRows;
+use crate::sums::rows_sum;
+use dd_nodes::{Nodes, Ref};
 use dd_ops::{OpFault, Ops};
-use dual_rail::{Rails, gate};
-use net_core::{Cover, Gate, Net};
-use std::alloc::{AllocError, Global};
+use dual_rail::Rails;
 use ste_base::NodeId;
 
-/// The rails of these nets.
-fn gather(alloc: Global, nets: &[Rails], inputs: &[NodeId]) -> Result<Vec<Rails>, AllocError>
-    requires { All (λ input. input.0 < length nets.now) inputs.now }
-    ensures { IfOk result (λ found. found.items
-        ≡ map (λ input. rails_at nets.now input.0) inputs.now) }
-{
-    let mut found = Vec::new(alloc);
-    for input in inputs {
-        found.push(nets[input.0 as usize])?;
-    }
-    Ok(found)
-}
-
-/// The set that a cover gives, where its inputs have these sets.
-fn gate_of<N: Nodes>(
-    ops: &Ops,
-    nodes: &mut N,
-    cover: &Cover,
-    rows: &CoverRows,
-    inputs: &[Rails],
-) -> Result<Rails, OpFault>
-    requires rows { rows.now ≡ rows_of cover.now }
-    requires sound { IsCover cover.now }
-    requires long { length inputs.now ≡ cover.now.inputs }
-    requires refs { All (AreRefs (N.store nodes.old)) inputs.now }
-    ensures { (ws : List SymbolicSet) → AllZip (AreRails (N.store nodes.old)) ws inputs.now
-        → Built (cover_work (Some cover.now) ws) (HasSet (cover_set (Some cover.now) ws))
-        (N.store nodes.old) (N.store nodes.new) result }
-{
-    let _ = cover;
-    gate(ops, nodes, rows.on.as_slice(), rows.off.as_slice(), inputs)
-}
-
-/// The set that a gate gives, where its inputs have these sets.
+/// The set that a gate gives, by the rows of its cover, where its inputs are nets by number. `products` lends room for
+/// the products of the first literals of a row.
 pub fn gate_at<N: Nodes>(
-    alloc: Global,
     ops: &Ops,
     nodes: &mut N,
-    net: &Net,
-    rows: &GateRows,
-    nets: &[Rails],
-    g: &Gate,
+    rows: &CoverRows,
+    products: &mut [Ref],
+    nets: &[NetRails],
+    inputs: &[NodeId],
 ) -> Result<Rails, OpFault>
-    requires width { (cover : Cover) → slice_get net.now.raw.covers g.now.cover ≡ Some cover
-        → cover.inputs ≡ length g.now.inputs }
-    requires cover { g.now.cover < length net.now.raw.covers }
-    requires inside { All (λ input. input.0 < length nets.now) g.now.inputs }
-    requires refs { All (AreRefs (N.store nodes.old)) nets.now }
-    requires rows { rows.now.covers ≡ map rows_of net.now.raw.covers }
-    ensures { (sets : ℕ → SymbolicSet)
-        → All (λ input. AreRails (N.store nodes.old) (sets input.0) (rails_at nets.now input.0))
-        g.now.inputs
-        → Built (cover_work (slice_get net.now.raw.covers g.now.cover) (input_sets sets g.now))
-        (HasSet (output_set net.now.raw sets g.now))
+    requires on { rows.now.on.width ≡ length inputs.now }
+    requires off { rows.now.off.width ≡ length inputs.now }
+    requires room { length inputs.now < length products.old }
+    requires inside { All (λ input. input.0 < length nets.now) inputs.now }
+    requires refs { All (AreNetRefs (N.store nodes.old)) nets.now }
+    ensures room { length products.new ≡ length products.old }
+    ensures built { (sets : ℕ → SymbolicSet)
+        → HaveInputs (N.store nodes.old) sets nets.now inputs.now
+        → Built (gate_work rows.now.on.list rows.now.off.list (sets_at sets inputs.now))
+        (HasSet (gate_set rows.now.on.list rows.now.off.list (sets_at sets inputs.now)))
         (N.store nodes.old) (N.store nodes.new) result }
 {
-    let inputs = match gather(alloc, nets, g.inputs.as_slice()) {
-        Ok(inputs) => inputs,
-        Err(_) => return Err(OpFault::OutOfMemory),
-    };
-    let lists = &rows.covers.as_slice()[g.cover as usize];
-    gate_of(ops, nodes, net.cover(g.cover), lists, &inputs)
+    let can1 = rows_sum(ops, nodes, &rows.on, products, nets, inputs)?;
+    let can0 = rows_sum(ops, nodes, &rows.off, products, nets, inputs)?;
+    Ok(Rails { can0, can1 })
 }

@@ -6,12 +6,18 @@ pub mod cut;
 mod cuts;
 mod gates;
 pub mod made;
+mod net_rails;
+pub mod piece;
 mod place;
+pub mod row_list;
 pub mod rows;
 mod source;
+mod sums;
 pub mod time;
 
 pub use cut::Cut;
 pub use made::Step;
+pub use piece::Piece;
+pub use row_list::RowList;
 pub use rows::{CoverRows, GateRows};
 pub use time::step;

@@ -1,18 +1,20 @@
 //! The rows of all covers; begin with `GateRows`.
 
 ghost use Rattle.std.specs.Prelude.{◌≡◌, ◌≤◌, List, map, All, IfOk};
-ghost use Rattle.net_core.specs.Cases.{cases_of};
+ghost use Rattle.net_core.specs.Cases.{cases_of, others_in};
+ghost use Rattle.net_core.specs.Cover.{IsCover};
 ghost use Rattle.sym_step.specs.Step.{rows_of};
 
-use net_core::{Cover, Net, Row, other_rows};
+use crate::row_list::RowList;
+use net_core::{Cover, Net, other_rows};
 use std::alloc::{AllocError, Global};
 use ste_base::Items;
 
 /// Both lists of rows of a cover: the rows that match where its bit is 1, and those that match where it is 0.
 #[derive(Debug, Drop)]
 pub struct CoverRows {
-    pub on: Items<Row>,
-    pub off: Items<Row>,
+    pub on: RowList,
+    pub off: RowList,
 }
 
 /// Both lists of rows of every cover of a net, by the cover's number. The rows that a cover leaves out are found once,
@@ -22,25 +24,25 @@ pub struct GateRows {
     pub covers: Items<CoverRows>,
 }
 
-/// A copy of rows.
-fn copied(alloc: Global, rows: &[Row]) -> Result<Items<Row>, AllocError>
-    ensures { IfOk result (λ copy. copy ≡ rows.now) }
+/// The rows that a cover leaves out.
+fn others(alloc: Global, cover: &Cover) -> Result<RowList, AllocError>
+    requires inputs { cover.now.inputs ≤ 1000 }
+    requires cases { cases_of cover.now.inputs cover.now.rows ≤ 65536 }
+    ensures { IfOk result (λ rows. rows ≡ record { width = cover.now.inputs; list = others_in cover.now }) }
 {
-    let mut copy = Vec::with_capacity(alloc, rows.len())?;
-    for row in rows {
-        copy.push(Items::from(row.as_slice().to_vec(alloc)?))?;
-    }
-    Ok(Items::from(copy))
+    let rows = other_rows(alloc, cover)?;
+    RowList::of(alloc, cover.inputs, rows.as_slice())
 }
 
 /// Both lists of rows of one cover.
 fn cover_rows(alloc: Global, cover: &Cover) -> Result<CoverRows, AllocError>
+    requires sound { IsCover cover.now }
     requires inputs { cover.now.inputs ≤ 1000 }
     requires cases { cases_of cover.now.inputs cover.now.rows ≤ 65536 }
     ensures { IfOk result (λ rows. rows ≡ rows_of cover.now) }
 {
-    let own = copied(alloc, cover.rows.as_slice())?;
-    let others = other_rows(alloc, cover)?;
+    let own = RowList::of(alloc, cover.inputs, cover.rows.as_slice())?;
+    let others = others(alloc, cover)?;
     if cover.on {
         Ok(CoverRows {
             on: own,

@@ -4,7 +4,7 @@ use Rattle.dd_nodes.specs.Diagram.{Function}
 use Rattle.dd_nodes.specs.Stores.{Store, Means, function}
 use Rattle.net_core.specs.Work.{conjunction, factors, product}
 use Rattle.dual_rail.specs.declared.rails.Rails.{Rails}
-use Rattle.dual_rail.specs.Rail.{AreRefs, Built, HasFunction}
+use Rattle.dual_rail.specs.Rail.{AreRails, AreRefs, Built, HasFunction}
 use Rattle.dual_rail.specs.private.Parts.{row_work}
 use Rattle.dual_rail.proofs.Works.{So-start, Built-made, own_set, first, pass}
 use Rattle.dd_nodes.proofs.Spending.{own, one_means}
@@ -80,7 +80,7 @@ returns g c = λ sets zip.
     let row : List Lit = c.args.row.now in
     let k = c.loop-k.k in
     let wide : length row ≡ length c.args.inputs.now = c.requires.wide in
-    let long = zip_long s sets c.args.inputs.now zip in
+    let long = zip_long (AreRails s) sets c.args.inputs.now zip in
     let n = length-factors row sets (omega (arith, wide, long)) in
     let p = c.loop-k.invariant.so sets zip in
     let end : take k (factors row sets) ≡ factors row sets = take_all k (factors row sets) (omega (arith, n, c.loop-k-test.false)) in

@@ -5,7 +5,7 @@ use Rattle.net_core.specs.Work.{SymbolicSet, SymbolicCut, after_cuts, cuts_work}
 use Rattle.dual_rail.specs.Rail.{AreRails, AreRefs}
 use Rattle.dual_rail.proofs.Works.{SoFar}
 use Rattle.sym_step.specs.Step.{IsCutBy}
-use Rattle.sym_step.proofs.cuts.cut_net.Given as goal
+use Rattle.sym_step.proofs.cuts.cut_all.Given as goal
 
 -- the set behind the first cuts
 abbrev pub invariant-loop-c : goal.invariant-loop-c
