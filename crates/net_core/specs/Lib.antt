@@ -7,4 +7,5 @@ pub mod Flat
 pub mod Source
 pub mod Loop
 pub mod Cases
+pub mod Work
 pub mod private

@@ -66,6 +66,13 @@ impl Net {
         self.raw.latches.as_slice()
     }
 
+    /// The covers, by number.
+    pub fn covers(&self) -> &[Cover]
+        ensures { result.now ≡ self.now.raw.covers }
+    {
+        self.raw.covers.as_slice()
+    }
+
     /// The cover of this number.
     pub fn cover(&self, number: u32) -> &Cover
         requires { number < length self.now.raw.covers }

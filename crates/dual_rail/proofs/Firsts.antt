@@ -1,0 +1,50 @@
+-- Constants first.
+use Rattle.std.proofs.Common.{◌≡◌, Bool, true, false, refl, sym, ◌∙◌, ap, Ok}
+use Rattle.std.specs.Prelude.{◌&&◌, ◌||◌}
+use Rattle.dd_nodes.specs.declared.node.Ref.{Ref}
+use Rattle.dd_nodes.specs.Stores.{Store, IsRef, function}
+use Rattle.dd_nodes.proofs.Stores.{IsGood}
+use Rattle.dd_ops.proofs.Steps.{Answer-settled}
+use Rattle.dd_ops.proofs.Terminal.{zero_bit, one_bit}
+use Rattle.dd_ops.specs.Answer.{Answer}
+
+and_one : (x y : Bool) → y ≡ true → x ≡ (x && y)
+and_one true y e = sym e
+and_one false y e = refl
+
+and_zero : (x y : Bool) → y ≡ false → y ≡ (x && y)
+and_zero true y e = refl
+and_zero false y e = e
+
+or_zero : (x y : Bool) → y ≡ false → x ≡ (x || y)
+or_zero true y e = refl
+or_zero false y e = sym e
+
+or_one : (x y : Bool) → y ≡ true → y ≡ (x || y)
+or_one true y e = e
+or_one false y e = refl
+
+module _ (s : Store) (a b : Ref) (d : IsGood s) (ha : IsRef s a) (hb : IsRef s b) where
+  pub and_left_one : a.0 ≡ 1 → Answer (λ bits. function s a bits && function s b bits) s s (Ok b)
+  and_left_one e = Answer-settled (λ bits. function s a bits && function s b bits) s b (record { ref = hb; value = λ bits l. sym (ap (λ x. x && function s b bits) (one_bit s a bits d e)) })
+
+  pub and_right_one : b.0 ≡ 1 → Answer (λ bits. function s a bits && function s b bits) s s (Ok a)
+  and_right_one e = Answer-settled (λ bits. function s a bits && function s b bits) s a (record { ref = ha; value = λ bits l. and_one (function s a bits) (function s b bits) (one_bit s b bits d e) })
+
+  pub and_left_zero : a.0 ≡ 0 → Answer (λ bits. function s a bits && function s b bits) s s (Ok a)
+  and_left_zero e = Answer-settled (λ bits. function s a bits && function s b bits) s a (record { ref = ha; value = λ bits l. zero_bit s a bits d e ∙ sym (ap (λ x. x && function s b bits) (zero_bit s a bits d e)) })
+
+  pub and_right_zero : b.0 ≡ 0 → Answer (λ bits. function s a bits && function s b bits) s s (Ok b)
+  and_right_zero e = Answer-settled (λ bits. function s a bits && function s b bits) s b (record { ref = hb; value = λ bits l. and_zero (function s a bits) (function s b bits) (zero_bit s b bits d e) })
+
+  pub or_left_zero : a.0 ≡ 0 → Answer (λ bits. function s a bits || function s b bits) s s (Ok b)
+  or_left_zero e = Answer-settled (λ bits. function s a bits || function s b bits) s b (record { ref = hb; value = λ bits l. sym (ap (λ x. x || function s b bits) (zero_bit s a bits d e)) })
+
+  pub or_right_zero : b.0 ≡ 0 → Answer (λ bits. function s a bits || function s b bits) s s (Ok a)
+  or_right_zero e = Answer-settled (λ bits. function s a bits || function s b bits) s a (record { ref = ha; value = λ bits l. or_zero (function s a bits) (function s b bits) (zero_bit s b bits d e) })
+
+  pub or_left_one : a.0 ≡ 1 → Answer (λ bits. function s a bits || function s b bits) s s (Ok a)
+  or_left_one e = Answer-settled (λ bits. function s a bits || function s b bits) s a (record { ref = ha; value = λ bits l. one_bit s a bits d e ∙ sym (ap (λ x. x || function s b bits) (one_bit s a bits d e)) })
+
+  pub or_right_one : b.0 ≡ 1 → Answer (λ bits. function s a bits || function s b bits) s s (Ok b)
+  or_right_one e = Answer-settled (λ bits. function s a bits || function s b bits) s b (record { ref = hb; value = λ bits l. or_one (function s a bits) (function s b bits) (one_bit s b bits d e) })

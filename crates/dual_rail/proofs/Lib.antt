@@ -1,0 +1,4 @@
+pub mod Works
+pub mod Chains
+pub mod Turns
+pub mod Firsts

@@ -1,0 +1,15 @@
+use Rattle.std.proofs.Common.{sym, ◌∙◌, eqb-true}
+use Rattle.dual_rail.proofs.Firsts.{or_left_zero, or_right_zero, or_left_one, or_right_one}
+use Rattle.dual_rail.proofs.first.either.Goals as goal
+
+pub returns-then-eq : goal.returns-then-eq
+returns-then-eq g c = or_left_zero (g.N.Nodes.store c.args.nodes.now) c.args.a c.args.b (g.met.N.Nodes.diagram c.args.nodes.now) c.requires.left c.requires.right (eqb-true _ _ (sym c.eq.ensures ∙ c.if-eq.true))
+
+pub returns-then-eq-2 : goal.returns-then-eq-2
+returns-then-eq-2 g c = or_right_zero (g.N.Nodes.store c.args.nodes.now) c.args.a c.args.b (g.met.N.Nodes.diagram c.args.nodes.now) c.requires.left c.requires.right (eqb-true _ _ (sym c.eq-2.ensures ∙ c.if-eq-2.true))
+
+pub returns-then-eq-3 : goal.returns-then-eq-3
+returns-then-eq-3 g c = or_left_one (g.N.Nodes.store c.args.nodes.now) c.args.a c.args.b (g.met.N.Nodes.diagram c.args.nodes.now) c.requires.left c.requires.right (eqb-true _ _ (sym c.eq-3.ensures ∙ c.if-eq-3.true))
+
+pub returns-then-eq-4 : goal.returns-then-eq-4
+returns-then-eq-4 g c = or_right_one (g.N.Nodes.store c.args.nodes.now) c.args.a c.args.b (g.met.N.Nodes.diagram c.args.nodes.now) c.requires.left c.requires.right (eqb-true _ _ (sym c.eq-4.ensures ∙ c.if-eq-4.true))

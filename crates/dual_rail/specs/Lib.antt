@@ -1,0 +1,2 @@
+pub mod Rail
+pub mod private

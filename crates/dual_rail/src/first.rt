@@ -1,0 +1,54 @@
+//! Products and sums of two diagrams with a look at the constants first: `both` and `either`.
+
+ghost use Rattle.std.specs.Prelude.{◌≡◌, ◌&&◌, ◌||◌};
+ghost use Rattle.dd_nodes.specs.Stores.{IsRef, function};
+ghost use Rattle.dd_ops.specs.Answer.{Answer};
+
+use dd_nodes::{Nodes, Ref};
+use dd_ops::{OpFault, Ops};
+
+/// The product of two functions. Where one is a constant nothing is called.
+pub fn both<N: Nodes>(ops: &Ops, nodes: &mut N, a: Ref, b: Ref) -> Result<Ref, OpFault>
+    requires left { IsRef (N.store nodes.old) a }
+    requires right { IsRef (N.store nodes.old) b }
+    ensures { Answer
+        (λ bits. function (N.store nodes.old) a bits && function (N.store nodes.old) b bits)
+        (N.store nodes.old) (N.store nodes.new) result }
+{
+    if a == Ref::TRUE {
+        return Ok(b);
+    }
+    if b == Ref::TRUE {
+        return Ok(a);
+    }
+    if a == Ref::FALSE {
+        return Ok(a);
+    }
+    if b == Ref::FALSE {
+        return Ok(b);
+    }
+    ops.and(nodes, a, b)
+}
+
+/// The sum of two functions. Where one is a constant nothing is called.
+pub fn either<N: Nodes>(ops: &Ops, nodes: &mut N, a: Ref, b: Ref) -> Result<Ref, OpFault>
+    requires left { IsRef (N.store nodes.old) a }
+    requires right { IsRef (N.store nodes.old) b }
+    ensures { Answer
+        (λ bits. function (N.store nodes.old) a bits || function (N.store nodes.old) b bits)
+        (N.store nodes.old) (N.store nodes.new) result }
+{
+    if a == Ref::FALSE {
+        return Ok(b);
+    }
+    if b == Ref::FALSE {
+        return Ok(a);
+    }
+    if a == Ref::TRUE {
+        return Ok(a);
+    }
+    if b == Ref::TRUE {
+        return Ok(b);
+    }
+    ops.or(nodes, a, b)
+}

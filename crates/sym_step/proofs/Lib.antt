@@ -1,0 +1,9 @@
+pub mod Cutting
+pub mod Placed
+pub mod Turning
+pub mod Sourced
+pub mod Emptied
+pub mod Compressing
+pub mod NetRefs
+pub mod Summing
+pub mod RowSums

@@ -1,0 +1,162 @@
+use Rattle.std.proofs.Common.{◌≡◌, ℕ, List, ◌∷◌, ◌++◌, length, get_or, sym, ◌∙◌, ap, subst, Ok, Err}
+use Rattle.std.specs.Prelude.{slice_get}
+use Rattle.std.proofs.lemmas.List.Elements.{Contains-append_left, Contains-append_right}
+use Rattle.dd_nodes.specs.Diagram.{Function}
+use Rattle.dd_nodes.specs.Stores.{Store}
+use Rattle.dd_nodes.proofs.Walks.{IsFrom-grows}
+use Rattle.net_core.specs.Work.{SymbolicSet, after_cuts, cover_work, cuts_work, input_sets, output_set, some_bit}
+use Rattle.dual_rail.specs.Rail.{AreRails, Built, HasSet}
+use Rattle.dual_rail.proofs.Works.{Within, here, behind, So-start, Built-wider, first, last, pass, refs_of}
+use Rattle.dual_rail.proofs.Turns.{within_more}
+use Rattle.sym_step.specs.declared.rows.CoverRows.{CoverRows}
+use Rattle.sym_step.specs.private.NetSets.{HasNetSet}
+use Rattle.sym_step.proofs.Cutting.{Demands-keep}
+use Rattle.sym_step.proofs.NetRefs.{own_inputs}
+use Rattle.sym_step.proofs.Placed.{RowsAt, rows_at, by_rows}
+use Rattle.ste_base.specs.declared.id.NodeId.{NodeId}
+use Rattle.net_core.specs.declared.cover.Cover.{Cover}
+use Rattle.net_core.specs.declared.raw.Gate.{Gate}
+use Rattle.net_core.specs.Work.{gate_set, gate_work}
+use Rattle.sym_step.specs.private.NetSets.{HaveInputs, net_at, sets_at}
+use Rattle.sym_step.proofs.NetRefs.{own_where}
+use Rattle.sym_step.proofs.place.place.Goals as goal
+
+pub gate_at-requires-clause-on : goal.gate_at-requires-clause-on
+gate_at-requires-clause-on g c =
+    let covers : List Cover = c.args.net.now.raw.covers in
+    let gate : Gate = c.args.g.now in
+    let k = gate.cover in
+    let lists : CoverRows = c.index-as_slice-g.result in
+    let lists_is : lists ≡ get_or c.args.rows.now.covers k lists = c.index-as_slice-g.is ∙ ap (λ (xs : List CoverRows). get_or xs k lists) c.as_slice.ensures in
+    let at : RowsAt covers k lists = subst (RowsAt covers k) (sym lists_is) (rows_at covers c.args.rows.now.covers k lists c.requires.rows c.requires.cover) in
+    let inputs_is : c.as_slice-2.result.now ≡ gate.inputs = c.as_slice-2.ensures in
+    ap (λ (r : CoverRows). r.on.width) at.lists_are ∙ c.requires.width at.cover at.is ∙ ap length (sym inputs_is)
+
+pub gate_at-requires-clause-off : goal.gate_at-requires-clause-off
+gate_at-requires-clause-off g c =
+    let covers : List Cover = c.args.net.now.raw.covers in
+    let gate : Gate = c.args.g.now in
+    let k = gate.cover in
+    let lists : CoverRows = c.index-as_slice-g.result in
+    let lists_is : lists ≡ get_or c.args.rows.now.covers k lists = c.index-as_slice-g.is ∙ ap (λ (xs : List CoverRows). get_or xs k lists) c.as_slice.ensures in
+    let at : RowsAt covers k lists = subst (RowsAt covers k) (sym lists_is) (rows_at covers c.args.rows.now.covers k lists c.requires.rows c.requires.cover) in
+    let inputs_is : c.as_slice-2.result.now ≡ gate.inputs = c.as_slice-2.ensures in
+    ap (λ (r : CoverRows). r.off.width) at.lists_are ∙ c.requires.width at.cover at.is ∙ ap length (sym inputs_is)
+
+pub cut_net-requires-clause-rails : goal.cut_net-requires-clause-rails
+cut_net-requires-clause-rails g c =
+    let s : Store = g.N.Nodes.store c.args.nodes.now in
+    let t : Store = g.N.Nodes.store c.gate_at.new.nodes in
+    let ds' = g.met.N.Nodes.diagram c.args.nodes.now in
+    let dt = g.met.N.Nodes.diagram c.gate_at.new.nodes in
+    let covers : List Cover = c.args.net.now.raw.covers in
+    let gate : Gate = c.args.g.now in
+    let k = gate.cover in
+    let lists : CoverRows = c.index-as_slice-g.result in
+    let lists_is : lists ≡ get_or c.args.rows.now.covers k lists = c.index-as_slice-g.is ∙ ap (λ (xs : List CoverRows). get_or xs k lists) c.as_slice.ensures in
+    let at : RowsAt covers k lists = subst (RowsAt covers k) (sym lists_is) (rows_at covers c.args.rows.now.covers k lists c.requires.rows c.requires.cover) in
+    let inputs_is : c.as_slice-2.result.now ≡ gate.inputs = c.as_slice-2.ensures in
+    let given = c.in_ok-given.given in
+    let call : (sets : ℕ → SymbolicSet) → HaveInputs s sets c.args.nets.now gate.inputs → Built (cover_work (slice_get covers k) (input_sets sets gate)) (HasSet (output_set c.args.net.now.raw sets gate)) s t (Ok given) =
+    λ sets have. by_rows covers k lists (input_sets sets gate) s t (Ok given) at
+    (subst (λ (ids : List NodeId). Built (gate_work lists.on.list lists.off.list (sets_at sets ids)) (HasSet (gate_set lists.on.list lists.off.list (sets_at sets ids))) s t (Ok given)) inputs_is
+    (c.in_ok-given.ensures.built sets (subst (λ (ids : List NodeId). HaveInputs s sets c.args.nets.now ids) (sym inputs_is) have))) in
+    let mine = call (λ id. own_where s (net_at c.args.nets.now id)) (own_inputs s c.args.nets.now gate.inputs c.requires.inside c.requires.refs) in
+    refs_of t _ given mine.ok
+
+pub cut_net-requires-clause-guards : goal.cut_net-requires-clause-guards
+cut_net-requires-clause-guards g c =
+    let s : Store = g.N.Nodes.store c.args.nodes.now in
+    let t : Store = g.N.Nodes.store c.gate_at.new.nodes in
+    let ds' = g.met.N.Nodes.diagram c.args.nodes.now in
+    let dt = g.met.N.Nodes.diagram c.gate_at.new.nodes in
+    let covers : List Cover = c.args.net.now.raw.covers in
+    let gate : Gate = c.args.g.now in
+    let k = gate.cover in
+    let lists : CoverRows = c.index-as_slice-g.result in
+    let lists_is : lists ≡ get_or c.args.rows.now.covers k lists = c.index-as_slice-g.is ∙ ap (λ (xs : List CoverRows). get_or xs k lists) c.as_slice.ensures in
+    let at : RowsAt covers k lists = subst (RowsAt covers k) (sym lists_is) (rows_at covers c.args.rows.now.covers k lists c.requires.rows c.requires.cover) in
+    let inputs_is : c.as_slice-2.result.now ≡ gate.inputs = c.as_slice-2.ensures in
+    let given = c.in_ok-given.given in
+    let call : (sets : ℕ → SymbolicSet) → HaveInputs s sets c.args.nets.now gate.inputs → Built (cover_work (slice_get covers k) (input_sets sets gate)) (HasSet (output_set c.args.net.now.raw sets gate)) s t (Ok given) =
+    λ sets have. by_rows covers k lists (input_sets sets gate) s t (Ok given) at
+    (subst (λ (ids : List NodeId). Built (gate_work lists.on.list lists.off.list (sets_at sets ids)) (HasSet (gate_set lists.on.list lists.off.list (sets_at sets ids))) s t (Ok given)) inputs_is
+    (c.in_ok-given.ensures.built sets (subst (λ (ids : List NodeId). HaveInputs s sets c.args.nets.now ids) (sym inputs_is) have))) in
+    let mine = call (λ id. own_where s (net_at c.args.nets.now id)) (own_inputs s c.args.nets.now gate.inputs c.requires.inside c.requires.refs) in
+    λ i d l. IsFrom-grows s.held t.held 0 _ mine.spends.keeps.grows (c.requires.guards i d l)
+
+pub cut_net-requires-clause-values : goal.cut_net-requires-clause-values
+cut_net-requires-clause-values g c =
+    let s : Store = g.N.Nodes.store c.args.nodes.now in
+    let t : Store = g.N.Nodes.store c.gate_at.new.nodes in
+    let ds' = g.met.N.Nodes.diagram c.args.nodes.now in
+    let dt = g.met.N.Nodes.diagram c.gate_at.new.nodes in
+    let covers : List Cover = c.args.net.now.raw.covers in
+    let gate : Gate = c.args.g.now in
+    let k = gate.cover in
+    let lists : CoverRows = c.index-as_slice-g.result in
+    let lists_is : lists ≡ get_or c.args.rows.now.covers k lists = c.index-as_slice-g.is ∙ ap (λ (xs : List CoverRows). get_or xs k lists) c.as_slice.ensures in
+    let at : RowsAt covers k lists = subst (RowsAt covers k) (sym lists_is) (rows_at covers c.args.rows.now.covers k lists c.requires.rows c.requires.cover) in
+    let inputs_is : c.as_slice-2.result.now ≡ gate.inputs = c.as_slice-2.ensures in
+    let given = c.in_ok-given.given in
+    let call : (sets : ℕ → SymbolicSet) → HaveInputs s sets c.args.nets.now gate.inputs → Built (cover_work (slice_get covers k) (input_sets sets gate)) (HasSet (output_set c.args.net.now.raw sets gate)) s t (Ok given) =
+    λ sets have. by_rows covers k lists (input_sets sets gate) s t (Ok given) at
+    (subst (λ (ids : List NodeId). Built (gate_work lists.on.list lists.off.list (sets_at sets ids)) (HasSet (gate_set lists.on.list lists.off.list (sets_at sets ids))) s t (Ok given)) inputs_is
+    (c.in_ok-given.ensures.built sets (subst (λ (ids : List NodeId). HaveInputs s sets c.args.nets.now ids) (sym inputs_is) have))) in
+    let mine = call (λ id. own_where s (net_at c.args.nets.now id)) (own_inputs s c.args.nets.now gate.inputs c.requires.inside c.requires.refs) in
+    λ i d l. IsFrom-grows s.held t.held 0 _ mine.spends.keeps.grows (c.requires.values i d l)
+
+pub returns-in_err-given-clause-built : goal.returns-in_err-given-clause-built
+returns-in_err-given-clause-built g c = λ ds before sets zip have is.
+    let s : Store = g.N.Nodes.store c.args.nodes.now in
+    let t : Store = g.N.Nodes.store c.gate_at.new.nodes in
+    let ds' = g.met.N.Nodes.diagram c.args.nodes.now in
+    let dt = g.met.N.Nodes.diagram c.gate_at.new.nodes in
+    let covers : List Cover = c.args.net.now.raw.covers in
+    let gate : Gate = c.args.g.now in
+    let k = gate.cover in
+    let lists : CoverRows = c.index-as_slice-g.result in
+    let lists_is : lists ≡ get_or c.args.rows.now.covers k lists = c.index-as_slice-g.is ∙ ap (λ (xs : List CoverRows). get_or xs k lists) c.as_slice.ensures in
+    let at : RowsAt covers k lists = subst (RowsAt covers k) (sym lists_is) (rows_at covers c.args.rows.now.covers k lists c.requires.rows c.requires.cover) in
+    let inputs_is : c.as_slice-2.result.now ≡ gate.inputs = c.as_slice-2.ensures in
+    let fault = c.in_err-given.field-0.0 in
+    let call : (sets : ℕ → SymbolicSet) → HaveInputs s sets c.args.nets.now gate.inputs → Built (cover_work (slice_get covers k) (input_sets sets gate)) (HasSet (output_set c.args.net.now.raw sets gate)) s t (Err fault) =
+    λ sets have. by_rows covers k lists (input_sets sets gate) s t (Err fault) at
+    (subst (λ (ids : List NodeId). Built (gate_work lists.on.list lists.off.list (sets_at sets ids)) (HasSet (gate_set lists.on.list lists.off.list (sets_at sets ids))) s t (Err fault)) inputs_is
+    (c.in_err-given.ensures.built sets (subst (λ (ids : List NodeId). HaveInputs s sets c.args.nets.now ids) (sym inputs_is) have))) in
+    let some : Function = some_bit (after_cuts ds before gate.output.0) in
+    let given_work : List Function = cover_work (slice_get covers k) (input_sets sets gate) in
+    let work : List Function = some ∷ (given_work ++ cuts_work ds before) in
+    let given_in : Within given_work work = λ f h. behind some (given_work ++ cuts_work ds before) f (Contains-append_left given_work (cuts_work ds before) f h) in
+    pass work (HasSet (output_set c.args.net.now.raw sets gate)) (HasNetSet (after_cuts ds before gate.output.0)) s s t fault c.from_residual.result ds' dt (So-start work s)
+    (Built-wider work given_work (HasSet (output_set c.args.net.now.raw sets gate)) s t (Err fault) given_in (call sets have)) c.from_residual.ensures.1
+
+pub returns-clause-built : goal.returns-clause-built
+returns-clause-built g c = λ ds before sets zip have is.
+    let s : Store = g.N.Nodes.store c.args.nodes.now in
+    let t : Store = g.N.Nodes.store c.gate_at.new.nodes in
+    let ds' = g.met.N.Nodes.diagram c.args.nodes.now in
+    let dt = g.met.N.Nodes.diagram c.gate_at.new.nodes in
+    let u : Store = g.N.Nodes.store c.cut_net.new.nodes in
+    let du = g.met.N.Nodes.diagram c.cut_net.new.nodes in
+    let covers : List Cover = c.args.net.now.raw.covers in
+    let gate : Gate = c.args.g.now in
+    let k = gate.cover in
+    let lists : CoverRows = c.index-as_slice-g.result in
+    let lists_is : lists ≡ get_or c.args.rows.now.covers k lists = c.index-as_slice-g.is ∙ ap (λ (xs : List CoverRows). get_or xs k lists) c.as_slice.ensures in
+    let at : RowsAt covers k lists = subst (RowsAt covers k) (sym lists_is) (rows_at covers c.args.rows.now.covers k lists c.requires.rows c.requires.cover) in
+    let inputs_is : c.as_slice-2.result.now ≡ gate.inputs = c.as_slice-2.ensures in
+    let given = c.in_ok-given.given in
+    let call : (sets : ℕ → SymbolicSet) → HaveInputs s sets c.args.nets.now gate.inputs → Built (cover_work (slice_get covers k) (input_sets sets gate)) (HasSet (output_set c.args.net.now.raw sets gate)) s t (Ok given) =
+    λ sets have. by_rows covers k lists (input_sets sets gate) s t (Ok given) at
+    (subst (λ (ids : List NodeId). Built (gate_work lists.on.list lists.off.list (sets_at sets ids)) (HasSet (gate_set lists.on.list lists.off.list (sets_at sets ids))) s t (Ok given)) inputs_is
+    (c.in_ok-given.ensures.built sets (subst (λ (ids : List NodeId). HaveInputs s sets c.args.nets.now ids) (sym inputs_is) have))) in
+    let some : Function = some_bit (after_cuts ds before gate.output.0) in
+    let given_work : List Function = cover_work (slice_get covers k) (input_sets sets gate) in
+    let work : List Function = some ∷ (given_work ++ cuts_work ds before) in
+    let given_in : Within given_work work = λ f h. behind some (given_work ++ cuts_work ds before) f (Contains-append_left given_work (cuts_work ds before) f h) in
+    let a : Built work (HasSet (output_set c.args.net.now.raw sets gate)) s t (Ok given) = Built-wider work given_work (HasSet (output_set c.args.net.now.raw sets gate)) s t (Ok given) given_in (call sets have) in
+    last work (HasNetSet (after_cuts ds before gate.output.0)) s t u c.cut_net.result dt du (first work (HasSet (output_set c.args.net.now.raw sets gate)) s t (Ok given) a)
+    (Built-wider work (some ∷ cuts_work ds before) (HasNetSet (after_cuts ds before gate.output.0)) t u c.cut_net.result
+    (within_more some (cuts_work ds before) work (here some (given_work ++ cuts_work ds before)) (λ f h. behind some (given_work ++ cuts_work ds before) f (Contains-append_right given_work (cuts_work ds before) f h)))
+    (c.cut_net.ensures ds before (Demands-keep s t ds c.args.cuts.now ds' dt a.spends.keeps zip) (subst (λ (w : SymbolicSet). AreRails t w given) (sym is) a.ok)))

@@ -1,0 +1,47 @@
+-- Meaning. The sets of one time under all assignments at once, by references.
+use Rattle.std.specs.Prelude.{◌≡◌, ◌<◌, ℕ, List, length, map, slice_index_or}
+use Rattle.std.specs.List.{AllZip}
+use Rattle.dd_nodes.specs.Stores.{Store, IsRef, Means}
+use Rattle.net_core.specs.declared.cover.Cover.{Cover}
+use Rattle.net_core.specs.declared.raw.RawNet.{RawNet}
+use Rattle.net_core.specs.Cases.{on_rows, off_rows}
+use Rattle.net_core.specs.Work.{SymbolicSet, SymbolicCut, some_empty}
+use Rattle.dual_rail.specs.declared.rails.Rails.{Rails}
+use Rattle.dual_rail.specs.Rail.{AreRails}
+use Rattle.sym_step.specs.declared.cut.Cut.{Cut}
+use Rattle.sym_step.specs.declared.made.Step.{Step}
+use Rattle.sym_step.specs.declared.rows.CoverRows.{CoverRows}
+
+-- both lists of rows of a cover, over its inputs
+abbrev pub rows_of : Cover → CoverRows
+rows_of cover = record {
+  on = record { width = cover.inputs; list = on_rows cover };
+  off = record { width = cover.inputs; list = off_rows cover };
+}
+
+-- the rails of a net in a list, one for each net; both bits for a number that is no net
+abbrev pub rails_at : List Rails → ℕ → Rails
+rails_at rails id = slice_index_or rails id (record { can0 = record { 0 = 1 }; can1 = record { 0 = 1 } })
+
+-- the references of a cut have the functions of this one
+pub record IsCutBy (s : Store) (d : SymbolicCut) (c : Cut) : Type 0 where
+  pub node : d.node ≡ c.node.0
+  pub guard : Means s d.guard c.guard
+  pub value : Means s d.value c.value
+
+-- a cut's references are constants, or held, and its net is one of the net's
+pub record IsCutOf (s : Store) (net : RawNet) (c : Cut) : Type 0 where
+  pub node : c.node.0 < net.nets
+  pub guard : IsRef s c.guard
+  pub value : IsRef s c.value
+
+-- the rails are those of the sets, net by net
+abbrev pub HaveSets : RawNet → (ℕ → SymbolicSet) → Store → List Rails → Type 0
+HaveSets net sets t rails = (id : ℕ) → id < net.nets → AreRails t (sets id) (rails_at rails id)
+
+-- a step has these sets: each net's, where some net is empty, and the sets of the latch inputs
+pub record IsStep (net : RawNet) (sets : ℕ → SymbolicSet) (t : Store) (r : Step) : Type 0 where
+  pub long : length r.nets ≡ net.nets
+  pub nets : HaveSets net sets t r.nets
+  pub contradictory : Means t (some_empty net sets) r.contradictory
+  pub next : AllZip (AreRails t) (map (λ latch. sets latch.input.0) net.latches) r.next

@@ -1,0 +1,40 @@
+-- For private functions. How far a step is.
+use Rattle.std.specs.Prelude.{◌≡◌, All, Bool, true, false, ◌≢◌, ◌≤◌, ◌<◌, ℕ, List, length, slice_index, slice_index_or}
+use Rattle.dd_nodes.specs.Stores.{Store}
+use Rattle.net_core.specs.declared.raw.Gate.{Gate}
+use Rattle.net_core.specs.declared.raw.RawNet.{RawNet}
+use Rattle.net_core.specs.declared.source.Source.TheVariants.{Gate as OfGate}
+use Rattle.net_core.specs.Source.{source_of}
+use Rattle.net_core.specs.Work.{SymbolicSet, SymbolicCut, SymbolicAsked}
+use Rattle.sym_step.specs.declared.cut.Cut.{Cut}
+use Rattle.sym_step.specs.declared.net_rails.NetRails.{NetRails}
+use Rattle.sym_step.specs.private.NetSets.{AreNetRails, AreNetRefs, net_at}
+
+-- what these cuts ask
+abbrev pub asks : List SymbolicCut → SymbolicAsked
+asks cuts = record { cuts = cuts }
+
+-- no gate drives the net
+abbrev pub IsSource : RawNet → ℕ → Type 0
+IsSource net id = (g : ℕ) → source_of net id ≢ OfGate g
+
+-- the first n sources have their sets
+abbrev pub HaveSources : RawNet → (ℕ → SymbolicSet) → Store → ℕ → List NetRails → Type 0
+HaveSources net sets t n rails = (id : ℕ) → id < n → IsSource net id → AreNetRails t (sets id) (net_at rails id)
+
+-- the nets that no gate from the n-th place of the order on drives have their sets
+abbrev pub HaveGates : RawNet → List ℕ → (ℕ → SymbolicSet) → Store → ℕ → List NetRails → Type 0
+HaveGates net order sets t n rails =
+    (id : ℕ) → id < net.nets → ((k : ℕ) (d : Gate) → n ≤ k → k < length order → (slice_index_or net.gates (slice_index order k) d).output.0 ≢ id) → AreNetRails t (sets id) (net_at rails id)
+
+-- what is said of one source net: where no gate drives it, it has its set behind its cuts
+abbrev pub HasSource : RawNet → (ℕ → SymbolicSet) → ℕ → Store → NetRails → Type 0
+HasSource net sets id t r = AreNetRefs t r × (IsSource net id → AreNetRails t (sets id) r)
+
+-- each net has its set
+abbrev pub HaveNets : RawNet → (ℕ → SymbolicSet) → Store → List NetRails → Type 0
+HaveNets net sets t nets = (id : ℕ) → id < net.nets → AreNetRails t (sets id) (net_at nets id)
+
+-- no cut is of a net without a mark
+abbrev pub AreMarks : List Cut → List Bool → Type 0
+AreMarks cuts marks = All (λ c. slice_index_or marks c.node.0 false ≡ true) cuts

@@ -1,0 +1,23 @@
+//! The possible sets of one time, under all assignments at once: the rows of all covers (`GateRows`), what is asked
+//! (`Cut`), and one step of the whole net. Begin with `step`.
+#![tactic(auto)]
+
+pub mod cut;
+mod cuts;
+mod gates;
+pub mod made;
+mod net_rails;
+pub mod piece;
+mod place;
+pub mod row_list;
+pub mod rows;
+mod source;
+mod sums;
+pub mod time;
+
+pub use cut::Cut;
+pub use made::Step;
+pub use piece::Piece;
+pub use row_list::RowList;
+pub use rows::{CoverRows, GateRows};
+pub use time::step;

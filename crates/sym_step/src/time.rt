@@ -1,0 +1,204 @@
+//! One step of a net; begin with `step`.
+
+ghost use Rattle.std.specs.Prelude.{◌≡◌, ◌<◌, ◌∷◌, ◌++◌, [], ◌≤◌, ℕ, List, All, IfOk, length, map};
+ghost use Rattle.std.specs.List.{AllZip};
+ghost use Rattle.dd_nodes.specs.Diagram.{Function};
+ghost use Rattle.dd_nodes.specs.Stores.{IsRef, Means};
+ghost use Rattle.net_core.specs.Work.{ArePossibleEach, SymbolicSet, SymbolicAsked, disjunction, no_bit, some_bit, sum, sums, time_work};
+ghost use Rattle.dual_rail.specs.Rail.{AreRefs, AreRails, Built, HasFunction};
+ghost use Rattle.sym_step.specs.Step.{IsCutOf, IsCutBy, IsStep, rails_at, rows_of};
+ghost use Rattle.sym_step.specs.private.NetSets.{AreNetRails, AreNetRefs};
+ghost use Rattle.sym_step.specs.private.Parts.{HaveNets};
+
+use crate::cut::Cut;
+use crate::cuts::marked;
+use crate::made::Step;
+use crate::net_rails::NetRails;
+use crate::place::place_gates;
+use crate::rows::GateRows;
+use crate::source::sources;
+use dd_nodes::{Nodes, Ref};
+use dd_ops::{OpFault, Ops};
+use dual_rail::{Rails, either};
+use net_core::{Gate, Latch, Net};
+use std::alloc::{AllocError, Global};
+use ste_base::Items;
+
+/// The sum so far with where one more net is empty. `some` is where it has a bit; nothing is called where that is
+/// everywhere.
+fn add_empty<N: Nodes>(ops: &Ops, nodes: &mut N, sum: Ref, some: Ref) -> Result<Ref, OpFault>
+    requires sum { IsRef (N.store nodes.old) sum }
+    requires some { IsRef (N.store nodes.old) some }
+    ensures { (f : Function) (w : SymbolicSet)
+        → Means (N.store nodes.old) f sum → Means (N.store nodes.old) (some_bit w) some
+        → Built (disjunction f (no_bit w) ∷ no_bit w ∷ []) (HasFunction (disjunction f (no_bit w)))
+        (N.store nodes.old) (N.store nodes.new) result }
+{
+    if some == Ref::TRUE {
+        return Ok(sum);
+    }
+    let none = ops.not(nodes, some)?;
+    either(ops, nodes, sum, none)
+}
+
+/// Where some net is empty.
+fn some_empty<N: Nodes>(ops: &Ops, nodes: &mut N, nets: &[NetRails]) -> Result<Ref, OpFault>
+    requires { All (AreNetRefs (N.store nodes.old)) nets.now }
+    ensures { (sets : List SymbolicSet)
+        → AllZip (AreNetRails (N.store nodes.old)) sets nets.now
+        → Built (map some_bit sets ++ (map no_bit sets ++ sums (map no_bit sets)))
+        (HasFunction (sum (map no_bit sets)))
+        (N.store nodes.old) (N.store nodes.new) result }
+{
+    let mut sum = Ref::FALSE;
+    for r in nets {
+        sum = add_empty(ops, nodes, sum, r.some)?;
+    }
+    Ok(sum)
+}
+
+/// The sets of the latch inputs.
+fn next(alloc: Global, nets: &[Rails], latches: &[Latch]) -> Result<Items<Rails>, AllocError>
+    requires { All (λ latch. latch.input.0 < length nets.now) latches.now }
+    ensures { IfOk result (λ found. found
+        ≡ map (λ latch. rails_at nets.now latch.input.0) latches.now) }
+{
+    let mut found = Vec::with_capacity(alloc, latches.len())?;
+    for latch in latches {
+        found.push(nets[latch.input.0 as usize])?;
+    }
+    Ok(Items::from(found))
+}
+
+/// The sets without where they have a bit.
+fn rails_of(alloc: Global, nets: &[NetRails]) -> Result<Items<Rails>, AllocError>
+    ensures { IfOk result (λ rails. rails
+        ≡ map (λ r. record { can0 = r.can0; can1 = r.can1 }) nets.now) }
+{
+    let mut rails = Vec::with_capacity(alloc, nets.len())?;
+    for r in nets {
+        rails.push(r.rails())?;
+    }
+    Ok(Items::from(rails))
+}
+
+/// The greatest number of inputs of a gate.
+fn widest(gates: &[Gate]) -> usize
+    ensures { All (λ gate. length gate.inputs ≤ result) gates.now }
+{
+    let mut most = 0;
+    for gate in gates {
+        most = most.max(gate.inputs.len());
+    }
+    most
+}
+
+/// Room for the products of the first literals of a row.
+fn room(alloc: Global, gates: &[Gate]) -> Result<Vec<Ref>, AllocError>
+    ensures { IfOk result (λ products.
+        All (λ gate. length gate.inputs < length products.items) gates.now) }
+{
+    let mut products = vec![in alloc; Ref::FALSE; widest(gates)]?;
+    products.push(Ref::FALSE)?;
+    Ok(products)
+}
+
+/// The step of these sets.
+fn finished(
+    alloc: Global,
+    net: &Net,
+    nets: &[NetRails],
+    contradictory: Ref,
+) -> Result<Step, AllocError>
+    requires { length nets.now ≡ net.now.raw.nets }
+    ensures nets { IfOk result (λ r. r.nets
+        ≡ map (λ n. record { can0 = n.can0; can1 = n.can1 }) nets.now) }
+    ensures contradictory { IfOk result (λ r. r.contradictory ≡ contradictory) }
+    ensures next { IfOk result (λ r. r.next
+        ≡ map (λ latch. rails_at r.nets latch.input.0) net.now.raw.latches) }
+{
+    let rails = rails_of(alloc, nets)?;
+    let next = next(alloc, rails.as_slice(), net.latches())?;
+    Ok(Step {
+        nets: rails,
+        contradictory,
+        next,
+    })
+}
+
+/// The sets of all nets.
+fn nets_of<N: Nodes>(
+    alloc: Global,
+    ops: &Ops,
+    nodes: &mut N,
+    net: &Net,
+    rows: &GateRows,
+    latches: &[Rails],
+    cuts: &[Cut],
+) -> Result<Vec<NetRails>, OpFault>
+    requires rows { rows.now.covers ≡ map rows_of net.now.raw.covers }
+    requires long { length latches.now ≡ length net.now.raw.latches }
+    requires latches { All (AreRefs (N.store nodes.old)) latches.now }
+    requires cuts { All (IsCutOf (N.store nodes.old) net.now.raw) cuts.now }
+    ensures long { IfOk result (λ nets. length nets.items ≡ net.now.raw.nets) }
+    ensures refs { IfOk result (λ nets. All (AreNetRefs (N.store nodes.new)) nets.items) }
+    ensures built { (ls : List SymbolicSet) (asked : SymbolicAsked) (sets : ℕ → SymbolicSet)
+        → AllZip (AreRails (N.store nodes.old)) ls latches.now
+        → AllZip (IsCutBy (N.store nodes.old)) asked.cuts cuts.now
+        → ArePossibleEach (N.store nodes.old).vars net.now.raw ls asked sets
+        → Built (time_work net.now.raw ls asked sets)
+        (λ t nets. HaveNets net.now.raw sets t nets.items)
+        (N.store nodes.old) (N.store nodes.new) result }
+{
+    let marks = match marked(alloc, cuts, net.nets()) {
+        Ok(marks) => marks,
+        Err(_) => return Err(OpFault::OutOfMemory),
+    };
+    let mut products = match room(alloc, net.gates()) {
+        Ok(products) => products,
+        Err(_) => return Err(OpFault::OutOfMemory),
+    };
+    let mut nets = sources(alloc, ops, nodes, net, latches, cuts, marks.as_slice())?;
+    place_gates(
+        ops,
+        nodes,
+        net,
+        rows,
+        cuts,
+        marks.as_slice(),
+        products.as_mut_slice(),
+        &mut nets,
+    )?;
+    Ok(nets)
+}
+
+/// The possible sets of one time for every assignment at once, where some set is empty, and the next latch sets. `rows`
+/// are those of the net, `latches` are the latches' sets, `cuts` is what is asked. `StepsOut` comes only where all steps
+/// are spent and a node of the work functions of this time is not held; after any error what was held stays.
+pub fn step<N: Nodes>(
+    alloc: Global,
+    ops: &Ops,
+    nodes: &mut N,
+    net: &Net,
+    rows: &GateRows,
+    latches: &[Rails],
+    cuts: &[Cut],
+) -> Result<Step, OpFault>
+    requires rows { rows.now.covers ≡ map rows_of net.now.raw.covers }
+    requires long { length latches.now ≡ length net.now.raw.latches }
+    requires latches { All (AreRefs (N.store nodes.old)) latches.now }
+    requires cuts { All (IsCutOf (N.store nodes.old) net.now.raw) cuts.now }
+    ensures { (ls : List SymbolicSet) (asked : SymbolicAsked) (sets : ℕ → SymbolicSet)
+        → AllZip (AreRails (N.store nodes.old)) ls latches.now
+        → AllZip (IsCutBy (N.store nodes.old)) asked.cuts cuts.now
+        → ArePossibleEach (N.store nodes.old).vars net.now.raw ls asked sets
+        → Built (time_work net.now.raw ls asked sets) (IsStep net.now.raw sets)
+        (N.store nodes.old) (N.store nodes.new) result }
+{
+    let nets = nets_of(alloc, ops, nodes, net, rows, latches, cuts)?;
+    let contradictory = some_empty(ops, nodes, nets.as_slice())?;
+    match finished(alloc, net, nets.as_slice(), contradictory) {
+        Ok(made) => Ok(made),
+        Err(_) => Err(OpFault::OutOfMemory),
+    }
+}
