@@ -4,3 +4,4 @@ pub mod Turn
 pub mod Faults
 pub mod Growth
 pub mod Whole
+pub mod Tokens

@@ -4,4 +4,5 @@ pub mod Parses
 pub mod Places
 pub mod Spelled
 pub mod Answer
+pub mod Texts
 pub mod private

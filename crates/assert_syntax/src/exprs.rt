@@ -6,17 +6,16 @@ ghost use Rattle.assert_syntax.specs.private.Drafts.{IsRead, both_read, IsClause
 
 use crate::fault::TaskFault;
 use crate::form::{Clause, Span};
-use bool_expr::{Expr, ExprFault, read_expr};
+use bool_expr::{Expr, ExprFault, Variables, read_expr_over};
 use std::alloc::Global;
-use ste_base::Name;
 
 /// Reads the text of an expression over these variables.
 #[tactic(auto, using(crate::proofs::ReadBoth::read_as))]
-fn expr_of(alloc: Global, text: &[u8], vars: &[Name]) -> Result<Expr, ExprFault>
+fn expr_of(alloc: Global, text: &[u8], vars: &Variables) -> Result<Expr, ExprFault>
     requires { length vars.now < 2 ^ 32 }
     ensures { (parse : Parse) → IsParse parse → IsRead vars.now (parse text.now) result }
 {
-    read_expr(alloc, text, vars)
+    read_expr_over(alloc, text, vars)
 }
 
 /// The expressions of a clause, or its fault, by what its value and its guard are read as.
@@ -49,7 +48,7 @@ fn both_read(
 pub fn exprs_of(
     alloc: Global,
     line: u32,
-    vars: &[Name],
+    vars: &Variables,
     clause: &Clause,
 ) -> Result<(Expr, Expr), TaskFault>
     requires { length vars.now < 2 ^ 32 }

@@ -9,6 +9,7 @@ ghost use Rattle.assert_syntax.specs.private.Drafts.{context_held, IsFault};
 
 use crate::fault::TaskFault;
 use crate::place::Place;
+use bool_expr::Variables;
 use indexmap::IndexSet;
 use std::alloc::{AllocError, Global};
 use ste_base::Name;
@@ -30,7 +31,7 @@ const MAX_EDGES: u32 = 10_000;
 #[derive(Drop)]
 pub struct Known {
     pub place: Place,
-    pub vars: IndexSet<Name>,
+    pub vars: Variables,
     pub names: IndexSet<Name>,
     pub vertices: IndexSet<Name>,
     pub edges: u32,
@@ -48,40 +49,30 @@ fn add_name(set: &mut IndexSet<Name>, name: &Name) -> Result<bool, AllocError>
     Ok(true)
 }
 
-/// Adds names up to the first that is there already, which is the answer.
+/// Declares a variable; false where its name is declared already.
+fn add_variable(vars: &mut Variables, name: &Name) -> Result<bool, AllocError>
+    ensures fresh { IfOk result (λ fresh. fresh ≡ not (list_any (bytes_eq name.now) vars.old)) }
+    ensures names { IfOk result (λ fresh. fresh ≡ true → vars.new ≡ vars.old ++ name.now ∷ []) }
+{
+    if vars.contains(name) {
+        return Ok(false);
+    }
+    vars.push(name)?;
+    Ok(true)
+}
+
+/// Declares variables up to the first whose name is declared already, which is the answer.
 #[tactic(auto, using(crate::proofs::Texts::name_double, crate::proofs::Texts::name_turn))]
-fn add_up_to_double(set: &mut IndexSet<Name>, names: &[Name]) -> Result<Option<Name>, AllocError>
-    ensures double { IfOk result (λ found. found ≡ first_double set.old.keys names.now) }
-    ensures keys { IfOk result (λ found. IfNone found (set.new.keys ≡ set.old.keys ++ names.now)) }
+fn add_up_to_double(vars: &mut Variables, names: &[Name]) -> Result<Option<Name>, AllocError>
+    ensures double { IfOk result (λ found. found ≡ first_double vars.old names.now) }
+    ensures names { IfOk result (λ found. IfNone found (vars.new ≡ vars.old ++ names.now)) }
 {
     for name in names {
-        if !add_name(set, name)? {
+        if !add_variable(vars, name)? {
             return Ok(Some(name.clone()?));
         }
     }
     Ok(None)
-}
-
-/// Adds names on the line of this number, of which there may be so many.
-fn add_names(
-    set: &mut IndexSet<Name>,
-    names: &[Name],
-    most: usize,
-    line: u32,
-) -> Result<(), TaskFault>
-    ensures keys { OnOk result (set.new.keys ≡ set.old.keys ++ names.now) }
-    ensures sound { OnOk result (names_fault most (first_double set.old.keys names.now)
-        (set.old.keys ++ names.now) ≡ None) }
-    ensures err { IfErr result (λ fault. IsFault line
-        (names_fault most (first_double set.old.keys names.now) (set.old.keys ++ names.now)) fault) }
-{
-    if let Some(name) = add_up_to_double(set, names)? {
-        return Err(TaskFault::DoubleName { line, name });
-    }
-    if set.len() > most {
-        return Err(TaskFault::TooMany { line });
-    }
-    Ok(())
 }
 
 /// The number of a vertex.
@@ -102,7 +93,7 @@ impl Known {
     {
         Known {
             place: Place::Start,
-            vars: IndexSet::new(alloc),
+            vars: Variables::new(alloc),
             names: IndexSet::new(alloc),
             vertices: IndexSet::new(alloc),
             edges: 0,
@@ -113,13 +104,19 @@ impl Known {
     pub fn declare(&mut self, line: u32, names: &[Name]) -> Result<(), TaskFault>
         ensures context { OnOk result (context_held self.new
             ≡ context_behind (context_held self.old) (form.Vars names.now)) }
-        ensures sound { OnOk result (names_fault 1000 (first_double self.old.vars.keys names.now)
-            (self.old.vars.keys ++ names.now) ≡ None) }
+        ensures sound { OnOk result (names_fault 1000 (first_double self.old.vars names.now)
+            (self.old.vars ++ names.now) ≡ None) }
         ensures err { IfErr result (λ fault. IsFault line
-            (names_fault 1000 (first_double self.old.vars.keys names.now)
-            (self.old.vars.keys ++ names.now)) fault) }
+            (names_fault 1000 (first_double self.old.vars names.now)
+            (self.old.vars ++ names.now)) fault) }
     {
-        add_names(&mut self.vars, names, MAX_VARS, line)
+        if let Some(name) = add_up_to_double(&mut self.vars, names)? {
+            return Err(TaskFault::DoubleName { line, name });
+        }
+        if self.vars.names().len() > MAX_VARS {
+            return Err(TaskFault::TooMany { line });
+        }
+        Ok(())
     }
 
     /// Behind a line that starts a task of this name.

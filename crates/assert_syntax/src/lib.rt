@@ -8,6 +8,7 @@ pub mod fault;
 pub mod form;
 mod forms;
 mod known;
+pub mod laws;
 pub mod place;
 pub mod read;
 pub mod tasks;

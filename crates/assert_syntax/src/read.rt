@@ -103,7 +103,7 @@ fn clause_read(
     ensures { (parse : Parse) → IsParse parse → IsStep parse (context_held known.now)
         (context_held known.now) draft (record { line = line; form = form.Clause clause }) result }
 {
-    let (value, guard) = exprs_of(alloc, line, known.vars.as_slice(), &clause)?;
+    let (value, guard) = exprs_of(alloc, line, &known.vars, &clause)?;
     let Draft { tasks, task } = draft;
     let task = clause_added(task, line, clause, value, guard)?;
     Ok(Draft { tasks, task })
@@ -164,7 +164,7 @@ fn tasks_read(alloc: Global, lines: &[Line]) -> Result<RawTasks, TaskFault>
     if tasks.len() == 0 {
         return Err(TaskFault::NoTask);
     }
-    let vars = copies(alloc, known.vars.as_slice())?;
+    let vars = copies(alloc, known.vars.names())?;
     Ok(RawTasks { vars, tasks })
 }
 

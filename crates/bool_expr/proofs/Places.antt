@@ -1,6 +1,7 @@
 -- The numbers of the declared variables.
 use Rattle.std.proofs.Common.{ℕ, suc, ◌+◌, ◌<◌, ◌≤◌, ◌≡◌, refl, sym, ap, ◌∙◌, List, [], ◌∷◌, ◌++◌, length, get_or, take, add-one, length-take, arith, Bool, true, false, Option, None, Some}
-use Rattle.std.specs.Prelude.{bytes_eq, if◌then◌else◌}
+use Rattle.std.specs.Prelude.{bytes_eq, if◌then◌else◌, is_some, IfSome, ◌||◌}
+use Rattle.std.specs.List.{list_any}
 use Rattle.std.proofs.lemmas.Slice.Eq.{bytes_eq-Decides}
 use Rattle.std.proofs.lemmas.List.{take_all}
 use Rattle.std.proofs.Math.Seq.{take-suc}
@@ -45,14 +46,39 @@ last_number n m [] name word e = last_one (bytes_eq name word) n m (omega (arith
 last_number n m (var ∷ vars) name word e =
     more_one (bytes_eq var word) (bytes_eq name word) n m _ _ (last_number (suc n) m vars name word (omega (arith, e)))
 
--- the numbers in the variables up to a place and with it
-pub number_more : (vars : List (List ℕ)) (i : ℕ) (name word : List ℕ) (before after : Option ℕ) → i < length vars → name ≡ get_or vars i name → before ≡ number_in (take i vars) word → after ≡ with_place before (bytes_eq name word) i → after ≡ number_in (take (i + 1) vars) word
-number_more vars i name word before after h e b a =
-    let more : take (i + 1) vars ≡ take i vars ++ name ∷ [] = ap (λ k. take k vars) (add-one i) ∙ take-suc vars i name h ∙ ap (λ n. take i vars ++ n ∷ []) (sym e) in
-    rw more (a ∙ ap (λ o. with_place o (bytes_eq name word) i) b ∙ sym (last_number 0 i (take i vars) name word (omega (arith, length-take i vars, h))))
+-- the numbers with one more variable
+pub number_pushed : (names new : List (List ℕ)) (i : ℕ) (name copy word : List ℕ) (before after : Option ℕ) → i ≡ length names → copy ≡ name → new ≡ names ++ copy ∷ [] → before ≡ number_in names word → after ≡ with_place before (bytes_eq name word) i → after ≡ number_in new word
+number_pushed names new i name copy word before after e c n b a =
+    let more : new ≡ names ++ name ∷ [] = n ∙ ap (λ w. names ++ w ∷ []) c in
+    rw more (a ∙ ap (λ o. with_place o (bytes_eq name word) i) b ∙ sym (last_number 0 i names name word (omega (arith, e))))
 
--- the numbers in all variables
-pub number_all : (number : List ℕ → Option ℕ) (vars : List (List ℕ)) (n : ℕ) → length vars ≤ n → ((word : List ℕ) → number word ≡ number_in (take n vars) word) → number ≡ number_in vars
-number_all number vars n h e =
-    let same : (word : List ℕ) → number word ≡ number_in vars word = λ word. e word ∙ ap (λ l. number_in l word) (take_all n vars h) in
-    λ i word. same word i
+same_bits : (a b : Bool) → (a ≡ true → b ≡ true) → (b ≡ true → a ≡ true) → a ≡ b
+same_bits true b there back = sym (there refl)
+same_bits false true there back = back refl
+same_bits false false there back = refl
+
+eq_either_way : (one other : List ℕ) → bytes_eq one other ≡ bytes_eq other one
+eq_either_way one other = same_bits (bytes_eq one other) (bytes_eq other one) (λ e. (bytes_eq-Decides other one).1 (sym ((bytes_eq-Decides one other).0 e))) (λ e. (bytes_eq-Decides one other).1 (sym ((bytes_eq-Decides other one).0 e)))
+
+found_one : (b c : Bool) (number : Option ℕ) (n : ℕ) (any : Bool) → b ≡ c → is_some number ≡ any → is_some (if b then Some n else number) ≡ (c || any)
+found_one true c number n any e h = rw (sym e) refl
+found_one false c number n any e h = rw (sym e) h
+
+-- a word has a number just where it is one of the names
+pub has_number : (n : ℕ) (names : List (List ℕ)) (word : List ℕ) → is_some (number_from n names word) ≡ list_any (bytes_eq word) names
+has_number n [] word = refl
+has_number n (name ∷ names) word = found_one (bytes_eq name word) (bytes_eq word name) (number_from (suc n) names word) n (list_any (bytes_eq word) names) (eq_either_way name word) (has_number (suc n) names word)
+
+found_within : (b : Bool) (n m most : ℕ) (later : Option ℕ) → n < most → ((k : ℕ) → later ≡ Some k → k < most) → (if b then Some n else later) ≡ Some m → m < most
+found_within true n m most later h rest e = let same : n ≡ m = cc in omega (arith, same, h)
+found_within false n m most later h rest e = rest m e
+
+-- a number is below the number of names
+pub within_names : (n : ℕ) (names : List (List ℕ)) (word : List ℕ) (m : ℕ) → number_from n names word ≡ Some m → m < n + length names
+within_names n [] word m e = absurd (cc e)
+within_names n (name ∷ names) word m e =
+    found_within (bytes_eq name word) n m (n + length (name ∷ names)) (number_from (suc n) names word) (omega arith) (λ k f. let h = within_names (suc n) names word k f in omega (arith, h)) e
+
+pub if_within : (vars : List (List ℕ)) (word : List ℕ) (found : Option ℕ) → found ≡ number_in vars word → IfSome found (λ place. place < length vars)
+if_within vars word None e = tt
+if_within vars word (Some m) e = let h = within_names 0 vars word m (sym e) in omega (arith, h)

@@ -1,19 +1,18 @@
 //! The tree of an expression, token by token; begin with `expr_of`.
 
-ghost use Rattle.std.specs.Prelude.{◌≡◌, ◌<◌, ◌^◌, ◌∷◌, [], IfOk, IfErr, None, map, ◌++◌};
+ghost use Rattle.std.specs.Prelude.{◌≡◌, ◌<◌, ◌^◌, ◌∷◌, [], IfOk, IfErr, None, length, map, ◌++◌};
 ghost use Rattle.bool_expr.specs.Tokens.{tokens_of, negation};
 ghost use Rattle.bool_expr.specs.Tree.{tree_of, chain};
-ghost use Rattle.bool_expr.specs.Read.{place_by, first_unknown};
-ghost use Rattle.bool_expr.specs.private.Held.{token_of, numbers, IsCause};
+ghost use Rattle.bool_expr.specs.Read.{number_in, place_by, first_unknown};
+ghost use Rattle.bool_expr.specs.private.Held.{token_of, IsCause};
 ghost use Rattle.bool_expr.specs.private.Build.{opened, built, nothing, behind_signs, with_factor, shut, with_sign, closed, turn, build_from, build_start};
 
 use crate::expr::Expr;
 use crate::fault::ExprFault;
 use crate::token::{Sign, Token, next_token};
-use crate::vars::variable_of;
+use crate::vars::{Variables, variable_of};
 use std::alloc::{AllocError, Global};
-use std::collections::{HashMap, VecDeque};
-use ste_base::Name;
+use std::collections::VecDeque;
 
 /// What stands in a bracket so far: the number of `!` before the next factor, and the parts of the chains that are open.
 #[derive(Drop)]
@@ -211,7 +210,7 @@ impl Build {
 
     /// Behind one more `!`.
     fn negate(self) -> Build
-        requires { self.inner.signs < 2 ^ 63 }
+        requires signs { self.inner.signs < 2 ^ 63 }
         ensures { built result ≡ turn (λ _. 0) (built self) negation }
     {
         let Build { mut inner, outer } = self;
@@ -223,16 +222,17 @@ impl Build {
     fn turn(
         self,
         alloc: Global,
-        places: &HashMap<Name, u32>,
+        variables: &Variables,
         token: Token<'_>,
     ) -> Result<Build, ExprFault>
-        requires { self.inner.signs < 2 ^ 63 }
+        requires signs { self.inner.signs < 2 ^ 63 }
+        requires vars { length variables.now < 2 ^ 32 }
         ensures ok { IfOk result (λ build. built build
-            ≡ turn (place_by (numbers places.now)) (built self) (token_of token.entry)) }
+            ≡ turn (place_by (number_in variables.now)) (built self) (token_of token.entry)) }
         ensures known { IfOk result (λ _.
-            first_unknown (numbers places.now) (token_of token.entry ∷ []) ≡ None) }
+            first_unknown (number_in variables.now) (token_of token.entry ∷ []) ≡ None) }
         ensures err { IfErr result (λ fault.
-            IsCause (numbers places.now) (token_of token.entry ∷ []) fault) }
+            IsCause (number_in variables.now) (token_of token.entry ∷ []) fault) }
     {
         match token {
             Token::Sign(sign) => {
@@ -246,7 +246,7 @@ impl Build {
             Token::Open => Ok(self.open(alloc)?),
             Token::Close => Ok(self.close(alloc)?),
             Token::Const(bit) => Ok(self.with_factor(alloc, Expr::Const(bit))?),
-            Token::Name(word) => Ok(self.with_factor(alloc, variable_of(alloc, places, word)?)?),
+            Token::Name(word) => Ok(self.with_factor(alloc, variable_of(alloc, variables, word)?)?),
             Token::Wrong => Ok(self),
         }
     }
@@ -254,17 +254,18 @@ impl Build {
 
 /// The expression that a text spells, where it spells one, and its variables are declared.
 #[tactic(auto, using(crate::proofs::Turns::turn_signs, crate::proofs::Turns::first_known))]
-pub fn expr_of(alloc: Global, text: &[u8], places: &HashMap<Name, u32>) -> Result<Expr, ExprFault>
+pub fn expr_of(alloc: Global, text: &[u8], variables: &Variables) -> Result<Expr, ExprFault>
+    requires { length variables.now < 2 ^ 32 }
     ensures ok { IfOk result (λ expr. tree_of expr
-        ≡ build_from (place_by (numbers places.now)) build_start (tokens_of text.now)) }
-    ensures known { IfOk result (λ _. first_unknown (numbers places.now) (tokens_of text.now)
+        ≡ build_from (place_by (number_in variables.now)) build_start (tokens_of text.now)) }
+    ensures known { IfOk result (λ _. first_unknown (number_in variables.now) (tokens_of text.now)
         ≡ None) }
-    ensures err { IfErr result (λ fault. IsCause (numbers places.now) (tokens_of text.now) fault) }
+    ensures err { IfErr result (λ fault. IsCause (number_in variables.now) (tokens_of text.now) fault) }
 {
     let mut build = Build::new(alloc);
     let mut rest = text;
     while let Some((token, more)) = next_token(rest) {
-        build = build.turn(alloc, places, token)?;
+        build = build.turn(alloc, variables, token)?;
         rest = more;
     }
     Ok(build.inner.closed()?)

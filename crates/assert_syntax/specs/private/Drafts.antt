@@ -30,7 +30,7 @@ use Rattle.assert_syntax.specs.Spelled.{from_of, to_of}
 
 -- what is known of the earlier lines
 abbrev pub context_held : Known → Context
-context_held known = record { place = known.place; vars = known.vars.keys; names = known.names.keys; vertices = known.vertices.keys; edges = known.edges }
+context_held known = record { place = known.place; vars = known.vars; names = known.names.keys; vertices = known.vertices.keys; edges = known.edges }
 
 -- there are no more of anything than there may be
 pub record HasRoom (context : Context) : Type 0 where

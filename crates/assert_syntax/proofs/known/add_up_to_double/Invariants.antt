@@ -4,4 +4,4 @@ use Rattle.assert_syntax.proofs.known.add_up_to_double.Given as goal
 
 -- the names that are left decide
 abbrev pub invariant-loop-name : goal.invariant-loop-name
-invariant-loop-name l = (first_double l.set.keys (drop l.name-index l.names) ≡ first_double l.initial.set.keys l.names) × (l.set.keys ++ drop l.name-index l.names ≡ l.initial.set.keys ++ l.names)
+invariant-loop-name l = (first_double l.vars (drop l.name-index l.names) ≡ first_double l.initial.vars l.names) × (l.vars ++ drop l.name-index l.names ≡ l.initial.vars ++ l.names)

@@ -23,11 +23,11 @@ returns-then-len-eq0 c = λ parse is.
 
 pub invariant_of-result : goal.invariant_of-result
 invariant_of-result c = record {
-  declared = let e = ap length (c.in_ok-vars.ensures ∙ c.as_slice-2.ensures.keys) in omega (arith, e, c.loop-line.invariant.room.vars);
+  declared = let e = ap length (c.in_ok-vars.ensures ∙ c.names.ensures) in omega (arith, e, c.loop-line.invariant.room.vars);
   few = few_tasks (context_held c.loop-line.known) c.loop-line.draft c.in_ok-tasks.tasks c.as_slice.result.now _ c.args.lines.now c.in_ok-tasks.ensures c.loop-line.invariant;
 }
 
 pub returns : goal.returns
 returns c = λ parse is.
     let r = all_read c.args.lines.now c.loop-line.line-index (context_held c.loop-line.known) c.loop-line.draft c.in_ok-tasks.tasks c.as_slice.result.now (omega (arith, c.loop-line-test.false, c.loop-line.auto.line-index-end)) c.as_slice.ensures.keys c.in_ok-tasks.ensures c.loop-line.invariant parse is in
-    (r.0, c.in_ok-vars.ensures ∙ c.as_slice-2.ensures.keys ∙ r.1, r.2)
+    (r.0, c.in_ok-vars.ensures ∙ c.names.ensures ∙ r.1, r.2)

@@ -1,7 +1,8 @@
-use Rattle.std.proofs.Common.{arith}
+use Rattle.std.proofs.Common.{arith, refl}
+use Rattle.bool_expr.specs.Read.{number_in}
 use Rattle.bool_expr.proofs.Answered.{none_spelled, some_spelled, depth_of, answered, caused}
 use Rattle.bool_expr.proofs.Full.{full_answer}
-use Rattle.bool_expr.proofs.read.read_expr.Goals as goal
+use Rattle.bool_expr.proofs.read.read_expr_over.Goals as goal
 
 pub returns-in_default-clause-exact : goal.returns-in_default-clause-exact
 returns-in_default-clause-exact c = none_spelled c.args.text.now c.in_ok-depth.field-0 c.in_ok-depth.ensures c.in_default.is
@@ -22,15 +23,15 @@ returns-then-depth-gt-MAX_NESTING-clause-cause c =
 
 pub returns-clause-exact : goal.returns-clause-exact
 returns-clause-exact c = λ d s.
-    answered c.args.vars.now c.args.text.now c.in-Some.depth _ c.expr_of.result c.if-depth-gt-MAX_NESTING.false c.in_ok-places.ensures c.expr_of.ensures.ok c.expr_of.ensures.known c.expr_of.ensures.err d s
+    answered c.args.variables.now c.args.text.now c.in-Some.depth (number_in c.args.variables.now) c.expr_of.result c.if-depth-gt-MAX_NESTING.false refl c.expr_of.ensures.ok c.expr_of.ensures.known c.expr_of.ensures.err d s
     (depth_of c.args.text.now c.in_ok-depth.field-0 c.in-Some.depth c.in_ok-depth.ensures c.in-Some.is d s)
 
 pub returns-clause-cause : goal.returns-clause-cause
 returns-clause-cause c =
     let d = some_spelled c.args.text.now c.in_ok-depth.field-0 c.in-Some.depth c.in_ok-depth.ensures c.in-Some.is in
-    caused c.args.vars.now c.args.text.now c.expr_of.result d.0 d.1
-    (answered c.args.vars.now c.args.text.now c.in-Some.depth _ c.expr_of.result c.if-depth-gt-MAX_NESTING.false c.in_ok-places.ensures c.expr_of.ensures.ok c.expr_of.ensures.known c.expr_of.ensures.err d.0 d.1
+    caused c.args.variables.now c.args.text.now c.expr_of.result d.0 d.1
+    (answered c.args.variables.now c.args.text.now c.in-Some.depth (number_in c.args.variables.now) c.expr_of.result c.if-depth-gt-MAX_NESTING.false refl c.expr_of.ensures.ok c.expr_of.ensures.known c.expr_of.ensures.err d.0 d.1
     (depth_of c.args.text.now c.in_ok-depth.field-0 c.in-Some.depth c.in_ok-depth.ensures c.in-Some.is d.0 d.1))
 
 pub returns-clause-full : goal.returns-clause-full
-returns-clause-full c = full_answer c.args.vars.now c.args.text.now c.expr_of.result (returns-clause-cause c)
+returns-clause-full c = full_answer c.args.variables.now c.args.text.now c.expr_of.result (returns-clause-cause c)

@@ -1,0 +1,9 @@
+//! What holds of the grammar of task files. The bodies are empty: each contract is a law.
+
+ghost use Rattle.assert_syntax.specs.Texts.{WordsAreTheText};
+
+/// Law: the words of an expression, joined by one blank, spell what its text spells, whatever blanks stand between the
+/// words. Words on several physical lines have the tokens of the lines.
+pub fn words_are_the_text()
+    ensures { WordsAreTheText }
+{}

@@ -1,0 +1,5 @@
+pub mod Mentions
+pub mod Sizes
+pub mod Bound
+pub mod Answer
+pub mod private

@@ -1,0 +1,16 @@
+//! Binding of tasks: from tasks with the names of their nodes to tasks over the nets of a netlist.
+#![tactic(auto)]
+
+mod bind;
+pub mod fault;
+pub mod resolve;
+mod sizes;
+pub mod tasks;
+pub mod unknown;
+
+pub use fault::BindFault;
+pub use resolve::Resolve;
+pub use tasks::bind_tasks;
+
+#[cfg(test)]
+mod tests;
