@@ -31,7 +31,7 @@ zip_append R [] xs' (y ∷ ys) ys' z w = absurd z
 zip_append R (x ∷ xs) xs' [] ys' z w = absurd z
 zip_append R (x ∷ xs) xs' (y ∷ ys) ys' z w = (z.0, zip_append R xs xs' ys ys' z.1 w)
 
-zip_flat_map : {A B C D : Type 0} (R : A → B → Type 0) (S : C → D → Type 0) (f : A → List C) (g : B → List D) → ((a : A) (b : B) → R a b → AllZip S (f a) (g b)) → (xs : List A) (ys : List B) → AllZip R xs ys → AllZip S (flat_map f xs) (flat_map g ys)
+pub zip_flat_map : {A B C D : Type 0} (R : A → B → Type 0) (S : C → D → Type 0) (f : A → List C) (g : B → List D) → ((a : A) (b : B) → R a b → AllZip S (f a) (g b)) → (xs : List A) (ys : List B) → AllZip R xs ys → AllZip S (flat_map f xs) (flat_map g ys)
 zip_flat_map R S f g each [] [] z = tt
 zip_flat_map R S f g each [] (y ∷ ys) z = absurd z
 zip_flat_map R S f g each (x ∷ xs) [] z = absurd z
@@ -61,12 +61,14 @@ module _ (models : List Model) (covers : List Cover) (instance : Instance) (path
     gates_zip : (lines : List GateLine) (cover : ℕ) → ((line : GateLine) → In lines line → In (gate_lines instance.model) line) → HasCovers covers cover lines → AllZip (IsGateOf models net) (gates_from instance cover lines) (map (λ line. (path, line)) lines)
     gates_zip [] cover within has = tt
     gates_zip (line ∷ lines) cover within has =
-        let words = gate_signals instance.model line (within line (inl refl)) in
-        (record {
-          output = node_is line.output words.0;
-          inputs = nodes_are line.inputs words.1;
-          cover = ap (λ l. slice_get l cover) its ∙ ap (λ k. slice_get covers k) (first cover) ∙ has 0 line refl;
-        }, gates_zip lines (suc cover) (λ l h. within l (inr h)) (λ i l e. ap (λ k. slice_get covers k) (shift cover i) ∙ has (suc i) l e))
+        let words = gate_signals instance.model line (within line (inl refl)) in (
+          record {
+            output = node_is line.output words.0;
+            inputs = nodes_are line.inputs words.1;
+            cover = ap (λ l. slice_get l cover) its ∙ ap (λ k. slice_get covers k) (first cover) ∙ has 0 line refl;
+          },
+          gates_zip lines (suc cover) (λ l h. within l (inr h)) (λ i l e. ap (λ k. slice_get covers k) (shift cover i) ∙ has (suc i) l e),
+        )
       where
         first : (a : ℕ) → a ≡ a + 0
         first a = omega arith
@@ -90,8 +92,9 @@ module _ (models : List Model) (covers : List Cover) (instance : Instance) (path
 module _ (model : Model) (words : What → List (List ℕ)) (within : (what : What) (x : List ℕ) → In (words what) x → In (signal_words what) x) where
   mentioned : (x : List ℕ) → In (insert_all bytes_eq [] (flat_map (λ item. words item.what) model.items)) x → In (signals model) x
   mentioned x h = elim (set_in (flat_map (λ item. words item.what) model.items) [] x h) as (λ _. In (signals model) x) [
-    inl none ↦ absurd none
-    | inr among ↦ let r = flat_map_in (λ item. words item.what) model.items x among in is_signal model r.0 x r.1 (within r.0.what x r.2) ]
+    | inl none ↦ absurd none
+    | inr among ↦ let r = flat_map_in (λ item. words item.what) model.items x among in is_signal model r.0 x r.1 (within r.0.what x r.2)
+  ]
 
 inputs_within : (what : What) (x : List ℕ) → In (input_words what) x → In (signal_words what) x
 inputs_within (Inputs names) x h = h
@@ -113,14 +116,20 @@ top_is : (models : List Model) (model : Model) → slice_get models 0 ≡ Some m
 top_is [] model e = absurd (cc)
 top_is (m ∷ models) model e = cc
 
+pub input_signal : (model : Model) (word : List ℕ) → In (inputs_of model) word → In (signals model) word
+input_signal model word h = mentioned model input_words inputs_within word h
+
+pub top_inputs : (models : List Model) (covers : List Cover) (first : Instance) → IsInstance models covers first [] → map (λ (node : NodeId). node.0) (map (node_in first) (inputs_of first.model)) ≡ input_numbers models
+top_inputs models covers first is = nodes_are models covers first [] is (inputs_of first.model) (input_signal first.model)
+    ∙ ap (λ m. map (λ word. number_at models [] word) (inputs_of m)) (sym (top_is models first.model is.model))
+
 -- a net that is made of these parts is that of the hierarchy
 pub flat_is : (models : List Model) (covers : List Cover) (all : List Instance) (first : Instance) (net : RawNet) → AreInstances models covers all → IsInstance models covers first [] →
     net.nets ≡ length (nets models) → net.inputs ≡ map (node_in first) (inputs_of first.model) → net.outputs ≡ map (node_in first) (outputs_of first.model) →
     net.gates ≡ flat_map gates_in all → net.latches ≡ flat_map latches_in all → net.covers ≡ covers → IsFlat models net
 flat_is models covers all first net are is count ins outs its_gates its_latches its_covers = record {
   nets = count;
-  inputs = ap (λ l. map (λ (node : NodeId). node.0) l) ins ∙ nodes_are models covers first [] is (inputs_of first.model) (mentioned first.model input_words inputs_within)
-      ∙ ap (λ m. map (λ word. number_at models [] word) (inputs_of m)) (sym (top_is models first.model is.model));
+  inputs = ap (λ l. map (λ (node : NodeId). node.0) l) ins ∙ top_inputs models covers first is;
   outputs = ap (λ l. map (λ (node : NodeId). node.0) l) outs ∙ nodes_are models covers first [] is (outputs_of first.model) (mentioned first.model output_words outputs_within)
       ∙ ap (λ m. map (λ word. number_at models [] word) (outputs_of m)) (sym (top_is models first.model is.model));
   gates = subst (λ l. AllZip (IsGateOf models net) l (gates models)) (sym its_gates)

@@ -5,6 +5,7 @@ pub mod Named
 pub mod Nets
 pub mod Covered
 pub mod Marks
+pub mod Refusals
 pub mod Placed
 pub mod Corresponds
 pub mod Flattened

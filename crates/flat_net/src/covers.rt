@@ -21,11 +21,7 @@ pub(crate) struct Covers {
 }
 
 /// Adds a copy of the cover of each gate of a model.
-fn add_covers(
-    alloc: Global,
-    covers: &mut Items<Cover>,
-    model: &Model,
-) -> Result<(), AllocError>
+fn add_covers(alloc: Global, covers: &mut Items<Cover>, model: &Model) -> Result<(), AllocError>
     ensures { OnOk result (covers.new ≡ covers.old ++ map (λ line. line.cover) (gate_lines model.now)) }
 {
     for item in model.items.as_slice() {

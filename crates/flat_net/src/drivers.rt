@@ -60,11 +60,7 @@ fn driven_by(what: &What) -> Option<&Name>
 
 /// Refuses the first driver in an instance, by line, whose net is marked or has an earlier driver there; the nets of all
 /// its drivers are marked. `names` has the nets' own names, by number.
-fn refuse_in(
-    instance: &Instance,
-    names: &[Name],
-    marks: &mut Vec<bool>,
-) -> Result<(), NetFault>
+fn refuse_in(instance: &Instance, names: &[Name], marks: &mut Vec<bool>) -> Result<(), NetFault>
     ensures ok { OnOk result ((rest : List Driver) →
         twice marks.new.items rest ≡ twice marks.old.items (drivers_in instance.now ++ rest)) }
     ensures err { IfErr result (λ fault. (fault ≡ OutOfMemory) ⊎ ((rest : List Driver) →

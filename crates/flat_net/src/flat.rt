@@ -7,10 +7,10 @@ ghost use Rattle.hierarchy.specs.Lines.{gate_lines, latch_lines, signals, top};
 ghost use Rattle.flat_net.specs.Flat.{flat_of, gates_from, latch_at, net_of};
 ghost use Rattle.flat_net.specs.Supported.{is_supported, is_supported_model};
 
-use hierarchy::lines::{GateLine, LatchLine, gate_lines, latch_lines};
-use hierarchy::signals::{inputs_of, outputs_of, signals};
 use crate::supported::is_supported_model;
 use blif_syntax::{Model, Models};
+use hierarchy::lines::{GateLine, LatchLine, gate_lines, latch_lines};
+use hierarchy::signals::{inputs_of, outputs_of, signals};
 use indexmap::IndexSet;
 use net_core::{Cover, Gate, Latch, RawNet, Row};
 use std::alloc::{AllocError, Global};

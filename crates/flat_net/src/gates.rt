@@ -64,10 +64,7 @@ fn add_latches(latches: &mut Items<Latch>, instance: &Instance) -> Result<(), Al
 }
 
 /// The latches of all instances, by instance and line.
-pub(crate) fn all_latches(
-    alloc: Global,
-    instances: &[Instance],
-) -> Result<Items<Latch>, AllocError>
+pub(crate) fn all_latches(alloc: Global, instances: &[Instance]) -> Result<Items<Latch>, AllocError>
     ensures { IfOk result (λ latches. latches ≡ flat_map latches_in instances.now) }
 {
     let mut latches = Items::new(alloc);

@@ -9,8 +9,8 @@ mod gates;
 mod instance;
 pub mod laws;
 mod supported;
-mod whole;
 #[cfg(test)]
 mod tests;
+mod whole;
 
 pub use flat::{FlatNet, flatten};

@@ -8,9 +8,9 @@ ghost use Rattle.hierarchy.specs.Lines.{gate_lines, inputs_of, latch_lines, sign
 ghost use Rattle.flat_net.specs.Supported.{are_alike, are_distinct, are_in_order, driven, is_clocked_once, is_driven_once, is_narrow, is_supported_model, is_use};
 ghost use Rattle.hierarchy.specs.Lines.{is_rising};
 
+use blif_syntax::{Item, LatchKind, Model, What};
 use hierarchy::lines::{GateLine, LatchLine};
 use hierarchy::signals::{add, inputs_of};
-use blif_syntax::{Item, LatchKind, Model, What};
 use indexmap::IndexSet;
 use std::alloc::{AllocError, Global};
 use ste_base::{Items, Name};
