@@ -39,7 +39,8 @@ fn refuse_circle(
     requires names { names.now.keys ≡ model_names models.now }
     requires graph { graph.now ≡ uses models.now }
     requires ranks { AreRanks graph.now ranks.now }
-    ensures ok { OnOk result ((its : NetFault) → IsRecursive models.now at.now.number at.now.item its → ⊥) }
+    ensures ok { OnOk result
+        ((its : NetFault) → IsRecursive models.now at.now.number at.now.item its → ⊥) }
     ensures err { IfErr result (λ fault. (fault ≡ NetFault.OutOfMemory)
         ⊎ IsRecursive models.now at.now.number at.now.item fault) }
 {
@@ -74,7 +75,8 @@ fn first_recursive(
 ) -> Result<(), NetFault>
     requires names { names.now.keys ≡ model_names models.now }
     requires graph { graph.now ≡ uses models.now }
-    ensures ok { OnOk result (NoneIn (λ at its. IsRecursive models.now at.number at.item its) lines.now) }
+    ensures ok { OnOk result
+        (NoneIn (λ at its. IsRecursive models.now at.number at.item its) lines.now) }
     ensures err { IfErr result (λ fault. (fault ≡ NetFault.OutOfMemory)
         ⊎ FirstIn (λ at its. IsRecursive models.now at.number at.item its) lines.now fault) }
 {

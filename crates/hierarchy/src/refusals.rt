@@ -40,7 +40,7 @@ fn reachable_items<'a>(
 
 /// Refuses a hierarchy that is too deep, or one that is not but has too many nodes. `names` has the names of all models, `graph`
 /// the numbers of those that each uses, and `deep` says whether more than 64 steps of uses lead on from the top.
-fn refuse_too_deep_on(
+fn refuse_from_too_deep(
     alloc: Global,
     models: &[Model],
     names: &IndexSet<Name>,
@@ -61,9 +61,9 @@ fn refuse_too_deep_on(
     refuse_too_many_nodes(alloc, models, names, graph)
 }
 
-/// Refuses the first gate that is too wide, or where there is none what `refuse_too_deep_on` does. `lines` has the items of just
+/// Refuses the first gate that is too wide, or where there is none what `refuse_from_too_deep` does. `lines` has the items of just
 /// the reachable models.
-fn refuse_wide_gates_on(
+fn refuse_from_gate_too_wide(
     alloc: Global,
     models: &[Model],
     names: &IndexSet<Name>,
@@ -84,12 +84,12 @@ fn refuse_wide_gates_on(
         ⊎ FromGateTooWide models.now fault) }
 {
     refuse_wide_gates(alloc, models, lines)?;
-    refuse_too_deep_on(alloc, models, names, graph, deep)
+    refuse_from_too_deep(alloc, models, names, graph, deep)
 }
 
-/// Refuses the first use that leaves a formal unbound, or where there is none what `refuse_wide_gates_on` does. `names` has the
+/// Refuses the first use that leaves a formal unbound, or where there is none what `refuse_from_gate_too_wide` does. `names` has the
 /// names of all models.
-fn refuse_missing_formals_on(
+fn refuse_from_missing_formal(
     alloc: Global,
     models: &[Model],
     names: &IndexSet<Name>,
@@ -110,11 +110,11 @@ fn refuse_missing_formals_on(
         ⊎ FromMissingFormal models.now fault) }
 {
     refuse_missing_formals(alloc, models, names, lines)?;
-    refuse_wide_gates_on(alloc, models, names, graph, lines, deep)
+    refuse_from_gate_too_wide(alloc, models, names, graph, lines, deep)
 }
 
-/// Refuses the first use with a bad formal, or where there is none what `refuse_missing_formals_on` does.
-fn refuse_bad_formals_on(
+/// Refuses the first use with a bad formal, or where there is none what `refuse_from_missing_formal` does.
+fn refuse_from_bad_formal(
     alloc: Global,
     models: &[Model],
     names: &IndexSet<Name>,
@@ -134,12 +134,12 @@ fn refuse_bad_formals_on(
         ⊎ FromBadFormal models.now fault) }
 {
     refuse_bad_formals(alloc, models, names, lines)?;
-    refuse_missing_formals_on(alloc, models, names, graph, lines, deep)
+    refuse_from_missing_formal(alloc, models, names, graph, lines, deep)
 }
 
-/// Refuses the first recursive use, or where there is none what `refuse_bad_formals_on` does. `graph` has for each model the
+/// Refuses the first recursive use, or where there is none what `refuse_from_bad_formal` does. `graph` has for each model the
 /// numbers of those that it uses.
-fn refuse_recursive_on(
+fn refuse_from_recursive(
     alloc: Global,
     models: &[Model],
     names: &IndexSet<Name>,
@@ -158,11 +158,11 @@ fn refuse_recursive_on(
 {
     let deep = is_deep(alloc, graph)?;
     refuse_recursive(alloc, models, names, graph, lines, deep)?;
-    refuse_bad_formals_on(alloc, models, names, graph, lines, deep)
+    refuse_from_bad_formal(alloc, models, names, graph, lines, deep)
 }
 
-/// Refuses the first use of an unknown model, or where there is none what `refuse_recursive_on` does.
-fn refuse_unknown_models_on(
+/// Refuses the first use of an unknown model, or where there is none what `refuse_from_recursive` does.
+fn refuse_from_unknown_model(
     alloc: Global,
     models: &[Model],
     names: &IndexSet<Name>,
@@ -177,7 +177,7 @@ fn refuse_unknown_models_on(
     let graph = uses(alloc, names, models)?;
     let lines = reachable_items(alloc, models, graph.as_slice())?;
     refuse_unknown_models(models, names, lines.as_slice())?;
-    refuse_recursive_on(alloc, models, names, graph.as_slice(), lines.as_slice())
+    refuse_from_recursive(alloc, models, names, graph.as_slice(), lines.as_slice())
 }
 
 /// Refuses a hierarchy for the first fault there is of the kinds that can be told before any instance is made: a double model,
@@ -192,5 +192,5 @@ pub fn refuse(alloc: Global, models: &Models) -> Result<(), NetFault>
 {
     let models = models.models.as_slice();
     let names = names_of(alloc, models)?;
-    refuse_unknown_models_on(alloc, models, &names)
+    refuse_from_unknown_model(alloc, models, &names)
 }

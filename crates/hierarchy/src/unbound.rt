@@ -48,7 +48,8 @@ fn refuse_unbound(
     needed: &IndexSet<Name>,
     line: u32,
 ) -> Result<(), NetFault>
-    ensures ok { OnOk result (find (λ name. not (is_one_of bound.now.keys name)) needed.now.keys ≡ None) }
+    ensures ok { OnOk result
+        (find (λ name. not (is_one_of bound.now.keys name)) needed.now.keys ≡ None) }
     ensures err { IfErr result (λ fault. (fault ≡ NetFault.OutOfMemory)
         ⊎ (option_map (λ name. NetFault.MissingFormal line name)
         (find (λ name. not (is_one_of bound.now.keys name)) needed.now.keys) ≡ Some fault)) }

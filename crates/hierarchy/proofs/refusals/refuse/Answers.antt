@@ -10,17 +10,17 @@ use Rattle.hierarchy.proofs.refusals.refuse.Goals as goal
 pub returns-clause-ok : goal.returns-clause-ok
 returns-clause-ok c =
     let models = c.as_slice-models.result.now in
-    subst (λ all. OnOk c.refuse_unknown_models_on.result (IsFree (HasFaultBeforeInstances all))) c.as_slice-models.ensures
-    (on_ok_weaker c.refuse_unknown_models_on.result
+    subst (λ all. OnOk c.refuse_from_unknown_model.result (IsFree (HasFaultBeforeInstances all))) c.as_slice-models.ensures
+    (on_ok_weaker c.refuse_from_unknown_model.result
     (else_free (HasDoubleModel models) (FromUnknownModel models) (double_free models c.in_ok-names.ensures.ok))
-    c.refuse_unknown_models_on.ensures.ok)
+    c.refuse_from_unknown_model.ensures.ok)
 
 pub returns-clause-err : goal.returns-clause-err
 returns-clause-err c =
     let models = c.as_slice-models.result.now in
-    subst (λ all. IfErr c.refuse_unknown_models_on.result (λ fault. (fault ≡ OutOfMemory) ⊎ HasFaultBeforeInstances all fault)) c.as_slice-models.ensures
-    (IfErr-weaker c.refuse_unknown_models_on.result
+    subst (λ all. IfErr c.refuse_from_unknown_model.result (λ fault. (fault ≡ OutOfMemory) ⊎ HasFaultBeforeInstances all fault)) c.as_slice-models.ensures
+    (IfErr-weaker c.refuse_from_unknown_model.result
     (λ fault. (fault ≡ OutOfMemory) ⊎ FromUnknownModel models fault)
     (λ fault. (fault ≡ OutOfMemory) ⊎ HasFaultBeforeInstances models fault)
     (else_later (HasDoubleModel models) (FromUnknownModel models) (double_free models c.in_ok-names.ensures.ok))
-    c.refuse_unknown_models_on.ensures.err)
+    c.refuse_from_unknown_model.ensures.err)

@@ -1,7 +1,7 @@
 use Rattle.std.proofs.lemmas.Result.{on_ok_weaker}
 use Rattle.hierarchy.specs.Faults.{HasTooDeep, HasTooManyNodes}
 use Rattle.hierarchy.proofs.Refused.{else_free}
-use Rattle.hierarchy.proofs.refusals.refuse_too_deep_on.Goals as goal
+use Rattle.hierarchy.proofs.refusals.refuse_from_too_deep.Goals as goal
 
 pub returns-clause-ok : goal.returns-clause-ok
 returns-clause-ok c =
