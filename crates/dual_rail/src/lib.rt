@@ -6,6 +6,8 @@ mod first;
 pub mod gates;
 pub mod rails;
 pub mod sets;
+#[cfg(test)]
+mod tests;
 
 pub use first::{both, either};
 pub use gates::gate;

@@ -99,7 +99,7 @@ GivenByGates net sets id bit = All (λ gate. gate.output.0 ≡ id → MayGive (g
 abbrev pub GivenByLatches : RawNet → List BitSet → ℕ → Bool → Type 0
 GivenByLatches net held id bit = AllZip (λ latch set. latch.output.0 ≡ id → IsIn bit set) net.latches held
 
-by_index : (id : ℕ) (bit : Bool) (latches : List Latch) (held : List BitSet) → length held ≡ length latches → ((k : ℕ) → k < length latches → (l : Latch) → (get_or latches k l).output.0 ≡ id → IsIn bit (get_or held k both)) → AllZip (λ latch set. latch.output.0 ≡ id → IsIn bit set) latches held
+pub by_index : (id : ℕ) (bit : Bool) (latches : List Latch) (held : List BitSet) → length held ≡ length latches → ((k : ℕ) → k < length latches → (l : Latch) → (get_or latches k l).output.0 ≡ id → IsIn bit (get_or held k both)) → AllZip (λ latch set. latch.output.0 ≡ id → IsIn bit set) latches held
 by_index id bit [] [] e each = tt
 by_index id bit [] (y ∷ held) e each = absurd (omega arith)
 by_index id bit (x ∷ latches) [] e each = absurd (omega arith)
@@ -115,7 +115,7 @@ inputs_at : (sets : ℕ → SymbolicSet) (bits : List Bool) (inputs : List NodeI
 inputs_at sets bits [] = refl
 inputs_at sets bits (x ∷ xs) = ap (λ ys. set_at bits (sets x.0) ∷ ys) (inputs_at sets bits xs)
 
-in_both : (bit : Bool) (bits : List Bool) → IsIn bit (set_at bits everything)
+pub in_both : (bit : Bool) (bits : List Bool) → IsIn bit (set_at bits everything)
 in_both true bits = refl
 in_both false bits = refl
 

@@ -7,3 +7,4 @@ pub mod Compressing
 pub mod NetRefs
 pub mod Summing
 pub mod RowSums
+pub mod Whole

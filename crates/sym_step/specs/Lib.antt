@@ -1,3 +1,4 @@
 pub mod Rows
+pub mod Samples
 pub mod Step
 pub mod private

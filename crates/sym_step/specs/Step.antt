@@ -1,13 +1,15 @@
 -- Meaning. The sets of one time under all assignments at once, by references.
-use Rattle.std.specs.Prelude.{◌≡◌, ◌<◌, ℕ, List, length, map, slice_index_or}
+use Rattle.std.specs.Prelude.{◌≡◌, ◌<◌, ℕ, Bool, List, length, map, slice_index_or}
 use Rattle.std.specs.List.{AllZip}
-use Rattle.dd_nodes.specs.Stores.{Store, IsRef, Means}
+use Rattle.dd_nodes.specs.Stores.{Store, IsRef, Means, function}
 use Rattle.net_core.specs.declared.cover.Cover.{Cover}
 use Rattle.net_core.specs.declared.raw.RawNet.{RawNet}
 use Rattle.net_core.specs.Cases.{on_rows, off_rows}
 use Rattle.net_core.specs.Work.{SymbolicSet, SymbolicCut, some_empty}
 use Rattle.dual_rail.specs.declared.rails.Rails.{Rails}
-use Rattle.dual_rail.specs.Rail.{AreRails}
+use Rattle.dual_rail.specs.Rail.{AreRails, set_of}
+use Rattle.net_core.specs.declared.bit_set.BitSet.{BitSet}
+use Rattle.net_core.specs.Possible.{Asked, ArePossible}
 use Rattle.sym_step.specs.declared.cut.Cut.{Cut}
 use Rattle.sym_step.specs.declared.made.Step.{Step}
 use Rattle.sym_step.specs.declared.rows.CoverRows.{CoverRows}
@@ -45,3 +47,19 @@ pub record IsStep (net : RawNet) (sets : ℕ → SymbolicSet) (t : Store) (r : S
   pub nets : HaveSets net sets t r.nets
   pub contradictory : Means t (some_empty net sets) r.contradictory
   pub next : AllZip (AreRails t) (map (λ latch. sets latch.input.0) net.latches) r.next
+
+-- what cuts ask under an assignment
+abbrev pub asked_of : Store → List Bool → List Cut → Asked
+asked_of s bits cuts =
+    record { cuts = map (λ c. record { node = c.node.0; on = function s c.guard bits; value = function s c.value bits }) cuts }
+
+-- the sets of the nets under an assignment
+abbrev pub sets_of : Store → List Bool → List Rails → ℕ → BitSet
+sets_of t bits rails id = set_of t bits (rails_at rails id)
+
+-- Under each assignment of so many variables the nets have the possible sets of one time, from the latches' sets and what
+-- is asked.
+abbrev pub IsPossibleStep : RawNet → List Rails → List Cut → Store → Store → Step → Type 0
+IsPossibleStep net latches cuts s t r =
+    (bits : List Bool) → length bits ≡ s.vars →
+    ArePossible net (map (set_of s bits) latches) (asked_of s bits cuts) (sets_of t bits r.nets)

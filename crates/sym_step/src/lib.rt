@@ -5,6 +5,7 @@
 pub mod cut;
 mod cuts;
 mod gates;
+pub mod laws;
 pub mod made;
 mod net_rails;
 pub mod piece;

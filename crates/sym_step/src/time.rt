@@ -3,10 +3,10 @@
 ghost use Rattle.std.specs.Prelude.{◌≡◌, ◌<◌, ◌∷◌, ◌++◌, [], ◌≤◌, ℕ, List, All, IfOk, length, map};
 ghost use Rattle.std.specs.List.{AllZip};
 ghost use Rattle.dd_nodes.specs.Diagram.{Function};
-ghost use Rattle.dd_nodes.specs.Stores.{IsRef, Means};
+ghost use Rattle.dd_nodes.specs.Stores.{IsRef, Keeps, Means};
 ghost use Rattle.net_core.specs.Work.{ArePossibleEach, SymbolicSet, SymbolicAsked, disjunction, no_bit, some_bit, sum, sums, time_work};
 ghost use Rattle.dual_rail.specs.Rail.{AreRefs, AreRails, Built, HasFunction};
-ghost use Rattle.sym_step.specs.Step.{IsCutOf, IsCutBy, IsStep, rails_at, rows_of};
+ghost use Rattle.sym_step.specs.Step.{IsCutOf, IsCutBy, IsPossibleStep, IsStep, rails_at, rows_of};
 ghost use Rattle.sym_step.specs.private.NetSets.{AreNetRails, AreNetRefs};
 ghost use Rattle.sym_step.specs.private.Parts.{HaveNets};
 
@@ -172,10 +172,8 @@ fn nets_of<N: Nodes>(
     Ok(nets)
 }
 
-/// The possible sets of one time for every assignment at once, where some set is empty, and the next latch sets. `rows`
-/// are those of the net, `latches` are the latches' sets, `cuts` is what is asked. `StepsOut` comes only where all steps
-/// are spent and a node of the work functions of this time is not held; after any error what was held stays.
-pub fn step<N: Nodes>(
+/// The step, by the work functions of one time.
+fn made_at<N: Nodes>(
     alloc: Global,
     ops: &Ops,
     nodes: &mut N,
@@ -201,4 +199,35 @@ pub fn step<N: Nodes>(
         Ok(made) => Ok(made),
         Err(_) => Err(OpFault::OutOfMemory),
     }
+}
+
+/// The possible sets of one time for every assignment at once, where some set is empty, and the next latch sets. `rows`
+/// are those of the net, `latches` are the latches' sets, `cuts` is what is asked. `StepsOut` comes only where all steps
+/// are spent and a node of the work functions of this time is not held; after any error what was held stays.
+pub fn step<N: Nodes>(
+    alloc: Global,
+    ops: &Ops,
+    nodes: &mut N,
+    net: &Net,
+    rows: &GateRows,
+    latches: &[Rails],
+    cuts: &[Cut],
+) -> Result<Step, OpFault>
+    requires rows { rows.now.covers ≡ map rows_of net.now.raw.covers }
+    requires long { length latches.now ≡ length net.now.raw.latches }
+    requires latches { All (AreRefs (N.store nodes.old)) latches.now }
+    requires cuts { All (IsCutOf (N.store nodes.old) net.now.raw) cuts.now }
+    ensures keeps { Keeps (N.store nodes.old) (N.store nodes.new) }
+    ensures refs { IfOk result (λ r. All (AreRefs (N.store nodes.new)) r.nets
+        × IsRef (N.store nodes.new) r.contradictory × All (AreRefs (N.store nodes.new)) r.next) }
+    ensures possible { IfOk result (λ r. IsPossibleStep net.now.raw latches.now cuts.now
+        (N.store nodes.old) (N.store nodes.new) r) }
+    ensures built { (ls : List SymbolicSet) (asked : SymbolicAsked) (sets : ℕ → SymbolicSet)
+        → AllZip (AreRails (N.store nodes.old)) ls latches.now
+        → AllZip (IsCutBy (N.store nodes.old)) asked.cuts cuts.now
+        → ArePossibleEach (N.store nodes.old).vars net.now.raw ls asked sets
+        → Built (time_work net.now.raw ls asked sets) (IsStep net.now.raw sets)
+        (N.store nodes.old) (N.store nodes.new) result }
+{
+    made_at(alloc, ops, nodes, net, rows, latches, cuts)
 }
