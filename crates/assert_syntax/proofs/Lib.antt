@@ -5,3 +5,6 @@ pub mod Faults
 pub mod Growth
 pub mod Whole
 pub mod Tokens
+pub mod Placed
+pub mod Named
+pub mod Least

@@ -4,5 +4,6 @@ pub mod Parses
 pub mod Places
 pub mod Spelled
 pub mod Answer
+pub mod Rules
 pub mod Texts
 pub mod private
