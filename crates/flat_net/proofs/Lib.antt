@@ -6,6 +6,7 @@ pub mod Nets
 pub mod Covered
 pub mod Marks
 pub mod Refusals
+pub mod Parting
 pub mod Placed
 pub mod Corresponds
 pub mod Flattened

@@ -8,6 +8,7 @@ pub mod flat;
 mod gates;
 mod instance;
 pub mod laws;
+mod parts;
 mod supported;
 #[cfg(test)]
 mod tests;
