@@ -7,6 +7,7 @@ pub mod Covered
 pub mod Marks
 pub mod Refusals
 pub mod Parting
+pub mod OneToOne
 pub mod Placed
 pub mod Corresponds
 pub mod Flattened

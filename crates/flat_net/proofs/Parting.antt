@@ -1,23 +1,24 @@
 -- What a hierarchy without an early fault has.
 use Rattle.std.proofs.Common.{◌≡◌, ℕ, zero, suc, ◌+◌, ◌<◌, ◌≤◌, Bool, true, false, List, [], ◌∷◌, ◌++◌, map, length, length-append, get_or, Option, None, Some, slice_get, arith, refl, sym, ap, ◌∙◌, subst, inl, inr}
 use Rattle.std.specs.Prelude.{◌⊎◌, All, filter_map, flat_map, sum_by}
-use Rattle.std.specs.List.{cons_option}
+use Rattle.std.specs.List.{AllZip, cons_option}
 use Rattle.std.proofs.lemmas.List.Sums.{sum_by-cons}
 use Rattle.blif_syntax.specs.declared.models.Item.{Item}
 use Rattle.blif_syntax.specs.declared.models.Model.{Model}
 use Rattle.blif_syntax.specs.declared.models.What.{What}
 use Rattle.blif_syntax.specs.declared.models.What.TheVariants.{Inputs, Outputs, Clock, Names, Latch, Subckt}
-use Rattle.hierarchy.specs.declared.fault.NetFault.TheVariants.{TooManyNodes}
+use Rattle.hierarchy.specs.declared.fault.NetFault.TheVariants.{TooDeep, TooManyNodes}
 use Rattle.hierarchy.specs.Faults.{HasFaultBeforeInstances, HasTooManyNodes, HasUnknownModel, IsFree}
 use Rattle.hierarchy.specs.Instances.{had_by, instances, model_at}
 use Rattle.hierarchy.specs.Lines.{GateLine, gate_lines, gate_of, signal_words}
 use Rattle.hierarchy.specs.Nets.{nets}
-use Rattle.hierarchy.specs.Sizes.{all_words, size}
+use Rattle.hierarchy.specs.Sizes.{IsShallow, all_words, size}
 use Rattle.hierarchy.proofs.Refused.{AreFreeBefore, free_before}
 use Rattle.instances.specs.declared.table.Row.{Row}
 use Rattle.instances.specs.Numbers.{AreRows}
 use Rattle.instances.proofs.Rows.{row_of}
-use Rattle.flat_net.specs.private.Passes.{lines_at}
+use Rattle.net_core.specs.declared.cover.Cover.{Cover}
+use Rattle.flat_net.specs.private.Passes.{AreInstances, Instance, IsInstance, lines_at}
 
 at_most : (n k : ℕ) → (k < n → ⊥) → n ≤ k
 at_most n k h = elim (split n k) as (λ _. n ≤ k) [ inl low ↦ low | inr high ↦ absurd (h high) ]
@@ -41,7 +42,7 @@ gates_few [] = omega arith
 gates_few (item ∷ items) = by (gate_of item.what) refl (gates_few items) (length-append (signal_words item.what) (flat_map (λ i. signal_words i.what) items))
   where
     by : (o : Option GateLine) → gate_of item.what ≡ o → length (filter_map (λ i. gate_of i.what) items) ≤ length (flat_map (λ i. signal_words i.what) items) → length (signal_words item.what ++ flat_map (λ i. signal_words i.what) items) ≡ length (signal_words item.what) + length (flat_map (λ i. signal_words i.what) items) →
-      length (cons_option o (filter_map (λ i. gate_of i.what) items)) ≤ length (signal_words item.what ++ flat_map (λ i. signal_words i.what) items)
+        length (cons_option o (filter_map (λ i. gate_of i.what) items)) ≤ length (signal_words item.what ++ flat_map (λ i. signal_words i.what) items)
     by None e again l = omega (arith, again, l)
     by (Some gate) e again l = let w = one_word item.what gate e in omega (arith, again, l, w)
 
@@ -91,3 +92,27 @@ module _ (models : List Model) where
 
   pub rows_low : (rows : List Row) → AreRows models rows → All (λ row. row.model < length models) rows
   rows_low rows table k d low = let r = row_of models rows k d table low in r.low
+
+  -- no path is longer than 64 numbers
+  pub shallow : IsFree (HasFaultBeforeInstances models) → IsShallow models
+  shallow free path model is = at_most (length path) 64 (λ deep. (free_before models free).too_deep TooDeep (record { path = path; model = model; instance = is; deep = deep }, refl))
+
+-- the first instance is the top
+pub first_instance : (models : List Model) (covers : List Cover) (all : List Instance) (d : Instance) → 0 < length models → AreInstances models covers all → (0 < length all) × IsInstance models covers (get_or all 0 d) []
+first_instance [] covers all d some are = absurd (omega arith)
+first_instance (m ∷ models) covers [] d some are = absurd are
+first_instance (m ∷ models) covers (x ∷ all) d some are = (omega arith, are.0)
+
+pub zip_length : {A B : Type 0} (R : A → B → Type 0) (xs : List A) (ys : List B) → AllZip R xs ys → length xs ≡ length ys
+zip_length R [] [] z = refl
+zip_length R [] (y ∷ ys) z = absurd z
+zip_length R (x ∷ xs) [] z = absurd z
+zip_length R (x ∷ xs) (y ∷ ys) z = ap suc (zip_length R xs ys z.1)
+
+pub some_instance : (models : List Model) (covers : List Cover) (all : List Instance) → 0 < length models → AreInstances models covers all → 0 < length all
+some_instance [] covers all some are = absurd (omega arith)
+some_instance (m ∷ models) covers [] some are = absurd are
+some_instance (m ∷ models) covers (x ∷ all) some are = omega arith
+
+pub is_first : (models : List Model) (covers : List Cover) (all : List Instance) (first : Instance) → 0 < length models → AreInstances models covers all → first ≡ get_or all 0 first → IsInstance models covers first []
+is_first models covers all first some are e = let f = first_instance models covers all first some are in subst (λ i. IsInstance models covers i []) (sym e) f.1

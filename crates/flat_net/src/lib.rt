@@ -12,6 +12,6 @@ mod parts;
 mod supported;
 #[cfg(test)]
 mod tests;
-mod whole;
+pub mod whole;
 
 pub use flat::{FlatNet, flatten};
