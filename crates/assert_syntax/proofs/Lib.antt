@@ -8,3 +8,4 @@ pub mod Tokens
 pub mod Placed
 pub mod Named
 pub mod Least
+pub mod ReadBack

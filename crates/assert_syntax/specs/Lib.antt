@@ -6,4 +6,5 @@ pub mod Spelled
 pub mod Answer
 pub mod Rules
 pub mod Texts
+pub mod Written
 pub mod private

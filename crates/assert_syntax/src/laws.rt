@@ -2,6 +2,7 @@
 
 ghost use Rattle.assert_syntax.specs.Rules.{FirstFaultIsLeast};
 ghost use Rattle.assert_syntax.specs.Texts.{WordsAreTheText};
+ghost use Rattle.assert_syntax.specs.Written.{WrittenIsRead};
 
 /// Law: the words of an expression, joined by one blank, spell what its text spells, whatever blanks stand between the
 /// words. Words on several physical lines have the tokens of the lines.
@@ -12,4 +13,9 @@ pub fn words_are_the_text()
 /// Law: the first fault is that of the first line that has one, and where there is none no line has one.
 pub fn first_fault_is_least()
     ensures { FirstFaultIsLeast }
+{}
+
+/// Law: tasks that are written out as lines are read back, with no fault.
+pub fn written_is_read()
+    ensures { WrittenIsRead }
 {}

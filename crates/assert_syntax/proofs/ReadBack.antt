@@ -1,0 +1,569 @@
+-- Tasks that are written out are read back.
+use Rattle.std.proofs.Common.{ℕ, suc, ◌+◌, ◌<◌, ◌≤◌, ◌≡◌, refl, sym, ap, subst, ◌∙◌, List, [], ◌∷◌, ◌++◌, length, get_or, take, drop, map, filter, arith, Bool, true, false, ◌&&◌, ◌||◌, if◌then◌else◌, Option, None, Some, codes, nat_le, nat_lt, bytes_eq, append_assoc, append-nil, length-append}
+use Rattle.std.specs.Prelude.{All, cond, unwrap_or}
+use Rattle.std.specs.List.{Contains, flat_map, list_all, list_any, position, position_or_len}
+use Rattle.std.proofs.lemmas.Bool.{eqb-true}
+use Rattle.std.proofs.Math.Seq.{take-append_seam, drop-append_seam}
+use Rattle.std.proofs.Math.ListN.{get_or-append}
+use Rattle.std.proofs.lemmas.List.{get_or-append-add, map-append}
+use Rattle.std.proofs.lemmas.List.Elements.{All-head, All-tail, Contains-append_left, Contains-append_right}
+use Rattle.std.proofs.lemmas.List.Folds.{position_or_len_push}
+use Rattle.std.proofs.lemmas.List.Sums.{fails_before_first, fold-append, position_or_len_is, prefix_len-le-length}
+use Rattle.std.proofs.Math.Dec.{eqb}
+use Rattle.std.proofs.lemmas.Slice.Eq.{bytes_eq-Decides}
+use Rattle.indexmap.specs.IndexSet.{insert_all, insert_key}
+use Rattle.blif_lines.specs.declared.lines.Line.{Line}
+use Rattle.blif_lines.specs.Laws.{spaced}
+use Rattle.bool_expr.specs.Grammar.{Expression, literal, nesting, single, spelling}
+use Rattle.bool_expr.specs.declared.token.Sign.TheVariants.{Or, Xor, And}
+use Rattle.bool_expr.specs.Read.{Spells, first_unknown, number_in}
+use Rattle.bool_expr.proofs.Answered.{one_tree}
+use Rattle.assert_syntax.specs.declared.form.Clause.{Clause}
+use Rattle.assert_syntax.specs.declared.form.Entry.{Entry}
+use Rattle.assert_syntax.specs.declared.form.Form.{Form}
+use Rattle.assert_syntax.specs.declared.form.Form.TheVariants as form
+use Rattle.assert_syntax.specs.declared.form.LineFault.{LineFault}
+use Rattle.assert_syntax.specs.declared.form.Moment.TheVariants as moment
+use Rattle.assert_syntax.specs.declared.form.Side.{Side}
+use Rattle.assert_syntax.specs.declared.form.Side.TheVariants.{Antecedent, Consequent}
+use Rattle.assert_syntax.specs.declared.form.Span.{Span}
+use Rattle.assert_syntax.specs.declared.form.Span.TheVariants as span
+use Rattle.assert_syntax.specs.declared.place.Place.{Place}
+use Rattle.assert_syntax.specs.declared.place.Place.TheVariants as place
+use Rattle.assert_syntax.specs.declared.form.LineFault.TheVariants.{Bad}
+use Rattle.assert_syntax.specs.Answer.{entry_of, entries_of}
+use Rattle.assert_syntax.specs.Forms.{clause_of, clause_with, expression_length, form_of, guarded, span_of, valued}
+use Rattle.assert_syntax.specs.Parses.{Parse, IsParse, IsSpelled, is_deep, tree_over}
+use Rattle.assert_syntax.specs.Places.{Context, clause_fault, context_behind, context_of, fault_or, first_double, first_fault, graph_fault, holds_edges, line_fault, names_fault, span_fits}
+use Rattle.assert_syntax.specs.Rules.{IsFirstDouble}
+use Rattle.assert_syntax.specs.Spelled.{QuintTree, BindTree, EdgeTree, TaskTree, assertion, graph, bind_said, binds_of, edges_of, from_of, is_side, quint_said, quints_of, tasks_of, to_of, vars_with, vertex_number, vertices_of}
+use Rattle.assert_syntax.specs.Words.{ends_expression, is_variable, moment_of}
+use Rattle.assert_syntax.specs.Written.{SaidClause, SaidEdge, SaidTask, SaidTimes, ste, gste, AreSayable, AreTimes, IsBindSaid, IsExpression, IsGuard, IsQuintSaid, IsSayable, IsTimed, WrittenIsRead, clause_line, clause_words, edge_lines, ends_of, guard_text, guard_words, line_of, on_side, reset_words, said_bind, said_edge, said_from, said_name, said_quint, said_task, said_to, side_word, task_lines, times_words, vars_lines, vertices_said, written}
+use Rattle.assert_syntax.proofs.Faults.{fault_from, same_fault}
+use Rattle.assert_syntax.proofs.Named.{double_found, found_in, stands_in}
+
+-- the clause that is read
+abbrev said_span : Option SaidTimes → Span
+said_span None = span.Absent
+said_span (Some times) = span.During times.from times.to
+
+abbrev said_clause : SaidClause → Clause
+said_clause c = record { side = c.side; node = c.node; value = spaced c.value; guard = guard_text c.guard; span = said_span c.times }
+
+-- the lines with their forms
+abbrev entry : ℕ → Form → Entry
+entry line form = record { line = line; form = form }
+
+abbrev clause_entry : SaidClause → Entry
+clause_entry c = entry c.line (form.Clause (said_clause c))
+
+abbrev edge_entries : SaidEdge → List Entry
+edge_entries e = entry e.line (form.Edge e.from e.to) ∷ map clause_entry e.clauses
+
+abbrev task_entries : SaidTask → List Entry
+task_entries (ste line name reset clauses) = entry line (form.Ste name reset) ∷ (map clause_entry clauses ++ entry line form.End ∷ [])
+task_entries (gste line name vertex reset edges) = entry line (form.Gste name vertex reset) ∷ (flat_map edge_entries edges ++ entry line form.End ∷ [])
+
+abbrev vars_entries : List (List ℕ) → List Entry
+vars_entries [] = []
+vars_entries (name ∷ names) = entry 1 (form.Vars (name ∷ names)) ∷ []
+
+-- places
+place_by : (b : Bool) (n len : ℕ) → nat_lt n len ≡ b → n ≤ len → unwrap_or (cond b (Some n) None) len ≡ n
+place_by true n len e h = refl
+place_by false n len e h = let k : len ≤ n = grind (arith, e) in omega (arith, h, k)
+
+place_is : {A : Type 0} (p : A → Bool) (xs : List A) → unwrap_or (position p xs) (length xs) ≡ position_or_len p xs
+place_is p xs = place_by (nat_lt (position_or_len p xs) (length xs)) (position_or_len p xs) (length xs) refl (prefix_len-le-length _ xs)
+
+-- words that end an expression, or none
+abbrev Ends : List (List ℕ) → Type 0
+Ends rest = (d : List ℕ) → 0 < length rest → ends_expression (get_or rest 0 d) ≡ true
+
+up_to_end : (words rest : List (List ℕ)) → All (λ word. ends_expression word ≡ false) words → Ends rest → expression_length (words ++ rest) ≡ length words
+up_to_end words rest goes ends =
+    place_is ends_expression (words ++ rest) ∙ position_or_len_is ends_expression (words ++ rest) (length words) [] (let n = length-append words rest in omega (arith, n))
+    (λ k h. ap ends_expression (get_or-append words rest [] k h) ∙ goes k [] h)
+    (λ h. let n = length-append words rest in
+    let zero_more : length words ≡ length words + 0 = omega arith in
+    ap (λ i. ends_expression (get_or (words ++ rest) i [])) zero_more ∙ ap ends_expression (get_or-append-add words rest 0 []) ∙ ends [] (omega (arith, h, n)))
+
+times_end : (times : Option SaidTimes) → Ends (times_words times)
+times_end None d h = absurd (omega (arith, h))
+times_end (Some times) d h = refl
+
+guard_ends : (guard : Option (List (List ℕ))) (times : Option SaidTimes) → Ends (guard_words guard ++ times_words times)
+guard_ends None times d h = times_end times d h
+guard_ends (Some words) times d h = refl
+
+-- the times as they are written say what they are
+abbrev AreSaid : Option SaidTimes → Type 0
+AreSaid None = Unit {0}
+AreSaid (Some times) = AreTimes times
+
+le_true : (a b : ℕ) → a ≤ b → nat_le a b ≡ true
+le_true a b h = grind (arith, h)
+
+span_is : (times : Option SaidTimes) → AreSaid times → span_of (times_words times) ≡ Some (said_span times)
+span_is None said = refl
+span_is (Some times) said = rw said.first (rw said.last (rw (le_true times.from times.to said.ordered) refl))
+
+-- the words of a guard do not end it
+abbrev IsOpen : Option (List (List ℕ)) → Type 0
+IsOpen None = Unit {0}
+IsOpen (Some words) = All (λ word. ends_expression word ≡ false) words
+
+guard_form : (side : Side) (node value : List ℕ) (words : List (List ℕ)) (times : Option SaidTimes) → All (λ word. ends_expression word ≡ false) words → AreSaid times → guarded side node value (words ++ times_words times) ≡ form.Clause (record { side = side; node = node; value = value; guard = spaced words; span = said_span times })
+guard_form side node value words times goes said =
+    let rest = times_words times in
+    ap (λ n. clause_with side node value (spaced (take n (words ++ rest))) (span_of (drop n (words ++ rest)))) (up_to_end words rest goes (times_end times))
+    ∙ ap (λ k. clause_with side node value (spaced k) (span_of (drop (length words) (words ++ rest)))) (take-append_seam words rest)
+    ∙ ap (λ k. clause_with side node value (spaced words) (span_of k)) (drop-append_seam words rest)
+    ∙ ap (clause_with side node value (spaced words)) (span_is times said)
+
+valued_form : (side : Side) (node value : List ℕ) (guard : Option (List (List ℕ))) (times : Option SaidTimes) → IsOpen guard → AreSaid times → valued side node value (guard_words guard ++ times_words times) ≡ form.Clause (record { side = side; node = node; value = value; guard = guard_text guard; span = said_span times })
+valued_form side node value None None goes said = refl
+valued_form side node value None (Some times) goes said = ap (clause_with side node value (codes "1")) (span_is (Some times) said)
+valued_form side node value (Some words) times goes said = guard_form side node value words times goes said
+
+behind_equals : (side : Side) (node : List ℕ) (value rest : List (List ℕ)) → All (λ word. ends_expression word ≡ false) value → Ends rest → clause_of side (node ∷ codes "=" ∷ (value ++ rest)) ≡ valued side node (spaced value) rest
+behind_equals side node value rest goes ends =
+    ap (λ n. valued side node (spaced (take n (value ++ rest))) (drop n (value ++ rest))) (up_to_end value rest goes ends)
+    ∙ ap (λ k. valued side node (spaced k) (drop (length value) (value ++ rest))) (take-append_seam value rest)
+    ∙ ap (valued side node (spaced value)) (drop-append_seam value rest)
+
+side_form : (side : Side) (words : List (List ℕ)) → form_of (side_word side ∷ words) ≡ clause_of side words
+side_form Antecedent words = refl
+side_form Consequent words = refl
+
+clause_form : (c : SaidClause) → All (λ word. ends_expression word ≡ false) c.value → IsOpen c.guard → AreSaid c.times → form_of (clause_words c) ≡ form.Clause (said_clause c)
+clause_form c value guard times =
+    let rest = guard_words c.guard ++ times_words c.times in
+    side_form c.side (c.node ∷ codes "=" ∷ (c.value ++ rest))
+    ∙ behind_equals c.side c.node c.value rest value (guard_ends c.guard c.times)
+    ∙ valued_form c.side c.node (spaced c.value) c.guard c.times guard times
+
+open_guard : (vars : List (List ℕ)) (guard : Option (List (List ℕ))) → IsGuard vars guard → IsOpen guard
+open_guard vars None g = tt
+open_guard vars (Some words) g = g.goes_on
+
+quint_times : (times : Option SaidTimes) → IsTimed times → AreSaid times
+quint_times None t = tt
+quint_times (Some times) t = t
+
+bind_times : (times : Option SaidTimes) → times ≡ None → AreSaid times
+bind_times None e = tt
+bind_times (Some times) e = absurd (cc e)
+
+one_spelled : (c : SaidClause) → form_of (clause_words c) ≡ form.Clause (said_clause c) → entry_of (clause_line c) ≡ clause_entry c
+one_spelled c e = ap (entry c.line) e
+
+quints_spelled : (vars : List (List ℕ)) (cs : List SaidClause) → All (IsQuintSaid vars) cs → entries_of (map clause_line cs) ≡ map clause_entry cs
+quints_spelled vars [] all = refl
+quints_spelled vars (c ∷ cs) all =
+    let h = All-head (IsQuintSaid vars) c cs all in
+    ap (λ e. e ∷ entries_of (map clause_line cs)) (one_spelled c (clause_form c h.value.goes_on (open_guard vars c.guard h.guard) (quint_times c.times h.times)))
+    ∙ ap (λ es. clause_entry c ∷ es) (quints_spelled vars cs (All-tail (IsQuintSaid vars) c cs all))
+
+binds_spelled : (vars : List (List ℕ)) (cs : List SaidClause) → All (IsBindSaid vars) cs → entries_of (map clause_line cs) ≡ map clause_entry cs
+binds_spelled vars [] all = refl
+binds_spelled vars (c ∷ cs) all =
+    let h = All-head (IsBindSaid vars) c cs all in
+    ap (λ e. e ∷ entries_of (map clause_line cs)) (one_spelled c (clause_form c h.value.goes_on (open_guard vars c.guard h.guard) (bind_times c.times h.times)))
+    ∙ ap (λ es. clause_entry c ∷ es) (binds_spelled vars cs (All-tail (IsBindSaid vars) c cs all))
+
+abbrev EdgeSaid : List (List ℕ) → SaidEdge → Type 0
+EdgeSaid vars e = All (IsBindSaid vars) e.clauses
+
+edges_spelled : (vars : List (List ℕ)) (es : List SaidEdge) → All (EdgeSaid vars) es → entries_of (flat_map edge_lines es) ≡ flat_map edge_entries es
+edges_spelled vars [] all = refl
+edges_spelled vars (e ∷ es) all =
+    map-append entry_of (edge_lines e) (flat_map edge_lines es)
+    ∙ ap (λ k. (entry e.line (form.Edge e.from e.to) ∷ k) ++ entries_of (flat_map edge_lines es)) (binds_spelled vars e.clauses (All-head (EdgeSaid vars) e es all))
+    ∙ ap (λ k. edge_entries e ++ k) (edges_spelled vars es (All-tail (EdgeSaid vars) e es all))
+
+ste_form : (name : List ℕ) (reset : Bool) → form_of (codes ".ste" ∷ name ∷ reset_words reset) ≡ form.Ste name reset
+ste_form name true = refl
+ste_form name false = refl
+
+gste_form : (name vertex : List ℕ) (reset : Bool) → form_of (codes ".gste" ∷ name ∷ vertex ∷ reset_words reset) ≡ form.Gste name vertex reset
+gste_form name vertex true = refl
+gste_form name vertex false = refl
+
+task_spelled : (vars : List (List ℕ)) (t : SaidTask) → IsSayable vars t → entries_of (task_lines t) ≡ task_entries t
+task_spelled vars (ste line name reset cs) say =
+    ap (λ f. entry line f ∷ entries_of (map clause_line cs ++ line_of line (codes ".end" ∷ []) ∷ [])) (ste_form name reset)
+    ∙ ap (λ k. entry line (form.Ste name reset) ∷ k) (map-append entry_of (map clause_line cs) (line_of line (codes ".end" ∷ []) ∷ []) ∙ ap (λ k. k ++ entry line form.End ∷ []) (quints_spelled vars cs say))
+task_spelled vars (gste line name vertex reset es) say =
+    ap (λ f. entry line f ∷ entries_of (flat_map edge_lines es ++ line_of line (codes ".end" ∷ []) ∷ [])) (gste_form name vertex reset)
+    ∙ ap (λ k. entry line (form.Gste name vertex reset) ∷ k) (map-append entry_of (flat_map edge_lines es) (line_of line (codes ".end" ∷ []) ∷ []) ∙ ap (λ k. k ++ entry line form.End ∷ []) (edges_spelled vars es say.2))
+
+tasks_spelled : (vars : List (List ℕ)) (ts : List SaidTask) → All (IsSayable vars) ts → entries_of (flat_map task_lines ts) ≡ flat_map task_entries ts
+tasks_spelled vars [] all = refl
+tasks_spelled vars (t ∷ ts) all =
+    map-append entry_of (task_lines t) (flat_map task_lines ts)
+    ∙ ap (λ k. k ++ entries_of (flat_map task_lines ts)) (task_spelled vars t (All-head (IsSayable vars) t ts all))
+    ∙ ap (λ k. task_entries t ++ k) (tasks_spelled vars ts (All-tail (IsSayable vars) t ts all))
+
+vars_form : (b : Bool) (names : List (List ℕ)) → b ≡ true → (if b then form.Vars names else form.Wrong) ≡ form.Vars names
+vars_form true names e = refl
+vars_form false names e = absurd (cc e)
+
+vars_spelled : (vars : List (List ℕ)) → list_all is_variable vars ≡ true → entries_of (vars_lines vars) ≡ vars_entries vars
+vars_spelled [] e = refl
+vars_spelled (name ∷ names) e = ap (λ f. entry 1 f ∷ []) (vars_form (list_all is_variable (name ∷ names)) (name ∷ names) e)
+
+all_spelled : (vars : List (List ℕ)) (ts : List SaidTask) → AreSayable vars ts → entries_of (written vars ts) ≡ vars_entries vars ++ flat_map task_entries ts
+all_spelled vars ts say =
+    map-append entry_of (vars_lines vars) (flat_map task_lines ts)
+    ∙ ap (λ k. k ++ entries_of (flat_map task_lines ts)) (vars_spelled vars say.variables)
+    ∙ ap (λ k. vars_entries vars ++ k) (tasks_spelled vars ts say.each)
+
+-- what is read
+from_is : (times : Option SaidTimes) → from_of (said_span times) ≡ said_from times
+from_is None = refl
+from_is (Some times) = refl
+
+to_is : (times : Option SaidTimes) → to_of (said_span times) ≡ said_to times
+to_is None = refl
+to_is (Some times) = refl
+
+quint_is : (parse : Parse) (vars : List (List ℕ)) (c : SaidClause) → quint_said parse vars c.line (said_clause c) ≡ said_quint parse vars c
+quint_is parse vars c =
+    ap (λ n. record { line = c.line; guard = tree_over vars (parse (guard_text c.guard)); node = c.node; value = tree_over vars (parse (spaced c.value)); from = n; to = to_of (said_span c.times) }) (from_is c.times)
+    ∙ ap (λ n. record { line = c.line; guard = tree_over vars (parse (guard_text c.guard)); node = c.node; value = tree_over vars (parse (spaced c.value)); from = said_from c.times; to = n }) (to_is c.times)
+
+one_more : {A B : Type 0} (b : Bool) (f : A → B) (c : A) (q : B) (ys : List A) (x z : List B) → q ≡ f c → x ≡ map f ys ++ z → (if b then q ∷ x else x) ≡ map f (cond b (c ∷ ys) ys) ++ z
+one_more true f c q ys x z e h = ap (λ k. k ∷ x) e ∙ ap (λ k. f c ∷ k) h
+one_more false f c q ys x z e h = h
+
+quints_read : (parse : Parse) (side : Side) (vars : List (List ℕ)) (cs : List SaidClause) (rest : List Entry) → quints_of parse side vars (map clause_entry cs ++ rest) ≡ map (said_quint parse vars) (on_side side cs) ++ quints_of parse side vars rest
+quints_read parse side vars [] rest = refl
+quints_read parse side vars (c ∷ cs) rest = one_more (is_side side c.side) (said_quint parse vars) c (quint_said parse vars c.line (said_clause c)) (on_side side cs) _ _ (quint_is parse vars c) (quints_read parse side vars cs rest)
+
+binds_read : (parse : Parse) (side : Side) (vars : List (List ℕ)) (cs : List SaidClause) (rest : List Entry) → binds_of parse side vars (map clause_entry cs ++ rest) ≡ map (said_bind parse vars) (on_side side cs) ++ binds_of parse side vars rest
+binds_read parse side vars [] rest = refl
+binds_read parse side vars (c ∷ cs) rest = one_more (is_side side c.side) (said_bind parse vars) c (bind_said parse vars c.line (said_clause c)) (on_side side cs) _ _ refl (binds_read parse side vars cs rest)
+
+-- later tasks have no part in one
+abbrev Later : List SaidTask → List Entry
+Later ts = flat_map task_entries ts
+
+no_quints : (parse : Parse) (side : Side) (vars : List (List ℕ)) (ts : List SaidTask) → quints_of parse side vars (Later ts) ≡ []
+no_quints parse side vars [] = refl
+no_quints parse side vars (ste line name reset cs ∷ ts) = refl
+no_quints parse side vars (gste line name vertex reset es ∷ ts) = refl
+
+no_binds : (parse : Parse) (side : Side) (vars : List (List ℕ)) (ts : List SaidTask) → binds_of parse side vars (Later ts) ≡ []
+no_binds parse side vars [] = refl
+no_binds parse side vars (ste line name reset cs ∷ ts) = refl
+no_binds parse side vars (gste line name vertex reset es ∷ ts) = refl
+
+no_vertices : (vertices : List (List ℕ)) (ts : List SaidTask) → vertices_of vertices (Later ts) ≡ vertices
+no_vertices vertices [] = refl
+no_vertices vertices (ste line name reset cs ∷ ts) = refl
+no_vertices vertices (gste line name vertex reset es ∷ ts) = refl
+
+no_edges : (parse : Parse) (vars vertices : List (List ℕ)) (ts : List SaidTask) → edges_of parse vars vertices (Later ts) ≡ []
+no_edges parse vars vertices [] = refl
+no_edges parse vars vertices (ste line name reset cs ∷ ts) = refl
+no_edges parse vars vertices (gste line name vertex reset es ∷ ts) = refl
+
+-- clauses are in no list of tasks, vertices or edges
+tasks_past : (parse : Parse) (vars : List (List ℕ)) (cs : List SaidClause) (rest : List Entry) → tasks_of parse vars (map clause_entry cs ++ rest) ≡ tasks_of parse vars rest
+tasks_past parse vars [] rest = refl
+tasks_past parse vars (c ∷ cs) rest = tasks_past parse vars cs rest
+
+vertices_past : (vertices : List (List ℕ)) (cs : List SaidClause) (rest : List Entry) → vertices_of vertices (map clause_entry cs ++ rest) ≡ vertices_of vertices rest
+vertices_past vertices [] rest = refl
+vertices_past vertices (c ∷ cs) rest = vertices_past vertices cs rest
+
+edges_past : (parse : Parse) (vars vertices : List (List ℕ)) (cs : List SaidClause) (rest : List Entry) → edges_of parse vars vertices (map clause_entry cs ++ rest) ≡ edges_of parse vars vertices rest
+edges_past parse vars vertices [] rest = refl
+edges_past parse vars vertices (c ∷ cs) rest = edges_past parse vars vertices cs rest
+
+-- the lines of edges, and what is behind them
+edge_apart : (e : SaidEdge) (es : List SaidEdge) (rest : List Entry) → flat_map edge_entries (e ∷ es) ++ rest ≡ entry e.line (form.Edge e.from e.to) ∷ (map clause_entry e.clauses ++ (flat_map edge_entries es ++ rest))
+edge_apart e es rest = append_assoc (edge_entries e) (flat_map edge_entries es) rest
+
+tasks_past_edges : (parse : Parse) (vars : List (List ℕ)) (es : List SaidEdge) (rest : List Entry) → tasks_of parse vars (flat_map edge_entries es ++ rest) ≡ tasks_of parse vars rest
+tasks_past_edges parse vars [] rest = refl
+tasks_past_edges parse vars (e ∷ es) rest = ap (tasks_of parse vars) (edge_apart e es rest) ∙ tasks_past parse vars e.clauses (flat_map edge_entries es ++ rest) ∙ tasks_past_edges parse vars es rest
+
+vertices_read : (vertices : List (List ℕ)) (es : List SaidEdge) (rest : List Entry) → ((vs : List (List ℕ)) → vertices_of vs rest ≡ vs) → vertices_of vertices (flat_map edge_entries es ++ rest) ≡ insert_all bytes_eq vertices (flat_map ends_of es)
+vertices_read vertices [] rest none = none vertices
+vertices_read vertices (e ∷ es) rest none =
+    let more = insert_all bytes_eq vertices (ends_of e) in
+    ap (vertices_of vertices) (edge_apart e es rest) ∙ vertices_past more e.clauses (flat_map edge_entries es ++ rest) ∙ vertices_read more es rest none ∙ sym (fold-append _ vertices (ends_of e) (flat_map ends_of es))
+
+-- a vertex keeps its number
+number_below : (vertices : List (List ℕ)) (word : List ℕ) → Contains vertices word → position_or_len (bytes_eq word) vertices ≡ length vertices → ⊥
+number_below vertices word (k, h, e) all =
+    let fails = fails_before_first (bytes_eq word) vertices k word (omega (arith, h, all)) in
+    let finds = (bytes_eq-Decides word (get_or vertices k word)).1 (sym e) in
+    let clash = sym fails ∙ finds in absurd (cc clash)
+
+push_by : (b : Bool) (n len : ℕ) (more : ℕ) → eqb n len ≡ b → (n ≡ len → ⊥) → cond b more n ≡ n
+push_by true n len more e apart = absurd (apart (eqb-true n len e))
+push_by false n len more e apart = refl
+
+insert_by : (b : Bool) (vertices : List (List ℕ)) (x word : List ℕ) → Contains vertices word → vertex_number (if b then vertices else vertices ++ x ∷ []) word ≡ vertex_number vertices word
+insert_by true vertices x word c = refl
+insert_by false vertices x word c =
+    place_is (bytes_eq word) (vertices ++ x ∷ []) ∙ position_or_len_push (bytes_eq word) vertices x
+    ∙ push_by (eqb (position_or_len (bytes_eq word) vertices) (length vertices)) (position_or_len (bytes_eq word) vertices) (length vertices) _ refl (number_below vertices word c)
+    ∙ sym (place_is (bytes_eq word) vertices)
+
+contains_by : (b : Bool) (vertices : List (List ℕ)) (x word : List ℕ) → Contains vertices word → Contains (if b then vertices else vertices ++ x ∷ []) word
+contains_by true vertices x word c = c
+contains_by false vertices x word c = Contains-append_left vertices (x ∷ []) word c
+
+number_stays : (vertices xs : List (List ℕ)) (word : List ℕ) → Contains vertices word → vertex_number (insert_all bytes_eq vertices xs) word ≡ vertex_number vertices word
+number_stays vertices [] word c = refl
+number_stays vertices (x ∷ xs) word c =
+    number_stays (insert_key bytes_eq vertices x) xs word (contains_by (list_any (bytes_eq x) vertices) vertices x word c) ∙ insert_by (list_any (bytes_eq x) vertices) vertices x word c
+
+stays_in : (vertices xs : List (List ℕ)) (word : List ℕ) → Contains vertices word → Contains (insert_all bytes_eq vertices xs) word
+stays_in vertices [] word c = c
+stays_in vertices (x ∷ xs) word c = stays_in (insert_key bytes_eq vertices x) xs word (contains_by (list_any (bytes_eq x) vertices) vertices x word c)
+
+inserted_by : (b : Bool) (vertices : List (List ℕ)) (x : List ℕ) → list_any (bytes_eq x) vertices ≡ b → Contains (if b then vertices else vertices ++ x ∷ []) x
+inserted_by true vertices x e = stands_in vertices x e
+inserted_by false vertices x e = Contains-append_right vertices (x ∷ []) x (0, omega arith, refl)
+
+inserted : (vertices : List (List ℕ)) (x : List ℕ) → Contains (insert_key bytes_eq vertices x) x
+inserted vertices x = inserted_by (list_any (bytes_eq x) vertices) vertices x refl
+
+-- the edges
+edges_read : (parse : Parse) (vars vertices all : List (List ℕ)) (es : List SaidEdge) (rest : List Entry) → all ≡ insert_all bytes_eq vertices (flat_map ends_of es) → ((vs : List (List ℕ)) → edges_of parse vars vs rest ≡ []) → ((side : Side) → binds_of parse side vars rest ≡ []) → edges_of parse vars vertices (flat_map edge_entries es ++ rest) ≡ map (said_edge parse vars all) es
+edges_read parse vars vertices all [] rest e none no_bind = none vertices
+edges_read parse vars vertices all (edge ∷ es) rest e none no_bind =
+    let more = insert_all bytes_eq vertices (ends_of edge) in
+    let behind = flat_map edge_entries es ++ rest in
+    let whole : all ≡ insert_all bytes_eq more (flat_map ends_of es) = e ∙ fold-append _ vertices (ends_of edge) (flat_map ends_of es) in
+    let from : vertex_number more edge.from ≡ vertex_number all edge.from = sym (ap (λ vs. vertex_number vs edge.from) whole ∙ number_stays more (flat_map ends_of es) edge.from (stays_in (insert_key bytes_eq vertices edge.from) (edge.to ∷ []) edge.from (inserted vertices edge.from))) in
+    let to : vertex_number more edge.to ≡ vertex_number all edge.to = sym (ap (λ vs. vertex_number vs edge.to) whole ∙ number_stays more (flat_map ends_of es) edge.to (inserted (insert_key bytes_eq vertices edge.from) edge.to)) in
+    let nothing : (side : Side) → binds_of parse side vars behind ≡ [] = no_more es in
+    let side_read : (side : Side) → binds_of parse side vars (map clause_entry edge.clauses ++ behind) ≡ map (said_bind parse vars) (on_side side edge.clauses) = λ side. binds_read parse side vars edge.clauses behind ∙ ap (λ k. map (said_bind parse vars) (on_side side edge.clauses) ++ k) (nothing side) ∙ append-nil (map (said_bind parse vars) (on_side side edge.clauses)) in
+    ap (edges_of parse vars vertices) (edge_apart edge es rest)
+    ∙ ap (λ k. record { line = edge.line; from = vertex_number more edge.from; to = vertex_number more edge.to; ant = binds_of parse Antecedent vars (map clause_entry edge.clauses ++ behind); con = binds_of parse Consequent vars (map clause_entry edge.clauses ++ behind) } ∷ k) (edges_past parse vars more edge.clauses behind ∙ edges_read parse vars more all es rest whole none no_bind)
+    ∙ ap (λ k. record { line = edge.line; from = k; to = vertex_number more edge.to; ant = binds_of parse Antecedent vars (map clause_entry edge.clauses ++ behind); con = binds_of parse Consequent vars (map clause_entry edge.clauses ++ behind) } ∷ map (said_edge parse vars all) es) from
+    ∙ ap (λ k. record { line = edge.line; from = vertex_number all edge.from; to = k; ant = binds_of parse Antecedent vars (map clause_entry edge.clauses ++ behind); con = binds_of parse Consequent vars (map clause_entry edge.clauses ++ behind) } ∷ map (said_edge parse vars all) es) to
+    ∙ ap (λ k. record { line = edge.line; from = vertex_number all edge.from; to = vertex_number all edge.to; ant = k; con = binds_of parse Consequent vars (map clause_entry edge.clauses ++ behind) } ∷ map (said_edge parse vars all) es) (side_read Antecedent)
+    ∙ ap (λ k. record { line = edge.line; from = vertex_number all edge.from; to = vertex_number all edge.to; ant = map (said_bind parse vars) (on_side Antecedent edge.clauses); con = k } ∷ map (said_edge parse vars all) es) (side_read Consequent)
+  where
+    no_more : (es : List SaidEdge) (side : Side) → binds_of parse side vars (flat_map edge_entries es ++ rest) ≡ []
+    no_more [] side = no_bind side
+    no_more (e ∷ es) side = refl
+
+-- a task, and the later ones
+ended : (front : List Entry) (line : ℕ) (ts : List SaidTask) → (front ++ entry line form.End ∷ []) ++ Later ts ≡ front ++ entry line form.End ∷ Later ts
+ended front line ts = append_assoc front (entry line form.End ∷ []) (Later ts)
+
+task_read : (parse : Parse) (vars : List (List ℕ)) (t : SaidTask) (ts : List SaidTask) → tasks_of parse vars (task_entries t ++ Later ts) ≡ said_task parse vars t ∷ tasks_of parse vars (Later ts)
+task_read parse vars (ste line name reset cs) ts =
+    let rest = entry line form.End ∷ Later ts in
+    let side_read : (side : Side) → quints_of parse side vars (map clause_entry cs ++ rest) ≡ map (said_quint parse vars) (on_side side cs) = λ side. quints_read parse side vars cs rest ∙ ap (λ k. map (said_quint parse vars) (on_side side cs) ++ k) (no_quints parse side vars ts) ∙ append-nil (map (said_quint parse vars) (on_side side cs)) in
+    ap (λ k. tasks_of parse vars (entry line (form.Ste name reset) ∷ k)) (ended (map clause_entry cs) line ts)
+    ∙ ap (λ k. assertion line name reset k (quints_of parse Consequent vars (map clause_entry cs ++ rest)) ∷ tasks_of parse vars (map clause_entry cs ++ rest)) (side_read Antecedent)
+    ∙ ap (λ k. assertion line name reset (map (said_quint parse vars) (on_side Antecedent cs)) k ∷ tasks_of parse vars (map clause_entry cs ++ rest)) (side_read Consequent)
+    ∙ ap (λ k. said_task parse vars (ste line name reset cs) ∷ k) (tasks_past parse vars cs rest)
+task_read parse vars (gste line name vertex reset es) ts =
+    let rest = entry line form.End ∷ Later ts in
+    ap (λ k. tasks_of parse vars (entry line (form.Gste name vertex reset) ∷ k)) (ended (flat_map edge_entries es) line ts)
+    ∙ ap (λ k. graph line name reset k (edges_of parse vars (vertex ∷ []) (flat_map edge_entries es ++ rest)) ∷ tasks_of parse vars (flat_map edge_entries es ++ rest)) (vertices_read (vertex ∷ []) es rest (λ vs. no_vertices vs ts))
+    ∙ ap (λ k. graph line name reset (vertices_said vertex es) k ∷ tasks_of parse vars (flat_map edge_entries es ++ rest)) (edges_read parse vars (vertex ∷ []) (vertices_said vertex es) es rest refl (λ vs. no_edges parse vars vs ts) (λ side. no_binds parse side vars ts))
+    ∙ ap (λ k. said_task parse vars (gste line name vertex reset es) ∷ k) (tasks_past_edges parse vars es rest)
+
+tasks_read : (parse : Parse) (vars : List (List ℕ)) (ts : List SaidTask) → tasks_of parse vars (Later ts) ≡ map (said_task parse vars) ts
+tasks_read parse vars [] = refl
+tasks_read parse vars (t ∷ ts) = task_read parse vars t ts ∙ ap (λ k. said_task parse vars t ∷ k) (tasks_read parse vars ts)
+
+all_read : (parse : Parse) (vars : List (List ℕ)) (ts : List SaidTask) → tasks_of parse [] (vars_entries vars ++ Later ts) ≡ map (said_task parse vars) ts
+all_read parse [] ts = tasks_read parse [] ts
+all_read parse (name ∷ names) ts = tasks_read parse (name ∷ names) ts
+
+-- the variables
+vars_past : (vars : List (List ℕ)) (cs : List SaidClause) (rest : List Entry) → vars_with vars (map clause_entry cs ++ rest) ≡ vars_with vars rest
+vars_past vars [] rest = refl
+vars_past vars (c ∷ cs) rest = vars_past vars cs rest
+
+vars_past_edges : (vars : List (List ℕ)) (es : List SaidEdge) (rest : List Entry) → vars_with vars (flat_map edge_entries es ++ rest) ≡ vars_with vars rest
+vars_past_edges vars [] rest = refl
+vars_past_edges vars (e ∷ es) rest = ap (vars_with vars) (edge_apart e es rest) ∙ vars_past vars e.clauses (flat_map edge_entries es ++ rest) ∙ vars_past_edges vars es rest
+
+vars_stay : (vars : List (List ℕ)) (ts : List SaidTask) → vars_with vars (Later ts) ≡ vars
+vars_stay vars [] = refl
+vars_stay vars (ste line name reset cs ∷ ts) = ap (vars_with vars) (ended (map clause_entry cs) line ts) ∙ vars_past vars cs (entry line form.End ∷ Later ts) ∙ vars_stay vars ts
+vars_stay vars (gste line name vertex reset es ∷ ts) = ap (vars_with vars) (ended (flat_map edge_entries es) line ts) ∙ vars_past_edges vars es (entry line form.End ∷ Later ts) ∙ vars_stay vars ts
+
+vars_read : (vars : List (List ℕ)) (ts : List SaidTask) → vars_with [] (vars_entries vars ++ Later ts) ≡ vars
+vars_read [] ts = vars_stay [] ts
+vars_read (name ∷ names) ts = vars_stay (name ∷ names) ts
+
+-- no fault
+-- a text that spells an expression which may stand is fine, whatever it is parsed as
+record IsFine (vars : List (List ℕ)) (found : Option Expression) : Type 0 where
+  d : Expression
+  is : found ≡ Some d
+  flat : is_deep d ≡ false
+  known : first_unknown (number_in vars) (spelling d) ≡ None
+
+lt_false : (a b : ℕ) → b ≤ a → nat_lt a b ≡ false
+lt_false a b h = grind (arith, h)
+
+fine_by : (vars : List (List ℕ)) (text : List ℕ) (found : Option Expression) (d : Expression) → IsSpelled text found → Spells d text → nesting d ≤ 100 → first_unknown (number_in vars) (spelling d) ≡ None → IsFine vars found
+fine_by vars text None d is s flat known = absurd (is d s)
+fine_by vars text (Some e) d is s flat known =
+    let same = (one_tree text d e s is).0 in
+    record { d = e; is = refl; flat = lt_false 100 (nesting e) (omega (arith, same, flat)); known = ap (first_unknown (number_in vars)) (is ∙ sym s) ∙ known }
+
+guard_fine : (parse : Parse) (vars : List (List ℕ)) (guard : Option (List (List ℕ))) → IsParse parse → IsGuard vars guard → IsFine vars (parse (guard_text guard))
+guard_fine parse vars None is g = fine_by vars (codes "1") (parse (codes "1")) (single Or (single Xor (single And (literal true)))) (is (codes "1")) refl (omega arith) refl
+guard_fine parse vars (Some words) is g = fine_by vars (spaced words) (parse (spaced words)) g.d (is (spaced words)) g.spells g.flat g.known
+
+value_fine : (parse : Parse) (vars words : List (List ℕ)) → IsParse parse → IsExpression vars words → IsFine vars (parse (spaced words))
+value_fine parse vars words is g = fine_by vars (spaced words) (parse (spaced words)) g.d (is (spaced words)) g.spells g.flat g.known
+
+-- times that are not late
+abbrev IsEarly : Span → Type 0
+IsEarly span.Late = ⊥
+IsEarly other = Unit {0}
+
+early : (times : Option SaidTimes) → IsEarly (said_span times)
+early None = tt
+early (Some times) = tt
+
+fault_none : (vars : List (List ℕ)) (value guard : Option Expression) (times : Span) → IsFine vars value → IsFine vars guard → IsEarly times → clause_fault vars value guard times ≡ None
+fault_none vars value guard times v g t =
+    ap (λ k. clause_fault vars k guard times) v.is ∙ ap (λ k. clause_fault vars (Some v.d) k times) g.is ∙ fine_clause times t
+  where
+    fine_clause : (times : Span) → IsEarly times → clause_fault vars (Some v.d) (Some g.d) times ≡ None
+    fine_clause span.Absent t = rw v.flat (rw g.flat (rw v.known (rw g.known refl)))
+    fine_clause (span.During a b) t = rw v.flat (rw g.flat (rw v.known (rw g.known refl)))
+    fine_clause span.Late t = absurd t
+
+timed_fits : (times : Option SaidTimes) → IsTimed times → span_fits (said_span times) place.Assertion ≡ true
+timed_fits None t = absurd t
+timed_fits (Some times) t = refl
+
+bare_fits : (times : Option SaidTimes) → times ≡ None → span_fits (said_span times) place.Edge ≡ true
+bare_fits None e = refl
+bare_fits (Some times) e = absurd (cc e)
+
+-- the context of a place
+abbrev context : Place → List (List ℕ) → List (List ℕ) → List (List ℕ) → ℕ → Context
+context at vars names vertices edges = record { place = at; vars = vars; names = names; vertices = vertices; edges = edges }
+
+clause_clean : (parse : Parse) (c : Context) (clause : SaidClause) (rest : List Entry) → span_fits (said_span clause.times) c.place ≡ true → clause_fault c.vars (parse (spaced clause.value)) (parse (guard_text clause.guard)) (said_span clause.times) ≡ None → fault_from parse c (clause_entry clause ∷ rest) ≡ fault_from parse c rest
+clause_clean parse c clause rest fits none =
+    ap (λ f. fault_or clause.line f (fault_from parse c rest)) (stood (span_fits (said_span clause.times) c.place) fits none)
+  where
+    stood : (b : Bool) → b ≡ true → clause_fault c.vars (parse (spaced clause.value)) (parse (guard_text clause.guard)) (said_span clause.times) ≡ None → (if b then clause_fault c.vars (parse (spaced clause.value)) (parse (guard_text clause.guard)) (said_span clause.times) else Some Bad) ≡ None
+    stood true e n = n
+    stood false e n = absurd (cc e)
+
+quints_clean : (parse : Parse) (c : Context) (cs : List SaidClause) (rest : List Entry) → IsParse parse → c.place ≡ place.Assertion → All (IsQuintSaid c.vars) cs → fault_from parse c (map clause_entry cs ++ rest) ≡ fault_from parse c rest
+quints_clean parse c [] rest is at all = refl
+quints_clean parse c (clause ∷ cs) rest is at all =
+    let h = All-head (IsQuintSaid c.vars) clause cs all in
+    clause_clean parse c clause (map clause_entry cs ++ rest) (ap (span_fits (said_span clause.times)) at ∙ timed_fits clause.times h.times)
+    (fault_none c.vars (parse (spaced clause.value)) (parse (guard_text clause.guard)) (said_span clause.times) (value_fine parse c.vars clause.value is h.value) (guard_fine parse c.vars clause.guard is h.guard) (early clause.times))
+    ∙ quints_clean parse c cs rest is at (All-tail (IsQuintSaid c.vars) clause cs all)
+
+binds_clean : (parse : Parse) (c : Context) (cs : List SaidClause) (rest : List Entry) → IsParse parse → c.place ≡ place.Edge → All (IsBindSaid c.vars) cs → fault_from parse c (map clause_entry cs ++ rest) ≡ fault_from parse c rest
+binds_clean parse c [] rest is at all = refl
+binds_clean parse c (clause ∷ cs) rest is at all =
+    let h = All-head (IsBindSaid c.vars) clause cs all in
+    clause_clean parse c clause (map clause_entry cs ++ rest) (ap (span_fits (said_span clause.times)) at ∙ bare_fits clause.times h.times)
+    (fault_none c.vars (parse (spaced clause.value)) (parse (guard_text clause.guard)) (said_span clause.times) (value_fine parse c.vars clause.value is h.value) (guard_fine parse c.vars clause.guard is h.guard) (early clause.times))
+    ∙ binds_clean parse c cs rest is at (All-tail (IsBindSaid c.vars) clause cs all)
+
+-- vertices only grow
+key_grows : (b : Bool) (vertices : List (List ℕ)) (x : List ℕ) → length vertices ≤ length (if b then vertices else vertices ++ x ∷ [])
+key_grows true vertices x = omega arith
+key_grows false vertices x = let n = length-append vertices (x ∷ []) in omega (arith, n)
+
+all_grow : (vertices xs : List (List ℕ)) → length vertices ≤ length (insert_all bytes_eq vertices xs)
+all_grow vertices [] = omega arith
+all_grow vertices (x ∷ xs) =
+    let one = key_grows (list_any (bytes_eq x) vertices) vertices x in
+    let more = all_grow (insert_key bytes_eq vertices x) xs in
+    omega (arith, one, more)
+
+graph_fine : (vertices : List (List ℕ)) (edges : ℕ) → length vertices ≤ 1000 → edges ≤ 10000 → graph_fault vertices edges ≡ None
+graph_fine vertices edges v e = rw (le_true (length vertices) 1000 v) (rw (le_true edges 10000 e) refl)
+
+if_may : (b : Bool) (found : Option LineFault) → b ≡ true → found ≡ None → (if b then found else Some Bad) ≡ None
+if_may true found e n = n
+if_may false found e n = absurd (cc e)
+
+edges_clean : (parse : Parse) (at : Place) (vars names vertices : List (List ℕ)) (edges : ℕ) (es : List SaidEdge) (rest : List Entry) → IsParse parse → holds_edges at ≡ true → length (insert_all bytes_eq vertices (flat_map ends_of es)) ≤ 1000 → edges + length es ≤ 10000 → All (EdgeSaid vars) es → ((next : Place) (vs : List (List ℕ)) (k : ℕ) → holds_edges next ≡ true → fault_from parse (context next vars names vs k) rest ≡ None) → fault_from parse (context at vars names vertices edges) (flat_map edge_entries es ++ rest) ≡ None
+edges_clean parse at vars names vertices edges [] rest is holds few most all later = later at vertices edges holds
+edges_clean parse at vars names vertices edges (e ∷ es) rest is holds few most all later =
+    let more = insert_all bytes_eq vertices (ends_of e) in
+    let whole : insert_all bytes_eq vertices (flat_map ends_of (e ∷ es)) ≡ insert_all bytes_eq more (flat_map ends_of es) = fold-append _ vertices (ends_of e) (flat_map ends_of es) in
+    let few2 : length (insert_all bytes_eq more (flat_map ends_of es)) ≤ 1000 = subst (λ k. length k ≤ 1000) whole few in
+    let grown = all_grow more (flat_map ends_of es) in
+    let fine : graph_fault more (suc edges) ≡ None = graph_fine more (suc edges) (omega (arith, few2, grown)) (omega (arith, most)) in
+    ap (fault_from parse (context at vars names vertices edges)) (edge_apart e es rest)
+    ∙ ap (λ f. fault_or e.line f (fault_from parse (context place.Edge vars names more (suc edges)) (map clause_entry e.clauses ++ (flat_map edge_entries es ++ rest)))) (if_may (holds_edges at) (graph_fault more (suc edges)) holds fine)
+    ∙ binds_clean parse (context place.Edge vars names more (suc edges)) e.clauses (flat_map edge_entries es ++ rest) is refl (All-head (EdgeSaid vars) e es all)
+    ∙ edges_clean parse place.Edge vars names more (suc edges) es rest is refl few2 (omega (arith, most)) (All-tail (EdgeSaid vars) e es all) later
+
+-- names
+first_new : (b : Bool) (name : List ℕ) (later : Option (List ℕ)) → (if b then Some name else later) ≡ None → (b ≡ false) × (later ≡ None)
+first_new true name later e = absurd (cc e)
+first_new false name later e = (refl, e)
+
+names_fine : (names : List (List ℕ)) (name : List ℕ) → list_any (bytes_eq name) names ≡ false → length names < 256 → names_fault 256 (first_double names (name ∷ [])) (names ++ name ∷ []) ≡ None
+names_fine names name new few = rw new (let n = length-append names (name ∷ []) in rw (le_true (length (names ++ name ∷ [])) 256 (omega (arith, n, few))) refl)
+
+-- the end of a graph, and the later tasks
+behind_graph : (parse : Parse) (vars names : List (List ℕ)) (line : ℕ) (ts : List SaidTask) → ((vs : List (List ℕ)) (k : ℕ) → fault_from parse (context place.Ended vars names vs k) (Later ts) ≡ None) → (next : Place) (vs : List (List ℕ)) (k : ℕ) → holds_edges next ≡ true → fault_from parse (context next vars names vs k) (entry line form.End ∷ Later ts) ≡ None
+behind_graph parse vars names line ts clean place.Graph vs k h = clean vs k
+behind_graph parse vars names line ts clean place.Edge vs k h = clean vs k
+behind_graph parse vars names line ts clean place.Start vs k h = absurd (cc h)
+behind_graph parse vars names line ts clean place.Assertion vs k h = absurd (cc h)
+behind_graph parse vars names line ts clean place.Ended vs k h = absurd (cc h)
+
+tasks_clean : (parse : Parse) (at : Place) (vars names vertices : List (List ℕ)) (edges : ℕ) (ts : List SaidTask) → IsParse parse → All (IsSayable vars) ts → first_double names (map said_name ts) ≡ None → length names + length ts ≤ 256 → fault_from parse (context at vars names vertices edges) (Later ts) ≡ None
+tasks_clean parse at vars names vertices edges [] is all new few = refl
+tasks_clean parse at vars names vertices edges (ste line name reset cs ∷ ts) is all new few =
+    let say = All-head (IsSayable vars) (ste line name reset cs) ts all in
+    let fresh = first_new (list_any (bytes_eq name) names) name (first_double (names ++ name ∷ []) (map said_name ts)) new in
+    let n = length-append names (name ∷ []) in
+    let behind = entry line form.End ∷ Later ts in
+    ap (λ k. fault_from parse (context at vars names vertices edges) (entry line (form.Ste name reset) ∷ k)) (ended (map clause_entry cs) line ts)
+    ∙ ap (λ f. fault_or line f (fault_from parse (context place.Assertion vars (names ++ name ∷ []) vertices edges) (map clause_entry cs ++ behind))) (names_fine names name fresh.0 (omega (arith, few)))
+    ∙ quints_clean parse (context place.Assertion vars (names ++ name ∷ []) vertices edges) cs behind is refl say
+    ∙ tasks_clean parse place.Ended vars (names ++ name ∷ []) vertices edges ts is (All-tail (IsSayable vars) (ste line name reset cs) ts all) fresh.1 (omega (arith, n, few))
+tasks_clean parse at vars names vertices edges (gste line name vertex reset es ∷ ts) is all new few =
+    let say = All-head (IsSayable vars) (gste line name vertex reset es) ts all in
+    let fresh = first_new (list_any (bytes_eq name) names) name (first_double (names ++ name ∷ []) (map said_name ts)) new in
+    let n = length-append names (name ∷ []) in
+    let behind = entry line form.End ∷ Later ts in
+    ap (λ k. fault_from parse (context at vars names vertices edges) (entry line (form.Gste name vertex reset) ∷ k)) (ended (flat_map edge_entries es) line ts)
+    ∙ ap (λ f. fault_or line f (fault_from parse (context place.Graph vars (names ++ name ∷ []) (vertex ∷ []) 0) (flat_map edge_entries es ++ behind))) (names_fine names name fresh.0 (omega (arith, few)))
+    ∙ edges_clean parse place.Graph vars (names ++ name ∷ []) (vertex ∷ []) 0 es behind is refl say.0 (omega (arith, say.1)) say.2
+    (behind_graph parse vars (names ++ name ∷ []) line ts (λ vs k. tasks_clean parse place.Ended vars (names ++ name ∷ []) vs k ts is (All-tail (IsSayable vars) (gste line name vertex reset es) ts all) fresh.1 (omega (arith, n, few))))
+
+once_by : (names : List (List ℕ)) (found : Option (List ℕ)) → first_double [] names ≡ found → ((name : List ℕ) → IsFirstDouble [] names name → ⊥) → first_double [] names ≡ None
+once_by names None e once = e
+once_by names (Some name) e once = absurd (once name (double_found [] names name e))
+
+vars_fine : (vars : List (List ℕ)) → first_double [] vars ≡ None → length vars ≤ 1000 → names_fault 1000 (first_double [] vars) vars ≡ None
+vars_fine vars new few = rw new (rw (le_true (length vars) 1000 few) refl)
+
+all_clean : (parse : Parse) (vars : List (List ℕ)) (ts : List SaidTask) → IsParse parse → AreSayable vars ts → fault_from parse (context_of []) (vars_entries vars ++ Later ts) ≡ None
+all_clean parse [] ts is say = tasks_clean parse place.Start [] [] [] 0 ts is say.each (once_by (map said_name ts) (first_double [] (map said_name ts)) refl say.names_once) (let n = say.few_tasks in omega (arith, n))
+all_clean parse (v ∷ vs) ts is say =
+    ap (λ f. fault_or 1 f (fault_from parse (context place.Start (v ∷ vs) [] [] 0) (Later ts))) (vars_fine (v ∷ vs) (once_by (v ∷ vs) (first_double [] (v ∷ vs)) refl say.vars_once) say.few_vars)
+    ∙ tasks_clean parse place.Start (v ∷ vs) [] [] 0 ts is say.each (once_by (map said_name ts) (first_double [] (map said_name ts)) refl say.names_once) (let n = say.few_tasks in omega (arith, n))
+
+pub written_is_read : WrittenIsRead
+written_is_read = record {
+  sound = λ parse vars ts is say. ap (first_fault parse []) (all_spelled vars ts say) ∙ same_fault parse [] (vars_entries vars ++ Later ts) ∙ all_clean parse vars ts is say;
+  vars = λ vars ts say. ap (vars_with []) (all_spelled vars ts say) ∙ vars_read vars ts;
+  same = λ parse vars ts say. ap (tasks_of parse []) (all_spelled vars ts say) ∙ all_read parse vars ts;
+}

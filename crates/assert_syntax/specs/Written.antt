@@ -1,0 +1,219 @@
+-- Law: tasks that are written out as lines are read back; and how they are written.
+use Rattle.std.specs.Prelude.{◌≡◌, ◌≤◌, ℕ, ◌++◌, ◌∷◌, [], List, length, map, filter, All, Bool, true, false, Option, Some, None, if◌then◌else◌, bytes_eq, codes}
+use Rattle.std.specs.List.{flat_map, list_all}
+use Rattle.indexmap.specs.IndexSet.{insert_all}
+use Rattle.blif_lines.specs.declared.lines.Line.{Line}
+use Rattle.blif_lines.specs.Laws.{spaced}
+use Rattle.bool_expr.specs.Grammar.{Expression, nesting, spelling}
+use Rattle.bool_expr.specs.Read.{Spells, first_unknown, number_in}
+use Rattle.bool_expr.specs.Tree.{Tree}
+use Rattle.assert_syntax.specs.declared.form.Moment.TheVariants as moment
+use Rattle.assert_syntax.specs.declared.form.Side.{Side}
+use Rattle.assert_syntax.specs.declared.form.Side.TheVariants.{Antecedent, Consequent}
+use Rattle.assert_syntax.specs.Answer.{entries_of}
+use Rattle.assert_syntax.specs.Parses.{Parse, IsParse, tree_over}
+use Rattle.assert_syntax.specs.Places.{first_fault}
+use Rattle.assert_syntax.specs.Rules.{IsFirstDouble}
+use Rattle.assert_syntax.specs.Spelled.{QuintTree, BindTree, EdgeTree, TaskTree, assertion, graph, is_side, tasks_of, vars_with, vertex_number}
+use Rattle.assert_syntax.specs.Words.{ends_expression, is_variable, moment_of}
+
+-- the times of a clause: how they are written, and what they are
+pub record SaidTimes : Type 0 where
+  pub first : List ℕ
+  pub last : List ℕ
+  pub from : ℕ
+  pub to : ℕ
+
+-- a clause: the words of its value, those of its guard where one is written, and its times where it has them
+pub record SaidClause : Type 0 where
+  pub line : ℕ
+  pub side : Side
+  pub node : List ℕ
+  pub value : List (List ℕ)
+  pub guard : Option (List (List ℕ))
+  pub times : Option SaidTimes
+
+-- an edge between two vertices, with its clauses in order
+pub record SaidEdge : Type 0 where
+  pub line : ℕ
+  pub from : List ℕ
+  pub to : List ℕ
+  pub clauses : List SaidClause
+
+-- a task
+pub data SaidTask : Type 0 where
+  -- line, name, reset and clauses in order
+  ste : ℕ → List ℕ → Bool → List SaidClause → SaidTask
+  -- line, name, initial vertex, reset and edges in order
+  gste : ℕ → List ℕ → List ℕ → Bool → List SaidEdge → SaidTask
+
+-- the words of a clause
+abbrev pub side_word : Side → List ℕ
+side_word Antecedent = codes ".ant"
+side_word Consequent = codes ".con"
+
+abbrev pub guard_words : Option (List (List ℕ)) → List (List ℕ)
+guard_words None = []
+guard_words (Some words) = codes "when" ∷ words
+
+abbrev pub times_words : Option SaidTimes → List (List ℕ)
+times_words None = []
+times_words (Some times) = codes "from" ∷ times.first ∷ codes "to" ∷ times.last ∷ []
+
+abbrev pub clause_words : SaidClause → List (List ℕ)
+clause_words clause =
+    side_word clause.side ∷ clause.node ∷ codes "=" ∷ (clause.value ++ (guard_words clause.guard ++ times_words clause.times))
+
+-- a line of these words
+abbrev pub line_of : ℕ → List (List ℕ) → Line
+line_of number words = record { number = number; words = words }
+
+abbrev pub clause_line : SaidClause → Line
+clause_line clause = line_of clause.line (clause_words clause)
+
+-- the lines of an edge
+abbrev pub edge_lines : SaidEdge → List Line
+edge_lines edge = line_of edge.line (codes ".edge" ∷ edge.from ∷ edge.to ∷ []) ∷ map clause_line edge.clauses
+
+-- the lines of a task
+abbrev pub reset_words : Bool → List (List ℕ)
+reset_words reset = if reset then codes "reset" ∷ [] else []
+
+abbrev pub task_lines : SaidTask → List Line
+task_lines (ste line name reset clauses) =
+    line_of line (codes ".ste" ∷ name ∷ reset_words reset) ∷ (map clause_line clauses ++ line_of line (codes ".end" ∷ []) ∷ [])
+task_lines (gste line name vertex reset edges) =
+    line_of line (codes ".gste" ∷ name ∷ vertex ∷ reset_words reset) ∷ (flat_map edge_lines edges ++ line_of line (codes ".end" ∷ []) ∷ [])
+
+-- the line of the variables, where there are any
+abbrev pub vars_lines : List (List ℕ) → List Line
+vars_lines [] = []
+vars_lines (name ∷ names) = line_of 1 (codes ".vars" ∷ name ∷ names) ∷ []
+
+-- the variables and the tasks, written out
+abbrev pub written : List (List ℕ) → List SaidTask → List Line
+written vars tasks = vars_lines vars ++ flat_map task_lines tasks
+
+-- the text of a guard; without one it is 1
+abbrev pub guard_text : Option (List (List ℕ)) → List ℕ
+guard_text None = codes "1"
+guard_text (Some words) = spaced words
+
+-- the two times, or 0
+abbrev pub said_from : Option SaidTimes → ℕ
+said_from None = 0
+said_from (Some times) = times.from
+
+abbrev pub said_to : Option SaidTimes → ℕ
+said_to None = 0
+said_to (Some times) = times.to
+
+-- what a clause says over these variables
+abbrev pub said_quint : Parse → List (List ℕ) → SaidClause → QuintTree
+said_quint parse vars clause = record {
+  line = clause.line;
+  guard = tree_over vars (parse (guard_text clause.guard));
+  node = clause.node;
+  value = tree_over vars (parse (spaced clause.value));
+  from = said_from clause.times;
+  to = said_to clause.times;
+}
+
+abbrev pub said_bind : Parse → List (List ℕ) → SaidClause → BindTree
+said_bind parse vars clause = record {
+  line = clause.line;
+  guard = tree_over vars (parse (guard_text clause.guard));
+  node = clause.node;
+  value = tree_over vars (parse (spaced clause.value));
+}
+
+-- the clauses of one side
+abbrev pub on_side : Side → List SaidClause → List SaidClause
+on_side side clauses = filter (λ clause. is_side side clause.side) clauses
+
+-- the vertices of a graph, in the order of first mention
+abbrev pub ends_of : SaidEdge → List (List ℕ)
+ends_of edge = edge.from ∷ edge.to ∷ []
+
+abbrev pub vertices_said : List ℕ → List SaidEdge → List (List ℕ)
+vertices_said vertex edges = insert_all bytes_eq (vertex ∷ []) (flat_map ends_of edges)
+
+-- what an edge says, between these vertices
+abbrev pub said_edge : Parse → List (List ℕ) → List (List ℕ) → SaidEdge → EdgeTree
+said_edge parse vars vertices edge = record {
+  line = edge.line;
+  from = vertex_number vertices edge.from;
+  to = vertex_number vertices edge.to;
+  ant = map (said_bind parse vars) (on_side Antecedent edge.clauses);
+  con = map (said_bind parse vars) (on_side Consequent edge.clauses);
+}
+
+-- what a task says
+abbrev pub said_task : Parse → List (List ℕ) → SaidTask → TaskTree
+said_task parse vars (ste line name reset clauses) =
+    assertion line name reset (map (said_quint parse vars) (on_side Antecedent clauses)) (map (said_quint parse vars) (on_side Consequent clauses))
+said_task parse vars (gste line name vertex reset edges) =
+    graph line name reset (vertices_said vertex edges) (map (said_edge parse vars (vertices_said vertex edges)) edges)
+
+-- the words can stand for an expression over these variables: none of them ends one, and together they spell one that is
+-- nested at most 100
+pub record IsExpression (vars words : List (List ℕ)) : Type 0 where
+  pub goes_on : All (λ word. ends_expression word ≡ false) words
+  pub d : Expression
+  pub spells : Spells d (spaced words)
+  pub flat : nesting d ≤ 100
+  pub known : first_unknown (number_in vars) (spelling d) ≡ None
+
+-- the words of the times say them, in order
+pub record AreTimes (times : SaidTimes) : Type 0 where
+  pub first : moment_of times.first ≡ moment.At times.from
+  pub last : moment_of times.last ≡ moment.At times.to
+  pub ordered : times.from ≤ times.to
+
+-- a clause that can be written: with times in an assertion, without behind an edge
+abbrev pub IsGuard : List (List ℕ) → Option (List (List ℕ)) → Type 0
+IsGuard vars None = Unit {0}
+IsGuard vars (Some words) = IsExpression vars words
+
+abbrev pub IsTimed : Option SaidTimes → Type 0
+IsTimed None = ⊥
+IsTimed (Some times) = AreTimes times
+
+pub record IsQuintSaid (vars : List (List ℕ)) (clause : SaidClause) : Type 0 where
+  pub value : IsExpression vars clause.value
+  pub guard : IsGuard vars clause.guard
+  pub times : IsTimed clause.times
+
+pub record IsBindSaid (vars : List (List ℕ)) (clause : SaidClause) : Type 0 where
+  pub value : IsExpression vars clause.value
+  pub guard : IsGuard vars clause.guard
+  pub times : clause.times ≡ None
+
+-- a task that can be written
+abbrev pub IsSayable : List (List ℕ) → SaidTask → Type 0
+IsSayable vars (ste line name reset clauses) = All (IsQuintSaid vars) clauses
+IsSayable vars (gste line name vertex reset edges) =
+    (length (vertices_said vertex edges) ≤ 1000) × (length edges ≤ 10000) × All (λ edge. All (IsBindSaid vars) edge.clauses) edges
+
+-- the name of a task
+abbrev pub said_name : SaidTask → List ℕ
+said_name (ste line name reset clauses) = name
+said_name (gste line name vertex reset edges) = name
+
+-- variables and tasks that can be written: no more than there may be, and no name twice
+pub record AreSayable (vars : List (List ℕ)) (tasks : List SaidTask) : Type 0 where
+  pub variables : list_all is_variable vars ≡ true
+  pub few_vars : length vars ≤ 1000
+  pub vars_once : (name : List ℕ) → IsFirstDouble [] vars name → ⊥
+  pub few_tasks : length tasks ≤ 256
+  pub names_once : (name : List ℕ) → IsFirstDouble [] (map said_name tasks) name → ⊥
+  pub each : All (IsSayable vars) tasks
+
+-- Law: tasks that are written out are read back, with no fault.
+pub record WrittenIsRead : Type 0 where
+  pub sound : (parse : Parse) (vars : List (List ℕ)) (tasks : List SaidTask) → IsParse parse → AreSayable vars tasks →
+      first_fault parse [] (entries_of (written vars tasks)) ≡ None
+  pub vars : (vars : List (List ℕ)) (tasks : List SaidTask) → AreSayable vars tasks →
+      vars_with [] (entries_of (written vars tasks)) ≡ vars
+  pub same : (parse : Parse) (vars : List (List ℕ)) (tasks : List SaidTask) → AreSayable vars tasks →
+      tasks_of parse [] (entries_of (written vars tasks)) ≡ map (said_task parse vars) tasks
