@@ -77,7 +77,12 @@ fn may_give(alloc: Global, cover: &Cover, sets: usize, bit: bool) -> Result<bool
         let mut fits = true;
         for _ in 0..inputs {
             let one = left % 2 == 1;
-            fits = fits && if one { (rest / 2) % 2 == 1 } else { rest % 2 == 1 };
+            fits = fits
+                && if one {
+                    (rest / 2) % 2 == 1
+                } else {
+                    rest % 2 == 1
+                };
             bits.push(one)?;
             rest /= 4;
             left /= 2;
