@@ -77,7 +77,12 @@ fn may_give(alloc: Global, cover: &Cover, sets: usize, bit: bool) -> Result<bool
         let mut fits = true;
         for _ in 0..inputs {
             let one = left % 2 == 1;
-            fits = fits && if one { (rest / 2) % 2 == 1 } else { rest % 2 == 1 };
+            fits = fits
+                && if one {
+                    (rest / 2) % 2 == 1
+                } else {
+                    rest % 2 == 1
+                };
             bits.push(one)?;
             rest /= 4;
             left /= 2;
@@ -168,5 +173,52 @@ fn gates_are_exact_on_constant_sets(rt: HostRuntime) -> Result<(), Fail> {
             assert!(rt; is_exact(rt.alloc(), &off)?, "off {inputs} {first}");
         }
     }
+    Ok(())
+}
+
+/// Unknown sets for so many inputs, and 0 alone for the last one.
+fn unknowns(alloc: Global, inputs: usize) -> Result<Vec<Rails>, AllocError>
+    ensures long { IfOk result (λ sets. length sets.items ≡ inputs) }
+    ensures refs { (s : Store) → IfOk result (λ sets. All (AreRefs s) sets.items) }
+{
+    let mut sets = Vec::new(alloc);
+    for k in 0..inputs {
+        sets.push(constant_set(if inputs - k == 1 { 1 } else { 3 }))?;
+    }
+    Ok(sets)
+}
+
+/// A row of ones.
+fn ones(alloc: Global, inputs: usize) -> Result<Row, AllocError>
+    ensures { IfOk result (λ row. length row ≡ inputs) }
+{
+    let mut row = Items::new(alloc);
+    for _ in 0..inputs {
+        row.push(Lit::One)?;
+    }
+    Ok(row)
+}
+
+/// The cover of one row of ones.
+fn and_of(alloc: Global, inputs: u32) -> Result<Cover, AllocError>
+    ensures wide { IfOk result (λ cover. AreWide cover.rows cover.inputs) }
+    ensures inputs { IfOk result (λ cover. cover.inputs ≡ inputs) }
+{
+    let rows = [ones(alloc, inputs as usize)?];
+    Ok(Cover {
+        inputs,
+        on: true,
+        rows: Items::from(Vec::from_array(alloc, rows)?),
+    })
+}
+
+#[test]
+fn a_gate_of_a_thousand_inputs_is_0_where_one_is(rt: HostRuntime) -> Result<(), Fail> {
+    let ops = Ops::new(rt.alloc());
+    let mut nodes = PlainNodes::new(rt.alloc(), 0, 1)?;
+    let cover = and_of(rt.alloc(), 1000)?;
+    let sets = unknowns(rt.alloc(), 1000)?;
+    let made = gate_of(rt.alloc(), &ops, &mut nodes, &cover, &sets)?;
+    assert!(rt; made.can0 == Ref::TRUE && made.can1 == Ref::FALSE);
     Ok(())
 }

@@ -1,5 +1,5 @@
 -- Laws. How many nodes the work functions of one time have, on two small nets counted by hand.
-use Rattle.std.specs.Prelude.{◌≡◌, ℕ, zero, suc, Bool, true, false, List, [], ◌∷◌, slice_index_or}
+use Rattle.std.specs.Prelude.{◌≡◌, ℕ, zero, suc, Bool, true, false, [], ◌∷◌, slice_index_or}
 use Rattle.ste_base.specs.declared.id.NodeId.{NodeId}
 use Rattle.dd_nodes.specs.Functions.{node_count}
 use Rattle.net_core.specs.declared.cover.Lit.TheVariants.{One}
