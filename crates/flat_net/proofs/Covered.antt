@@ -1,15 +1,20 @@
 -- The covers of one more model.
 use Rattle.std.proofs.Common.{append-nil, ◌≡◌, ℕ, zero, suc, ◌+◌, ◌<◌, ◌≤◌, Bool, true, false, List, [], ◌∷◌, ◌++◌, map, length, length-append, take, drop, get_or, set, Option, None, Some, slice_get, arith, refl, sym, ap, ◌∙◌, subst, inl, inr}
-use Rattle.std.specs.Prelude.{◌⊎◌, flat_map}
-use Rattle.std.specs.List.{AllZip}
+use Rattle.std.specs.Prelude.{◌⊎◌, All, filter_map, flat_map}
+use Rattle.std.specs.List.{AllZip, cons_option}
 use Rattle.std.proofs.lemmas.List.{length-map, take_more}
 use Rattle.std.proofs.lemmas.Grind.{flat_map-append}
 use Rattle.net_core.specs.declared.cover.Cover.{Cover}
 use Rattle.blif_syntax.specs.declared.models.Model.{Model}
-use Rattle.hierarchy.specs.Lines.{GateLine, gate_lines}
+use Rattle.hierarchy.specs.Lines.{GateLine, gate_lines, gate_of}
 use Rattle.hierarchy.specs.Instances.{had_by}
 use Rattle.instances.specs.declared.table.Row.{Row}
-use Rattle.flat_net.specs.private.Passes.{AreSeen, CoversOf, Extends, HasCovers, IsCovered, IsFirstCover, lines_at}
+use Rattle.flat_net.specs.private.Passes.{AreSeen, CoversOf, Extends, HasCovers, IsFilled, IsFirstCover, lines_at}
+use Rattle.net_core.specs.Cover.{IsCover}
+use Rattle.blif_syntax.specs.Covered.{AreCovered, IsCovered}
+use Rattle.blif_syntax.specs.declared.models.Item.{Item}
+use Rattle.blif_syntax.specs.declared.models.What.{What}
+use Rattle.blif_syntax.specs.declared.models.What.TheVariants.{Inputs, Outputs, Clock, Names, Latch, Subckt}
 
 get_left : {X : Type 0} (xs ys : List X) (k : ℕ) (x : X) → slice_get xs k ≡ Some x → slice_get (xs ++ ys) k ≡ Some x
 get_left [] ys k x e = absurd (cc)
@@ -26,6 +31,27 @@ get_right (x ∷ xs) ys k = ap (λ n. slice_get (x ∷ (xs ++ ys)) n) (shift (le
     shift : (a b : ℕ) → suc a + b ≡ suc (a + b)
     shift a b = omega arith
 
+put_first : (x : Cover) (xs : List Cover) → IsCover x → All IsCover xs → (k : ℕ) (d : Cover) → k < length (x ∷ xs) → IsCover (get_or (x ∷ xs) k d)
+put_first x xs is all zero d low = is
+put_first x xs is all (suc k) d low = all k d (omega arith)
+
+all_append : (xs ys : List Cover) → All IsCover xs → All IsCover ys → All IsCover (xs ++ ys)
+all_append [] ys a b = b
+all_append (x ∷ xs) ys a b = put_first x (xs ++ ys) (a zero x (omega arith)) (all_append xs ys (λ j e h. a (suc j) e (omega arith)) b)
+
+-- the covers of gates are sound
+sound_lines : (items : List Item) → All (λ item. IsCovered item.what) items → All IsCover (map (λ (line : GateLine). line.cover) (filter_map (λ item. gate_of item.what) items))
+sound_lines [] h = λ k d low. absurd (omega arith)
+sound_lines (item ∷ items) h = by item.what (h zero item (omega arith)) (sound_lines items (λ k d low. h (suc k) d (omega arith)))
+  where
+    by : (what : What) → IsCovered what → All IsCover (map (λ (line : GateLine). line.cover) (filter_map (λ i. gate_of i.what) items)) → All IsCover (map (λ (line : GateLine). line.cover) (cons_option (gate_of what) (filter_map (λ i. gate_of i.what) items)))
+    by (Names inputs output cover) is again = put_first cover (map (λ (line : GateLine). line.cover) (filter_map (λ i. gate_of i.what) items)) is.1 again
+    by (Inputs _) is again = again
+    by (Outputs _) is again = again
+    by (Clock _) is again = again
+    by (Latch _ _ _ _ _) is again = again
+    by (Subckt _ _) is again = again
+
 pub covers_stay : (before after : List Cover) (first : ℕ) (model : Model) → Extends before after → length before ≤ length after → CoversOf before first model → CoversOf after first model
 covers_stay before after first model extends longer h = record {
   has = λ i line e. extends (first + i) line.cover (h.has i line e);
@@ -33,7 +59,7 @@ covers_stay before after first model extends longer h = record {
 }
 
 -- where the covers of a model are there
-pub covered_old : (models : List Model) (number : ℕ) (covers : List Cover) (seen : List (Option ℕ)) (first : ℕ) (d : Option ℕ) → number < length models → length seen ≡ length models → AreSeen models covers seen → get_or seen number d ≡ Some first → IsCovered models number covers covers seen first
+pub covered_old : (models : List Model) (number : ℕ) (covers : List Cover) (seen : List (Option ℕ)) (first : ℕ) (d : Option ℕ) → number < length models → length seen ≡ length models → AreSeen models covers seen → get_or seen number d ≡ Some first → IsFilled models number covers covers seen first
 covered_old models number covers seen first d low long known e = record {
   known = known;
   long = long;
@@ -41,6 +67,7 @@ covered_old models number covers seen first d low long known e = record {
   longer = omega arith;
   few = omega arith;
   is = λ model at. known number first model (at_place seen number d (omega (arith, low, long)) ∙ ap Some e) at;
+  sound = λ sound model at covered. sound;
 }
   where
     at_place : {X : Type 0} (xs : List X) (k : ℕ) (d : X) → k < length xs → slice_get xs k ≡ Some (get_or xs k d)
@@ -49,7 +76,7 @@ covered_old models number covers seen first d low long known e = record {
     at_place (x ∷ xs) (suc k) d h = at_place xs k d (omega arith)
 
 -- where they are added
-pub covered_new : (models : List Model) (number : ℕ) (covers after : List Cover) (seen later : List (Option ℕ)) (first : ℕ) (model : Model) → length seen ≡ length models → AreSeen models covers seen → slice_get models number ≡ Some model → first ≡ length covers → after ≡ covers ++ map (λ line. line.cover) (gate_lines model) → later ≡ set seen number (Some first) → IsCovered models number covers after later first
+pub covered_new : (models : List Model) (number : ℕ) (covers after : List Cover) (seen later : List (Option ℕ)) (first : ℕ) (model : Model) → length seen ≡ length models → AreSeen models covers seen → slice_get models number ≡ Some model → first ≡ length covers → after ≡ covers ++ map (λ line. line.cover) (gate_lines model) → later ≡ set seen number (Some first) → IsFilled models number covers after later first
 covered_new models number covers after seen later first model long known at is add put =
     let extends : Extends covers after = λ k cover e. subst (λ l. slice_get l k ≡ Some cover) (sym add) (get_left covers (map (λ line. line.cover) (gate_lines model)) k cover e) in
     let grown : length after ≡ length covers + length (gate_lines model) = ap (λ l. length l) add ∙ length-append covers (map (λ line. line.cover) (gate_lines model)) ∙ ap (λ n. length covers + n) (length-map (gate_lines model) (λ line. line.cover)) in
@@ -64,6 +91,8 @@ covered_new models number covers after seen later first model long known at is a
       longer = omega (arith, grown);
       few = let l = ap (λ m. length (had_by gate_lines m)) at in omega (arith, grown, l);
       is = λ m e. subst (λ x. CoversOf after first x) (same model m (sym at ∙ e)) mine;
+      sound = λ sound m e covered. subst (λ l. All IsCover l) (sym add) (all_append covers (map (λ line. line.cover) (gate_lines model)) sound
+        (sound_lines model.items (subst (λ x. All (λ item. IsCovered item.what) x.items) (sym (same model m (sym at ∙ e))) covered)));
     }
   where
     same : (a b : Model) → Some a ≡ Some b → a ≡ b
@@ -121,6 +150,18 @@ module _ {X Y : Type 0} (f : X → List Y) where
       let c = rows_within xs k in
       omega (arith, a, b, c)
 
+pub still_sound : (models : List Model) (rows : List Row) (k : ℕ) (d : Row) → k < length rows → All (λ row. row.model < length models) rows → AreCovered models → (covers after : List Cover) (seen : List (Option ℕ)) (first : ℕ) → IsFilled models (get_or rows k d).model covers after seen first → All IsCover covers → All IsCover after
+still_sound models rows k d low in_range covered covers after seen first c sound =
+    let none : Model = record { line = 0; name = []; items = [] } in
+    let number = (get_or rows k d).model in
+    let here = at_is models number (get_or models number none) (in_range k d low) (same_default models number none (in_range k d low)) in
+    c.sound sound (get_or models number none) here (covered number none (in_range k d low))
+  where
+    same_default : {X : Type 0} (xs : List X) (k : ℕ) (d : X) → k < length xs → get_or xs k d ≡ get_or xs k (get_or xs k d)
+    same_default [] k d h = absurd (omega arith)
+    same_default (x ∷ xs) zero d h = refl
+    same_default (x ∷ xs) (suc k) d h = same_default xs k d (omega arith)
+
 module _ (models : List Model) (rows : List Row) (k : ℕ) (d : Row) (low : k < length rows) (covers : List Cover) (few : length covers ≤ length (flat_map (lines_at models) (take k rows))) where
   pub room : length (flat_map (lines_at models) rows) ≤ 4294967295 → length covers + length (had_by gate_lines (slice_get models (get_or rows k d).model)) ≤ 4294967295
   room all =
@@ -128,13 +169,13 @@ module _ (models : List Model) (rows : List Row) (k : ℕ) (d : Row) (low : k < 
       let b = rows_within (lines_at models) rows (k + 1) in
       omega (arith, a, b, few, all)
 
-  pub still_few : (after : List Cover) (seen : List (Option ℕ)) (first : ℕ) → IsCovered models (get_or rows k d).model covers after seen first → length after ≤ length (flat_map (lines_at models) (take (k + 1) rows))
+  pub still_few : (after : List Cover) (seen : List (Option ℕ)) (first : ℕ) → IsFilled models (get_or rows k d).model covers after seen first → length after ≤ length (flat_map (lines_at models) (take (k + 1) rows))
   still_few after seen first c =
       let a = rows_to (lines_at models) rows k d low in
       let b = c.few in
       omega (arith, a, b, few)
 
-  pub more_firsts : (firsts later : List ℕ) (after : List Cover) (seen : List (Option ℕ)) (first : ℕ) → IsCovered models (get_or rows k d).model covers after seen first → later ≡ firsts ++ first ∷ [] → AllZip (IsFirstCover models covers) firsts (take k rows) → AllZip (IsFirstCover models after) later (take (k + 1) rows)
+  pub more_firsts : (firsts later : List ℕ) (after : List Cover) (seen : List (Option ℕ)) (first : ℕ) → IsFilled models (get_or rows k d).model covers after seen first → later ≡ firsts ++ first ∷ [] → AllZip (IsFirstCover models covers) firsts (take k rows) → AllZip (IsFirstCover models after) later (take (k + 1) rows)
   more_firsts firsts later after seen first c e zip =
       subst (λ l. AllZip (IsFirstCover models after) l (take (k + 1) rows)) (sym e)
       (subst (λ l. AllZip (IsFirstCover models after) (firsts ++ first ∷ []) l) (sym (take_more rows k d low))

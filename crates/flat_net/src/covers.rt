@@ -2,9 +2,11 @@
 
 ghost use Rattle.std.specs.Prelude.{◌≡◌, ◌<◌, ◌≤◌, ◌+◌, ◌++◌, All, IfOk, OnOk, flat_map, length, map, slice_get};
 ghost use Rattle.std.specs.List.{AllZip};
+ghost use Rattle.net_core.specs.Cover.{IsCover};
+ghost use Rattle.blif_syntax.specs.Covered.{AreCovered};
 ghost use Rattle.hierarchy.specs.Instances.{had_by};
 ghost use Rattle.hierarchy.specs.Lines.{gate_lines};
-ghost use Rattle.flat_net.specs.private.Passes.{AreSeen, IsCovered, IsFirstCover, lines_at};
+ghost use Rattle.flat_net.specs.private.Passes.{AreSeen, IsFilled, IsFirstCover, lines_at};
 
 use crate::flat::cover_copied;
 use blif_syntax::{Model, What};
@@ -45,7 +47,7 @@ fn first_cover(
     requires long { length seen.old.items ≡ length models.now }
     requires seen { AreSeen models.now covers.old seen.old.items }
     requires few { length covers.old + length (had_by gate_lines (slice_get models.now number)) ≤ 4294967295 }
-    ensures { IfOk result (λ first. IsCovered models.now number covers.old covers.new seen.new.items first) }
+    ensures { IfOk result (λ first. IsFilled models.now number covers.old covers.new seen.new.items first) }
 {
     if let Some(first) = seen[number] {
         return Ok(first);
@@ -64,8 +66,10 @@ pub(crate) fn all_covers(
 ) -> Result<Covers, AllocError>
     requires rows { All (λ row. row.model < length models.now) rows.now }
     requires few { length (flat_map (lines_at models.now) rows.now) ≤ 4294967295 }
+    requires covered { AreCovered models.now }
     ensures firsts { IfOk result (λ made. AllZip (IsFirstCover models.now made.covers) made.firsts.items rows.now) }
     ensures few { IfOk result (λ made. length made.covers ≤ length (flat_map (lines_at models.now) rows.now)) }
+    ensures sound { IfOk result (λ made. All IsCover made.covers) }
 {
     let mut seen = models
         .iter()

@@ -1,6 +1,7 @@
 //! What the passes over instances stand on; begin with `parts_of`.
 
 ghost use Rattle.std.specs.Prelude.{◌≡◌, ◌<◌, IfOk, length, map};
+ghost use Rattle.blif_syntax.specs.Covered.{AreCovered};
 ghost use Rattle.hierarchy.specs.Faults.{HasFaultBeforeInstances, IsFree};
 ghost use Rattle.hierarchy.specs.Instances.{model_names};
 ghost use Rattle.hierarchy.specs.Lines.{signals};
@@ -45,6 +46,7 @@ pub(crate) fn parts_of(
     requires some { 0 < length models.now }
     requires names { names.now.keys ≡ model_names models.now }
     requires free { IsFree (HasFaultBeforeInstances models.now) }
+    requires covered { AreCovered models.now }
     ensures { IfOk result (λ parts. ArePartsOf models.now (map (λ set. set.keys) parts.signals.items) parts.rows.items
         parts.numbered.numbers.items parts.numbered.names parts.covers.firsts.items parts.covers.covers) }
 {

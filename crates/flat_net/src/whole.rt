@@ -116,6 +116,7 @@ fn flat_of(
 /// of nets show.
 fn flat_behind(alloc: Global, models: &[Model]) -> Result<RawNet, NetFault>
     requires some { 0 < length models.now }
+    requires covered { AreCovered models.now }
     requires free { IsFree (HasFaultBeforeInstances models.now) }
     ensures flat { IfOk result (λ raw. IsFlat models.now raw) }
     ensures ok { OnOk result (IsFree (Else (HasDrivenTwice models.now) (HasMixedClocks models.now))) }

@@ -1,6 +1,7 @@
 -- For private functions. What the passes over instances stand on.
-use Rattle.std.specs.Prelude.{◌≡◌, ◌≤◌, ℕ, List, length, map}
+use Rattle.std.specs.Prelude.{◌≡◌, ◌≤◌, ℕ, All, List, length, map}
 use Rattle.std.specs.List.{AllZip}
+use Rattle.net_core.specs.Cover.{IsCover}
 use Rattle.net_core.specs.declared.cover.Cover.{Cover}
 use Rattle.blif_syntax.specs.declared.models.Model.{Model}
 use Rattle.hierarchy.specs.Instances.{instances}
@@ -21,3 +22,4 @@ pub record ArePartsOf (models : List Model) (names : List (List (List ℕ))) (ro
   pub firsts_known : AllZip (IsFirstCover models covers) firsts rows
   pub few_nets : length (nets models) ≤ 200000
   pub few_covers : length covers ≤ 4294967295
+  pub sound : All IsCover covers

@@ -1,10 +1,12 @@
 -- For private functions. The parts of a flat net, instance by instance.
-use Rattle.std.specs.Prelude.{◌≡◌, ◌≤◌, ℕ, suc, ◌+◌, ◌∷◌, [], List, Option, Some, flat_map, length, map, slice_get}
+use Rattle.std.specs.Prelude.{◌≡◌, ◌≤◌, ℕ, suc, ◌+◌, ◌∷◌, [], All, List, Option, Some, flat_map, length, map, slice_get}
 use Rattle.std.specs.List.{AllZip}
 use Rattle.ste_base.specs.declared.id.NodeId.{NodeId}
+use Rattle.net_core.specs.Cover.{IsCover}
 use Rattle.net_core.specs.declared.cover.Cover.{Cover}
 use Rattle.net_core.specs.declared.raw.Gate.{Gate}
 use Rattle.net_core.specs.declared.raw.Latch.{Latch}
+use Rattle.blif_syntax.specs.Covered.{IsCovered}
 use Rattle.blif_syntax.specs.declared.models.Model.{Model}
 use Rattle.hierarchy.specs.Lines.{GateLine, LatchLine, gate_lines, latch_lines, signals}
 use Rattle.hierarchy.specs.Instances.{had_by, instances, model_at}
@@ -78,10 +80,12 @@ abbrev pub lines_at : List Model → Row → List GateLine
 lines_at models row = had_by gate_lines (slice_get models row.model)
 
 -- the covers of one more model are there, and nothing else changed
-pub record IsCovered (models : List Model) (number : ℕ) (before after : List Cover) (seen : List (Option ℕ)) (first : ℕ) : Type 0 where
+pub record IsFilled (models : List Model) (number : ℕ) (before after : List Cover) (seen : List (Option ℕ)) (first : ℕ) : Type 0 where
   pub known : AreSeen models after seen
   pub long : length seen ≡ length models
   pub extends : Extends before after
   pub longer : length before ≤ length after
   pub few : length after ≤ length before + length (had_by gate_lines (slice_get models number))
   pub is : (model : Model) → slice_get models number ≡ Some model → CoversOf after first model
+  pub sound : All IsCover before → (model : Model) → slice_get models number ≡ Some model →
+      All (λ item. IsCovered item.what) model.items → All IsCover after

@@ -31,4 +31,5 @@ returns c =
       firsts_known = subst (λ l. AllZip (IsFirstCover c.args.models.now c.in_ok-covers.covers.covers) c.in_ok-covers.covers.firsts.items l) c.as_slice-4.ensures.value c.in_ok-covers.ensures.firsts;
       few_nets = few_nets c.args.models.now c.requires.free;
       few_covers = omega (arith, lines, covers);
+      sound = c.in_ok-covers.ensures.sound;
     }
