@@ -59,7 +59,7 @@ latch_signals model latch h =
 
 -- what stands in the list over all instances is had by the model of its instance, and the other way round
 module _ {X : Type 0} (had : Model → List X) (models : List Model) where
-  of_instance : (at : List ℕ × X) → In (in_instances had models) at → (model : Model) × (model_at models at.0 ≡ Some model) × In (had model) at.1
+  pub of_instance : (at : List ℕ × X) → In (in_instances had models) at → (model : Model) × (model_at models at.0 ≡ Some model) × In (had model) at.1
   of_instance at h =
       let p = flat_map_in (λ path. map (λ item. (path, item)) (had_by had (model_at models path))) (instances models) at h in
       let g = map_in (λ item. (p.0, item)) (had_by had (model_at models p.0)) at p.2 in

@@ -92,7 +92,7 @@ covered_new models number covers after seen later first model long known at is a
       few = let l = ap (λ m. length (had_by gate_lines m)) at in omega (arith, grown, l);
       is = λ m e. subst (λ x. CoversOf after first x) (same model m (sym at ∙ e)) mine;
       sound = λ sound m e covered. subst (λ l. All IsCover l) (sym add) (all_append covers (map (λ line. line.cover) (gate_lines model)) sound
-        (sound_lines model.items (subst (λ x. All (λ item. IsCovered item.what) x.items) (sym (same model m (sym at ∙ e))) covered)));
+          (sound_lines model.items (subst (λ x. All (λ item. IsCovered item.what) x.items) (sym (same model m (sym at ∙ e))) covered)));
     }
   where
     same : (a b : Model) → Some a ≡ Some b → a ≡ b

@@ -112,12 +112,15 @@ outputs_within (Names _ _ _) x h = absurd h
 outputs_within (LatchItem _ _ _ _ _) x h = absurd h
 outputs_within (Subckt _ _) x h = absurd h
 
-top_is : (models : List Model) (model : Model) → slice_get models 0 ≡ Some model → top models ≡ model
+pub top_is : (models : List Model) (model : Model) → slice_get models 0 ≡ Some model → top models ≡ model
 top_is [] model e = absurd (cc)
 top_is (m ∷ models) model e = cc
 
 pub input_signal : (model : Model) (word : List ℕ) → In (inputs_of model) word → In (signals model) word
 input_signal model word h = mentioned model input_words inputs_within word h
+
+pub output_signal : (model : Model) (word : List ℕ) → In (outputs_of model) word → In (signals model) word
+output_signal model word h = mentioned model output_words outputs_within word h
 
 pub top_inputs : (models : List Model) (covers : List Cover) (first : Instance) → IsInstance models covers first [] → map (λ (node : NodeId). node.0) (map (node_in first) (inputs_of first.model)) ≡ input_numbers models
 top_inputs models covers first is = nodes_are models covers first [] is (inputs_of first.model) (input_signal first.model)

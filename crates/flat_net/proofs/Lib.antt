@@ -7,6 +7,8 @@ pub mod Covered
 pub mod Marks
 pub mod Refusals
 pub mod Parting
+pub mod OneDriver
+pub mod Ranges
 pub mod OneToOne
 pub mod Placed
 pub mod Corresponds

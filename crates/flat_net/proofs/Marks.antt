@@ -22,20 +22,9 @@ module _ (instance : Instance) (items : List Item) (k : ℕ) (d : Item) (low : k
 
 module _ (instance : Instance) (items : List Item) (k : ℕ) (d : Item) (low : k < length items) (marks start : List Bool)
     (before : (rest : List Driver) → twice marks (map (driver_at instance) (filter_map driver_of (drop k items)) ++ rest) ≡ twice start (drivers_in instance ++ rest)) where
-  -- a line that drives nothing
-  pub none_driven : ((line : ℕ) → driver_on line (get_or items k d).what ≡ None) → (rest : List Driver) → twice marks (map (driver_at instance) (filter_map driver_of (drop (k + 1) items)) ++ rest) ≡ twice start (drivers_in instance ++ rest)
-  none_driven is rest = ap (λ l. twice marks (l ++ rest)) (sym (later_drivers instance items k d low None is)) ∙ before rest
-
   module _ (output : List ℕ) (is : (line : ℕ) → driver_on line (get_or items k d).what ≡ Some (record { line = line; output = output })) where
     as_one : (rest : List Driver) → twice marks (driver_at instance (record { line = (get_or items k d).line; output = output }) ∷ (map (driver_at instance) (filter_map driver_of (drop (k + 1) items)) ++ rest)) ≡ twice start (drivers_in instance ++ rest)
     as_one rest = ap (λ l. twice marks (l ++ rest)) (sym (later_drivers instance items k d low (Some output) is)) ∙ before rest
-
-    -- one that drives a net that is not marked
-    pub newly_driven : (was : Bool) → was ≡ slice_index_or marks (node_in instance output).0 false → was ≡ false → (after : List Bool) → after ≡ slice_set marks (node_in instance output).0 true → (rest : List Driver) → twice after (map (driver_at instance) (filter_map driver_of (drop (k + 1) items)) ++ rest) ≡ twice start (drivers_in instance ++ rest)
-    newly_driven was e fresh after set rest =
-        ap (λ m. twice m (map (driver_at instance) (filter_map driver_of (drop (k + 1) items)) ++ rest)) set
-        ∙ sym (ap (λ b. cond b (Some (driver_at instance (record { line = (get_or items k d).line; output = output }))) (twice (slice_set marks (node_in instance output).0 true) (map (driver_at instance) (filter_map driver_of (drop (k + 1) items)) ++ rest))) (sym e ∙ fresh))
-        ∙ as_one rest
 
     -- one that drives a net that is marked
     pub driven_again : (was : Bool) → was ≡ slice_index_or marks (node_in instance output).0 false → was ≡ true → (names : List (List ℕ)) (fault : NetFault) → fault ≡ DrivenTwice (get_or items k d).line (slice_index_or names (node_in instance output).0 []) → (rest : List Driver) → option_map (driven_fault names) (twice start (drivers_in instance ++ rest)) ≡ Some fault

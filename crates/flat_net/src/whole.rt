@@ -1,6 +1,7 @@
 //! The flat net of a hierarchy; begin with `hierarchical_net`.
 
 ghost use Rattle.std.specs.Prelude.{◌≡◌, ◌<◌, ◌≤◌, ◌⊎◌, ℕ, List, [], IfErr, IfOk, OnOk, length, map};
+ghost use Rattle.net_core.specs.Flat.{HasOneDriver, IsInRange};
 ghost use Rattle.net_core.specs.declared.cover.Cover.{Cover};
 ghost use Rattle.hierarchy.specs.declared.fault.NetFault.TheVariants.{OutOfMemory};
 ghost use Rattle.blif_syntax.specs.Covered.{AreCovered};
@@ -39,7 +40,7 @@ fn raw_net(
     requires instances { AreInstances models.now covers instances.now }
     requires top { IsInstance models.now covers top.now [] }
     requires few { length covers ≤ 4294967295 }
-    ensures { IfOk result (λ raw. IsFlat models.now raw) }
+    ensures { IfOk result (λ raw. IsFlat models.now raw × (raw.covers ≡ covers)) }
 {
     let _ = models;
     let inputs = inputs_of(alloc, top.model)?;
@@ -96,7 +97,7 @@ fn flat_of(
     requires few_nets { length names.now ≤ 4294967295 }
     requires few_covers { length covers ≤ 4294967295 }
     requires instances { AreInstances models.now covers instances.now }
-    ensures flat { IfOk result (λ raw. IsFlat models.now raw) }
+    ensures flat { IfOk result (λ raw. IsFlat models.now raw × (raw.covers ≡ covers)) }
     ensures ok { OnOk result (IsFree (Else (HasDrivenTwice models.now) (HasMixedClocks models.now))) }
     ensures err { IfErr result (λ fault. (fault ≡ OutOfMemory)
         ⊎ Else (HasDrivenTwice models.now) (HasMixedClocks models.now) fault) }
@@ -119,6 +120,7 @@ fn flat_behind(alloc: Global, models: &[Model]) -> Result<RawNet, NetFault>
     requires covered { AreCovered models.now }
     requires free { IsFree (HasFaultBeforeInstances models.now) }
     ensures flat { IfOk result (λ raw. IsFlat models.now raw) }
+    ensures in_range { IfOk result (λ raw. IsInRange raw) }
     ensures ok { OnOk result (IsFree (Else (HasDrivenTwice models.now) (HasMixedClocks models.now))) }
     ensures err { IfErr result (λ fault. (fault ≡ OutOfMemory)
         ⊎ Else (HasDrivenTwice models.now) (HasMixedClocks models.now) fault) }
@@ -143,13 +145,16 @@ fn flat_behind(alloc: Global, models: &[Model]) -> Result<RawNet, NetFault>
         numbered.numbers.as_slice(),
         firsts.as_slice(),
     )?;
-    flat_of(
+    match flat_of(
         alloc,
         models,
         numbered.names.as_slice(),
         covers,
         instances.as_slice(),
-    )
+    ) {
+        Err(fault) => Err(fault),
+        Ok(raw) => Ok(raw),
+    }
 }
 
 /// The flat net of a netlist, or the fault that its hierarchy is refused for. Each cover has to be sound, with as many
@@ -159,6 +164,8 @@ pub fn hierarchical_net(alloc: Global, models: &Models) -> Result<RawNet, NetFau
     requires { AreCovered models.now.models }
     ensures flat { IfOk result (λ raw. IsFlat models.now.models raw) }
     ensures runs { IfOk result (λ raw. (n : ℕ) → Corresponds models.now.models raw n) }
+    ensures in_range { IfOk result (λ raw. IsInRange raw) }
+    ensures one_driver { IfOk result (λ raw. HasOneDriver raw) }
     ensures ok { OnOk result (IsFree (IsRefusal models.now.models)) }
     ensures err { IfErr result (λ fault. (fault ≡ OutOfMemory) ⊎ IsRefusal models.now.models fault) }
 {

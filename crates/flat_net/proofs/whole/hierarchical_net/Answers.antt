@@ -1,7 +1,8 @@
 use Rattle.std.proofs.Common.{inl, inr, subst, sym}
 use Rattle.hierarchy.specs.Faults.{Else, HasDrivenTwice, HasFaultBeforeInstances, HasMixedClocks, IsFree}
-use Rattle.hierarchy.proofs.Refused.{before_is_refusal, later_is_refusal, refusal_free}
+use Rattle.hierarchy.proofs.Refused.{before_is_refusal, free_first, later_is_refusal, refusal_free}
 use Rattle.flat_net.specs.Flat.{IsFlat}
+use Rattle.flat_net.proofs.OneDriver.{one_driver}
 use Rattle.flat_net.proofs.OneToOne.{corresponds}
 use Rattle.flat_net.proofs.Parting.{shallow}
 use Rattle.flat_net.proofs.whole.hierarchical_net.Goals as goal
@@ -29,3 +30,7 @@ returns-in-Ok-flat_behind-clause-runs c = corresponds c.args.models.now.models c
 
 pub returns-in-Ok-flat_behind-clause-ok : goal.returns-in-Ok-flat_behind-clause-ok
 returns-in-Ok-flat_behind-clause-ok c = refusal_free c.args.models.now.models c.in-Ok.ensures.ok (subst (λ ms. IsFree (Else (HasDrivenTwice ms) (HasMixedClocks ms))) c.as_slice.ensures c.in-Ok-flat_behind.ensures.ok)
+
+pub returns-in-Ok-flat_behind-clause-one_driver : goal.returns-in-Ok-flat_behind-clause-one_driver
+returns-in-Ok-flat_behind-clause-one_driver c = one_driver c.args.models.now.models c.in-Ok-flat_behind.raw (subst (λ ms. IsFlat ms c.in-Ok-flat_behind.raw) c.as_slice.ensures c.in-Ok-flat_behind.ensures.flat)
+    (free_first (HasDrivenTwice c.args.models.now.models) (HasMixedClocks c.args.models.now.models) (subst (λ ms. IsFree (Else (HasDrivenTwice ms) (HasMixedClocks ms))) c.as_slice.ensures c.in-Ok-flat_behind.ensures.ok))
