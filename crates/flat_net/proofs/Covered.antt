@@ -1,5 +1,5 @@
 -- The covers of one more model.
-use Rattle.std.proofs.Common.{append-nil, ◌≡◌, ℕ, zero, suc, ◌+◌, ◌<◌, ◌≤◌, Bool, true, false, List, [], ◌∷◌, ◌++◌, map, length, length-append, take, drop, get_or, set, Option, None, Some, slice_get, arith, refl, sym, ap, ◌∙◌, subst, inl, inr}
+use Rattle.std.proofs.Common.{append-nil, ◌≡◌, ℕ, zero, suc, ◌+◌, ◌<◌, ◌≤◌, List, [], ◌∷◌, ◌++◌, map, length, length-append, take, get_or, set, Option, Some, slice_get, arith, refl, sym, ap, ◌∙◌, subst, inl, inr}
 use Rattle.std.specs.Prelude.{◌⊎◌, All, filter_map, flat_map}
 use Rattle.std.specs.List.{AllZip, cons_option}
 use Rattle.std.proofs.lemmas.List.{length-map, take_more}
@@ -9,7 +9,7 @@ use Rattle.blif_syntax.specs.declared.models.Model.{Model}
 use Rattle.hierarchy.specs.Lines.{GateLine, gate_lines, gate_of}
 use Rattle.hierarchy.specs.Instances.{had_by}
 use Rattle.instances.specs.declared.table.Row.{Row}
-use Rattle.flat_net.specs.private.Passes.{AreSeen, CoversOf, Extends, HasCovers, IsFilled, IsFirstCover, lines_at}
+use Rattle.flat_net.specs.private.Passes.{AreSeen, CoversOf, Extends, IsFilled, IsFirstCover, lines_at}
 use Rattle.net_core.specs.Cover.{IsCover}
 use Rattle.blif_syntax.specs.Covered.{AreCovered, IsCovered}
 use Rattle.blif_syntax.specs.declared.models.Item.{Item}

@@ -1,22 +1,19 @@
 -- The parts of a flat net, instance by instance, are those of the hierarchy.
-use Rattle.std.proofs.Common.{◌≡◌, ℕ, zero, suc, ◌+◌, ◌<◌, ◌≤◌, List, [], ◌∷◌, ◌++◌, map, length, Option, None, Some, slice_get, get_or, arith, refl, sym, ap, ◌∙◌, subst, inl, inr}
+use Rattle.std.proofs.Common.{◌≡◌, ℕ, zero, suc, ◌+◌, ◌<◌, ◌≤◌, List, [], ◌∷◌, ◌++◌, map, length, Some, slice_get, get_or, arith, refl, sym, ap, ◌∙◌, subst, inl, inr}
 use Rattle.std.specs.Prelude.{All, flat_map, bytes_eq}
 use Rattle.std.specs.List.{AllZip}
 use Rattle.ste_base.specs.declared.id.NodeId.{NodeId}
 use Rattle.net_core.specs.declared.cover.Cover.{Cover}
-use Rattle.net_core.specs.declared.raw.Gate.{Gate}
-use Rattle.net_core.specs.declared.raw.Latch.{Latch}
 use Rattle.net_core.specs.declared.raw.RawNet.{RawNet}
-use Rattle.indexmap.specs.IndexSet.{insert_key, insert_all}
-use Rattle.blif_syntax.specs.declared.models.Item.{Item}
+use Rattle.indexmap.specs.IndexSet.{insert_all}
 use Rattle.blif_syntax.specs.declared.models.Model.{Model}
 use Rattle.blif_syntax.specs.declared.models.What.{What}
 use Rattle.blif_syntax.specs.declared.models.What.TheVariants.{Inputs, Outputs, Clock, Names, Latch as LatchItem, Subckt}
 use Rattle.hierarchy.specs.Lines.{GateLine, LatchLine, gate_lines, input_words, inputs_of, latch_lines, output_words, outputs_of, signal_words, signals, top}
-use Rattle.hierarchy.specs.Instances.{had_by, in_instances, instances, model_at}
-use Rattle.hierarchy.specs.Nets.{gates, input_numbers, latches, nets, number_at, output_numbers}
-use Rattle.hierarchy.proofs.Members.{In, flat_map_in, contains_from_in}
-use Rattle.instances.specs.Numbers.{number_of, numbers_in}
+use Rattle.hierarchy.specs.Instances.{had_by, instances, model_at}
+use Rattle.hierarchy.specs.Nets.{gates, input_numbers, latches, nets, number_at}
+use Rattle.hierarchy.proofs.Members.{In, flat_map_in}
+use Rattle.instances.specs.Numbers.{number_of}
 use Rattle.instances.proofs.Homes.{is_signal}
 use Rattle.hierarchy.proofs.Sets.{set_in}
 use Rattle.instances.proofs.Rows.{number_among}

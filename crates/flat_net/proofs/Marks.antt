@@ -1,6 +1,6 @@
 -- Marks of nets, and drivers of nets that are marked.
-use Rattle.std.proofs.Common.{◌≡◌, ℕ, zero, suc, ◌+◌, ◌<◌, ◌≤◌, Bool, true, false, cond, List, [], ◌∷◌, ◌++◌, map, length, drop, get_or, Option, None, Some, slice_get, arith, refl, sym, ap, ◌∙◌, subst, inl, inr}
-use Rattle.std.specs.Prelude.{◌⊎◌, filter_map, flat_map, option_map, slice_index_or, slice_set}
+use Rattle.std.proofs.Common.{◌≡◌, ℕ, zero, suc, ◌+◌, ◌<◌, ◌≤◌, Bool, true, false, cond, List, [], ◌∷◌, ◌++◌, map, length, drop, get_or, Option, Some, arith, refl, sym, ap, ◌∙◌, subst}
+use Rattle.std.specs.Prelude.{filter_map, option_map, slice_index_or, slice_set}
 use Rattle.std.specs.List.{cons_option}
 use Rattle.std.proofs.lemmas.List.{drop_more}
 use Rattle.blif_syntax.specs.declared.models.Item.{Item}

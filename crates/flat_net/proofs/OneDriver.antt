@@ -1,9 +1,8 @@
 -- No net of a flat net is driven twice.
-use Rattle.std.proofs.Common.{◌≡◌, ◌≢◌, true≢false, ℕ, zero, suc, ◌+◌, ◌<◌, ◌≤◌, Bool, true, false, cond, ◌||◌, List, [], ◌∷◌, ◌++◌, map, length, get_or, Option, None, Some, slice_get, arith, refl, sym, ap, ◌∙◌, subst, inl, inr}
-use Rattle.std.specs.Prelude.{◌⊎◌, All, AllPairs, filter_map, flat_map, nat_eq}
+use Rattle.std.proofs.Common.{◌≡◌, true≢false, ℕ, zero, suc, ◌<◌, Bool, true, false, cond, ◌||◌, List, [], ◌∷◌, ◌++◌, map, length, get_or, Option, None, Some, arith, refl, sym, ap, ◌∙◌, subst, inl, inr}
+use Rattle.std.specs.Prelude.{filter_map, flat_map, nat_eq}
 use Rattle.std.specs.List.{AllZip, cons_option, list_any}
 use Rattle.std.proofs.lemmas.Bool.Decides.{Decides-eqb}
-use Rattle.std.proofs.lemmas.List.{map-append}
 use Rattle.ste_base.specs.declared.id.NodeId.{NodeId}
 use Rattle.net_core.specs.declared.raw.Gate.{Gate}
 use Rattle.net_core.specs.declared.raw.Latch.{Latch}
@@ -20,7 +19,7 @@ use Rattle.hierarchy.specs.Lines.{DriverLine, GateLine, LatchLine, driver_lines,
 use Rattle.hierarchy.specs.Instances.{had_by, instances, model_at}
 use Rattle.hierarchy.specs.Names.{name_at}
 use Rattle.hierarchy.specs.Nets.{drivers, gates as all_gates, input_numbers, latches as all_latches, number_at}
-use Rattle.hierarchy.proofs.Members.{In, append_cases, in_append_left, in_append_right, in_at, in_map}
+use Rattle.hierarchy.proofs.Members.{In, in_at, in_map}
 use Rattle.instances.proofs.NoRepeats.{Distinct}
 use Rattle.flat_net.specs.Flat.{IsFlat, IsGateOf, IsLatchOf}
 

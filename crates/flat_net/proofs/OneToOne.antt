@@ -1,6 +1,6 @@
 -- The runs of a hierarchy and of its flat net, one to one.
 use Rattle.std.proofs.Common.{◌<◌, ap, length, [], arith}
-use Rattle.flat_net.specs.Corresponds.{Corresponds, RunsCorrespond}
+use Rattle.flat_net.specs.Corresponds.{RunsCorrespond}
 use Rattle.hierarchy.specs.Lines.{signals}
 use Rattle.hierarchy.specs.Nets.{nets}
 use Rattle.flat_net.proofs.Corresponds.{bit_at, starts_flat, starts_hierarchy, to_flat_gate, to_flat_latch, to_formal, to_gate, to_latch}

@@ -1,5 +1,5 @@
 -- What a hierarchy without an early fault has.
-use Rattle.std.proofs.Common.{◌≡◌, ℕ, zero, suc, ◌+◌, ◌<◌, ◌≤◌, Bool, true, false, List, [], ◌∷◌, ◌++◌, map, length, length-append, get_or, Option, None, Some, slice_get, arith, refl, sym, ap, ◌∙◌, subst, inl, inr}
+use Rattle.std.proofs.Common.{◌≡◌, ℕ, zero, suc, ◌+◌, ◌<◌, ◌≤◌, List, [], ◌∷◌, ◌++◌, length, length-append, get_or, Option, None, Some, slice_get, arith, refl, sym, ap, ◌∙◌, subst, inl, inr}
 use Rattle.std.specs.Prelude.{◌⊎◌, All, filter_map, flat_map, sum_by}
 use Rattle.std.specs.List.{AllZip, cons_option}
 use Rattle.std.proofs.lemmas.List.Sums.{sum_by-cons}
@@ -8,7 +8,7 @@ use Rattle.blif_syntax.specs.declared.models.Model.{Model}
 use Rattle.blif_syntax.specs.declared.models.What.{What}
 use Rattle.blif_syntax.specs.declared.models.What.TheVariants.{Inputs, Outputs, Clock, Names, Latch, Subckt}
 use Rattle.hierarchy.specs.declared.fault.NetFault.TheVariants.{TooDeep, TooManyNodes}
-use Rattle.hierarchy.specs.Faults.{HasFaultBeforeInstances, HasTooManyNodes, HasUnknownModel, IsFree}
+use Rattle.hierarchy.specs.Faults.{HasFaultBeforeInstances, HasUnknownModel, IsFree}
 use Rattle.hierarchy.specs.Instances.{had_by, instances, model_at}
 use Rattle.hierarchy.specs.Lines.{GateLine, gate_lines, gate_of, signal_words}
 use Rattle.hierarchy.specs.Nets.{nets}

@@ -1,5 +1,5 @@
 -- The instances in preorder.
-use Rattle.std.proofs.Common.{◌≡◌, ℕ, zero, suc, ◌+◌, ◌<◌, ◌≤◌, List, [], ◌∷◌, ◌++◌, map, length, take, get_or, Option, None, Some, slice_get, arith, refl, sym, ap, ◌∙◌, subst}
+use Rattle.std.proofs.Common.{◌≡◌, ℕ, zero, suc, ◌+◌, ◌<◌, List, [], ◌∷◌, ◌++◌, map, length, take, get_or, Some, slice_get, arith, refl, sym, ap, ◌∙◌, subst}
 use Rattle.std.specs.Prelude.{option_map, slice_index_or}
 use Rattle.std.specs.List.{AllZip}
 use Rattle.std.proofs.lemmas.List.{take_more}
@@ -10,7 +10,7 @@ use Rattle.hierarchy.specs.Lines.{signals}
 use Rattle.hierarchy.specs.Instances.{instances, model_at}
 use Rattle.instances.specs.declared.table.Row.{Row}
 use Rattle.instances.specs.Numbers.{AreRows, numbers_in}
-use Rattle.instances.proofs.Rows.{RowOf, row_of, signals_of}
+use Rattle.instances.proofs.Rows.{row_of, signals_of}
 use Rattle.flat_net.specs.private.Passes.{CoversOf, Instance, IsFirstCover, IsInstance}
 
 at_place : {X : Type 0} (xs : List X) (k : ℕ) (d : X) → k < length xs → slice_get xs k ≡ Some (get_or xs k d)

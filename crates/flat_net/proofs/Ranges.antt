@@ -1,7 +1,6 @@
 -- The numbers of a flat net are in range.
-use Rattle.std.proofs.Common.{◌≡◌, ◌≢◌, true≢false, ℕ, zero, suc, ◌+◌, ◌<◌, ◌≤◌, Bool, true, false, cond, List, [], ◌∷◌, ◌++◌, map, length, get_or, Option, None, Some, slice_get, arith, refl, sym, ap, ◌∙◌, subst, inl, inr}
+use Rattle.std.proofs.Common.{◌≡◌, ℕ, zero, suc, ◌<◌, List, [], ◌∷◌, map, length, get_or, Option, None, Some, slice_get, arith, refl, sym, ap, ◌∙◌, subst}
 use Rattle.std.specs.Prelude.{All, option_and_then}
-use Rattle.std.specs.List.{AllZip}
 use Rattle.std.proofs.lemmas.List.{length-map}
 use Rattle.ste_base.specs.declared.id.NodeId.{NodeId}
 use Rattle.net_core.specs.declared.cover.Cover.{Cover}
@@ -14,7 +13,7 @@ use Rattle.blif_syntax.specs.Covered.{AreCovered, IsCovered}
 use Rattle.blif_syntax.specs.declared.models.Model.{Model}
 use Rattle.blif_syntax.specs.declared.models.What.{What}
 use Rattle.blif_syntax.specs.declared.models.What.TheVariants.{Inputs, Outputs, Clock, Names, Latch as LatchItem, Subckt}
-use Rattle.hierarchy.specs.Lines.{GateLine, LatchLine, UseLine, gate_lines, gate_of, inputs_of, latch_lines, outputs_of, signals, top}
+use Rattle.hierarchy.specs.Lines.{GateLine, LatchLine, UseLine, gate_lines, gate_of, inputs_of, latch_lines, outputs_of, signals}
 use Rattle.hierarchy.specs.Instances.{model_at, model_named, number_named, use_at}
 use Rattle.hierarchy.specs.Nets.{gates, home, input_numbers, is_same_signal, latches, nets, number_at, output_numbers}
 use Rattle.hierarchy.specs.Sizes.{IsShallow}

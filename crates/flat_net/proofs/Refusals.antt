@@ -1,5 +1,5 @@
 -- The refusals that need the numbers of nets.
-use Rattle.std.proofs.Common.{◌≡◌, ◌≢◌, true≢false, ℕ, zero, suc, ◌+◌, ◌<◌, ◌≤◌, Bool, true, false, not, cond, ◌||◌, List, [], ◌∷◌, ◌++◌, map, length, replicate, get_or, Option, None, Some, slice_get, arith, refl, sym, ap, ◌∙◌, subst, inl, inr}
+use Rattle.std.proofs.Common.{◌≡◌, ◌≢◌, true≢false, ℕ, zero, suc, ◌<◌, Bool, true, false, not, cond, ◌||◌, List, [], ◌∷◌, ◌++◌, map, length, replicate, get_or, Option, None, Some, slice_get, arith, refl, sym, ap, ◌∙◌, subst, inl, inr}
 use Rattle.std.specs.Prelude.{All, filter_map, find, flat_map, nat_eq, option_map, option_to_list, slice_index_or, slice_set}
 use Rattle.std.specs.Bool.{beq}
 use Rattle.std.specs.List.{AllZip, list_any, cons_option}
@@ -26,7 +26,7 @@ use Rattle.flat_net.specs.private.Passes.{AreInstances, Instance, IsInstance, no
 use Rattle.flat_net.proofs.Flattened.{input_signal, node_is, top_inputs, zip_flat_map}
 use Rattle.flat_net.specs.declared.clocks.Clock.{Clock}
 use Rattle.flat_net.specs.declared.clocks.Clocks.{Clocks}
-use Rattle.flat_net.specs.private.Drivers.{Driver, clock_at, clocks_in, clocks_with, driver_at, drivers_in, driven_fault, marked, mixed, mixed_fault, mixes, no_clocks, twice}
+use Rattle.flat_net.specs.private.Drivers.{Driver, clock_at, clocks_in, clocks_with, driver_at, drivers_in, driven_fault, marked, mixed, mixed_fault, no_clocks, twice}
 
 -- the driver is that of a line in an instance
 record IsDriver (models : List Model) (names : List (List ℕ)) (driver : Driver) (at : List ℕ × DriverLine) : Type 0 where

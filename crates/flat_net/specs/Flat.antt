@@ -1,6 +1,6 @@
 -- Meaning. The flat net of one model, whose nets are its signals, numbered by first mention; and the flat net of a hierarchy. Gates
 -- and latches are numbered by instance and by line. A control has no effect on its latch.
-use Rattle.std.specs.Prelude.{◌≡◌, ◌≤◌, ℕ, suc, ◌∷◌, [], List, Some, length, map, bytes_eq, slice_get}
+use Rattle.std.specs.Prelude.{◌≡◌, ℕ, suc, ◌∷◌, [], List, Some, length, map, bytes_eq, slice_get}
 use Rattle.std.specs.List.{AllZip, position_or_len}
 use Rattle.ste_base.specs.declared.id.NodeId.{NodeId}
 use Rattle.net_core.specs.declared.raw.Gate.{Gate}
@@ -8,7 +8,6 @@ use Rattle.net_core.specs.declared.raw.Latch.{Latch}
 use Rattle.net_core.specs.declared.raw.RawNet.{RawNet}
 use Rattle.blif_syntax.specs.declared.models.Model.{Model}
 use Rattle.hierarchy.specs.Lines.{GateLine, LatchLine, gate_lines, inputs_of, latch_lines, outputs_of, signals}
-use Rattle.hierarchy.specs.Instances.{model_at}
 use Rattle.hierarchy.specs.Nets.{gates, input_numbers, latches, nets, number_at, output_numbers}
 
 -- the net of a signal

@@ -1,5 +1,5 @@
 -- Meaning. The netlists that are flattened so far.
-use Rattle.std.specs.Prelude.{ℕ, ◌&&◌, ◌++◌, ◌∷◌, [], List, length, map, filter_map, Bool, true, false, not, Option, Some, None, nat_eq, nat_le, bytes_eq}
+use Rattle.std.specs.Prelude.{ℕ, ◌&&◌, ◌++◌, ◌∷◌, [], List, length, map, filter_map, Bool, true, false, not, nat_eq, nat_le, bytes_eq}
 use Rattle.std.specs.Bool.{beq}
 use Rattle.std.specs.List.{list_all, list_any}
 use Rattle.blif_syntax.specs.declared.models.Model.{Model}

@@ -1,5 +1,5 @@
 -- For private functions. The parts of a flat net, instance by instance.
-use Rattle.std.specs.Prelude.{◌≡◌, ◌≤◌, ℕ, suc, ◌+◌, ◌∷◌, [], All, List, Option, Some, flat_map, length, map, slice_get}
+use Rattle.std.specs.Prelude.{◌≡◌, ◌≤◌, ℕ, suc, ◌+◌, ◌∷◌, [], All, List, Option, Some, length, map, slice_get}
 use Rattle.std.specs.List.{AllZip}
 use Rattle.ste_base.specs.declared.id.NodeId.{NodeId}
 use Rattle.net_core.specs.Cover.{IsCover}

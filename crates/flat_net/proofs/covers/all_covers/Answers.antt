@@ -1,4 +1,3 @@
-use Rattle.std.proofs.Common.{◌≡◌}
 use Rattle.flat_net.proofs.Covered.{more_firsts, room, still_few, still_sound}
 use Rattle.flat_net.proofs.covers.all_covers.Goals as goal
 

@@ -1,4 +1,4 @@
-use Rattle.std.proofs.Common.{◌≡◌, ◌∙◌, ap, get_or, inl, inr, false, []}
+use Rattle.std.proofs.Common.{◌∙◌, ap, get_or, inl, inr, false, []}
 use Rattle.hierarchy.specs.declared.fault.NetFault.TheVariants.{DrivenTwice}
 use Rattle.flat_net.proofs.Marks.{refused_again}
 use Rattle.flat_net.proofs.drivers.refuse_in.Goals as goal

@@ -1,6 +1,6 @@
 use Rattle.std.proofs.Common.{◌≡◌, ◌≤◌, ◌+◌, ◌++◌, drop, length}
 use Rattle.std.specs.Prelude.{filter_map}
-use Rattle.hierarchy.specs.Lines.{gate_lines, gate_of}
+use Rattle.hierarchy.specs.Lines.{gate_of}
 use Rattle.flat_net.specs.private.Passes.{gates_from, gates_in}
 use Rattle.flat_net.proofs.gates.add_gates.Given as goal
 

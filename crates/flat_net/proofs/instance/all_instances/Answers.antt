@@ -1,4 +1,4 @@
-use Rattle.std.proofs.Common.{◌≡◌, ◌∙◌}
+use Rattle.std.proofs.Common.{◌∙◌}
 use Rattle.instances.proofs.Rows.{row_low, row_of}
 use Rattle.flat_net.proofs.Placed.{next_instance}
 use Rattle.flat_net.proofs.instance.all_instances.Goals as goal

@@ -1,9 +1,7 @@
-use Rattle.std.proofs.Common.{◌≡◌, ◌≤◌, ◌∙◌, List, ap, arith, length, map, subst, sym}
-use Rattle.std.specs.Prelude.{All, flat_map}
+use Rattle.std.proofs.Common.{arith, subst, sym}
 use Rattle.std.specs.List.{AllZip}
-use Rattle.instances.specs.declared.table.Row.{Row}
 use Rattle.instances.specs.Numbers.{AreRows}
-use Rattle.flat_net.specs.private.Passes.{IsFirstCover, lines_at}
+use Rattle.flat_net.specs.private.Passes.{IsFirstCover}
 use Rattle.flat_net.proofs.Parting.{few_lines, few_nets, known, rows_low}
 use Rattle.flat_net.proofs.parts.parts_of.Goals as goal
 

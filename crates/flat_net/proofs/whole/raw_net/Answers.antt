@@ -1,4 +1,4 @@
-use Rattle.std.proofs.Common.{◌≡◌, ◌∙◌, ap, map, refl}
+use Rattle.std.proofs.Common.{◌∙◌, ap, map, refl}
 use Rattle.hierarchy.specs.Lines.{inputs_of, outputs_of}
 use Rattle.flat_net.specs.private.Passes.{node_in}
 use Rattle.flat_net.proofs.Flattened.{few_covers, flat_is}

@@ -1,4 +1,4 @@
-use Rattle.std.proofs.Common.{◌≡◌, ◌∙◌, ap, inl, inr, map}
+use Rattle.std.proofs.Common.{◌∙◌, ap, inl, inr, map}
 use Rattle.hierarchy.specs.Lines.{inputs_of}
 use Rattle.flat_net.specs.private.Passes.{node_in}
 use Rattle.flat_net.proofs.Refusals.{driven_found, mixed_found, mixed_free}
