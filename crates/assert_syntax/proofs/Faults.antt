@@ -1,12 +1,12 @@
 -- The first fault, from what the earlier lines say.
-use Rattle.std.proofs.Common.{ℕ, suc, ◌≡◌, ◌≤◌, refl, sym, ◌∙◌, ap, List, [], ◌∷◌, ◌++◌, length, Bool, true, false, if◌then◌else◌, Option, Some, None, arith, nat_le, ◌&&◌}
+use Rattle.std.proofs.Common.{ℕ, suc, ◌≡◌, ◌≤◌, refl, ap, List, [], ◌∷◌, ◌++◌, length, Bool, true, false, if◌then◌else◌, Option, Some, None, arith, nat_le, ◌&&◌}
 use Rattle.assert_syntax.specs.declared.form.Entry.{Entry}
 use Rattle.assert_syntax.specs.declared.form.Form.{Form}
 use Rattle.assert_syntax.specs.declared.form.Form.TheVariants as form
 use Rattle.assert_syntax.specs.declared.form.LineFault.{LineFault}
 use Rattle.assert_syntax.specs.declared.form.LineFault.TheVariants.{Bad, Many}
 use Rattle.assert_syntax.specs.Parses.{Parse}
-use Rattle.assert_syntax.specs.Places.{Context, context_behind, context_of, fault_or, first_double, first_fault, form_fault, graph_fault, line_fault, may_stand, names_fault, vertices_behind}
+use Rattle.assert_syntax.specs.Places.{Context, context_behind, context_of, fault_or, first_double, first_fault, form_fault, line_fault, may_stand, names_fault, vertices_behind}
 use Rattle.assert_syntax.specs.private.Drafts.{HasRoom}
 
 -- the first faulty line, where the earlier lines say this

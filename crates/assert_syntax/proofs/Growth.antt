@@ -1,12 +1,11 @@
 -- The tasks, from what is read so far and what is still to come.
-use Rattle.std.proofs.Common.{ℕ, ◌≡◌, refl, ap, sym, ◌∙◌, List, [], ◌∷◌, ◌++◌, map, Bool, true, false, if◌then◌else◌, Option, Some, None, append_assoc, append-nil}
+use Rattle.std.proofs.Common.{ℕ, ◌≡◌, refl, ap, sym, ◌∙◌, List, [], ◌∷◌, ◌++◌, map, Bool, if◌then◌else◌, Option, Some, None, append-nil}
 use Rattle.bool_expr.specs.declared.expr.Expr.{Expr}
 use Rattle.bool_expr.specs.Tree.{tree_of}
 use Rattle.assert_syntax.specs.declared.draft.OpenTask.{OpenTask}
 use Rattle.assert_syntax.specs.declared.draft.OpenTask.TheVariants.{Closed, Ste, Gste}
 use Rattle.assert_syntax.specs.declared.form.Clause.{Clause}
 use Rattle.assert_syntax.specs.declared.form.Entry.{Entry}
-use Rattle.assert_syntax.specs.declared.form.Form.{Form}
 use Rattle.assert_syntax.specs.declared.form.Form.TheVariants as form
 use Rattle.assert_syntax.specs.declared.form.Side.{Side}
 use Rattle.assert_syntax.specs.declared.form.Side.TheVariants.{Antecedent, Consequent}
@@ -15,7 +14,7 @@ use Rattle.assert_syntax.specs.declared.tasks.RawTask.{RawTask}
 use Rattle.assert_syntax.specs.declared.tasks.RawTask.TheVariants as raw
 use Rattle.assert_syntax.specs.Parses.{Parse, tree_over}
 use Rattle.assert_syntax.specs.Places.{Context, context_behind, vertices_behind}
-use Rattle.assert_syntax.specs.Spelled.{TaskTree, EdgeTree, QuintTree, BindTree, assertion, graph, bind_tree, edge_tree, quint_tree, task_tree, binds_of, edges_of, quints_of, quint_said, bind_said, is_side, tasks_of, vertices_of, vertex_number}
+use Rattle.assert_syntax.specs.Spelled.{TaskTree, EdgeTree, assertion, graph, bind_tree, edge_tree, quint_tree, task_tree, binds_of, edges_of, quints_of, quint_said, bind_said, is_side, tasks_of, vertices_of, vertex_number}
 use Rattle.assert_syntax.specs.private.Drafts.{clause_added, edge_added, edges_closed, quint_of, bind_of, side_added, tasks_closed}
 use Rattle.assert_syntax.specs.private.Steps.{finish, grown, grown_edge}
 

@@ -1,5 +1,5 @@
 -- The first fault, in plain terms: what is wrong with a line, kind by kind, and line by line.
-use Rattle.std.proofs.Common.{ℕ, zero, suc, ◌+◌, ◌<◌, ◌≤◌, ◌≡◌, ◌⊎◌, inl, inr, refl, sym, ap, subst, ◌∙◌, List, [], ◌∷◌, ◌++◌, length, map, filter, take, drop, Bool, true, false, ◌&&◌, ◌||◌, if◌then◌else◌, nat_le, nat_lt, Option, Some, None, arith, bytes_eq}
+use Rattle.std.proofs.Common.{ℕ, zero, suc, ◌<◌, ◌≤◌, ◌≡◌, ◌⊎◌, inl, inr, refl, sym, ap, subst, ◌∙◌, List, [], ◌∷◌, ◌++◌, length, filter, take, drop, Bool, true, false, ◌&&◌, ◌||◌, if◌then◌else◌, nat_le, nat_lt, Option, Some, None, arith, bytes_eq}
 use Rattle.std.specs.Prelude.{slice_get}
 use Rattle.std.specs.Option.{option_map}
 use Rattle.std.specs.List.{flat_map}
@@ -8,7 +8,7 @@ use Rattle.std.proofs.lemmas.Option.{slice_get-map}
 use Rattle.indexmap.specs.IndexSet.{insert_all}
 use Rattle.bool_expr.specs.Grammar.{Expression, nesting, spelling}
 use Rattle.bool_expr.specs.Read.{Spells, first_unknown, number_in}
-use Rattle.bool_expr.specs.Tokens.{Token, tokens_of}
+use Rattle.bool_expr.specs.Tokens.{tokens_of}
 use Rattle.bool_expr.proofs.Answered.{one_tree}
 use Rattle.assert_syntax.specs.declared.form.Clause.{Clause}
 use Rattle.assert_syntax.specs.declared.form.Entry.{Entry}
@@ -18,10 +18,9 @@ use Rattle.assert_syntax.specs.declared.form.LineFault.{LineFault}
 use Rattle.assert_syntax.specs.declared.form.LineFault.TheVariants.{Bad, Deep, Double, Unknown, Many}
 use Rattle.assert_syntax.specs.declared.form.Span.{Span}
 use Rattle.assert_syntax.specs.declared.form.Span.TheVariants as span
-use Rattle.assert_syntax.specs.declared.place.Place.TheVariants.{Graph}
 use Rattle.assert_syntax.specs.Parses.{Parse, IsParse, IsSpelled, is_deep}
-use Rattle.assert_syntax.specs.Places.{Context, clause_fault, context_behind, context_of, edges_behind, fault_or, first_double, first_fault, form_fault, graph_fault, line_fault, may_stand, names_behind, names_fault, span_fault, unknown_fault, vars_behind, vertices_behind}
-use Rattle.assert_syntax.specs.Rules.{FirstFaultIsLeast, GoesBefore, HasFault, HasForm, HasNoExpression, IsBad, IsDeep, IsDouble, IsFirstDouble, IsFirstFault, IsFirstUndeclared, IsGraphAt, IsLargeGraph, IsLate, IsMany, IsUnknown, SpellsDeep, SpellsNone, Stands, declared, forms_of, mentions, starts_edge, tasks_named}
+use Rattle.assert_syntax.specs.Places.{Context, clause_fault, context_behind, context_of, fault_or, first_double, first_fault, form_fault, line_fault, may_stand, names_behind, names_fault, span_fault, unknown_fault, vars_behind, vertices_behind}
+use Rattle.assert_syntax.specs.Rules.{FirstFaultIsLeast, GoesBefore, HasFault, HasForm, IsBad, IsDeep, IsDouble, IsFirstDouble, IsFirstFault, IsFirstUndeclared, IsGraphAt, IsLargeGraph, IsLate, IsMany, IsUnknown, SpellsDeep, SpellsNone, Stands, declared, forms_of, mentions, starts_edge}
 use Rattle.assert_syntax.proofs.Faults.{fault_from, same_fault}
 use Rattle.assert_syntax.proofs.Placed.{GraphTold, Told, graph_more, names_on, stands, stands_not, told_first, told_on, vars_on}
 use Rattle.assert_syntax.proofs.Named.{double_found, double_none, or_else, undeclared_found, undeclared_none, unknown_both}

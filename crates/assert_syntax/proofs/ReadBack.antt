@@ -1,5 +1,5 @@
 -- Tasks that are written out are read back.
-use Rattle.std.proofs.Common.{ℕ, suc, ◌+◌, ◌<◌, ◌≤◌, ◌≡◌, refl, sym, ap, subst, ◌∙◌, List, [], ◌∷◌, ◌++◌, length, get_or, take, drop, map, filter, arith, Bool, true, false, ◌&&◌, ◌||◌, if◌then◌else◌, Option, None, Some, codes, nat_le, nat_lt, bytes_eq, append_assoc, append-nil, length-append}
+use Rattle.std.proofs.Common.{ℕ, suc, ◌+◌, ◌<◌, ◌≤◌, ◌≡◌, refl, sym, ap, subst, ◌∙◌, List, [], ◌∷◌, ◌++◌, length, get_or, take, drop, map, arith, Bool, true, false, if◌then◌else◌, Option, None, Some, codes, nat_le, nat_lt, bytes_eq, append_assoc, append-nil, length-append}
 use Rattle.std.specs.Prelude.{All, cond, unwrap_or}
 use Rattle.std.specs.List.{Contains, flat_map, list_all, list_any, position, position_or_len}
 use Rattle.std.proofs.lemmas.Bool.{eqb-true}
@@ -12,7 +12,6 @@ use Rattle.std.proofs.lemmas.List.Sums.{fails_before_first, fold-append, positio
 use Rattle.std.proofs.Math.Dec.{eqb}
 use Rattle.std.proofs.lemmas.Slice.Eq.{bytes_eq-Decides}
 use Rattle.indexmap.specs.IndexSet.{insert_all, insert_key}
-use Rattle.blif_lines.specs.declared.lines.Line.{Line}
 use Rattle.blif_lines.specs.Laws.{spaced}
 use Rattle.bool_expr.specs.Grammar.{Expression, literal, nesting, single, spelling}
 use Rattle.bool_expr.specs.declared.token.Sign.TheVariants.{Or, Xor, And}
@@ -23,7 +22,6 @@ use Rattle.assert_syntax.specs.declared.form.Entry.{Entry}
 use Rattle.assert_syntax.specs.declared.form.Form.{Form}
 use Rattle.assert_syntax.specs.declared.form.Form.TheVariants as form
 use Rattle.assert_syntax.specs.declared.form.LineFault.{LineFault}
-use Rattle.assert_syntax.specs.declared.form.Moment.TheVariants as moment
 use Rattle.assert_syntax.specs.declared.form.Side.{Side}
 use Rattle.assert_syntax.specs.declared.form.Side.TheVariants.{Antecedent, Consequent}
 use Rattle.assert_syntax.specs.declared.form.Span.{Span}
@@ -34,13 +32,13 @@ use Rattle.assert_syntax.specs.declared.form.LineFault.TheVariants.{Bad}
 use Rattle.assert_syntax.specs.Answer.{entry_of, entries_of}
 use Rattle.assert_syntax.specs.Forms.{clause_of, clause_with, expression_length, form_of, guarded, span_of, valued}
 use Rattle.assert_syntax.specs.Parses.{Parse, IsParse, IsSpelled, is_deep, tree_over}
-use Rattle.assert_syntax.specs.Places.{Context, clause_fault, context_behind, context_of, fault_or, first_double, first_fault, graph_fault, holds_edges, line_fault, names_fault, span_fits}
+use Rattle.assert_syntax.specs.Places.{Context, clause_fault, context_of, fault_or, first_double, first_fault, graph_fault, holds_edges, names_fault, span_fits}
 use Rattle.assert_syntax.specs.Rules.{IsFirstDouble}
-use Rattle.assert_syntax.specs.Spelled.{QuintTree, BindTree, EdgeTree, TaskTree, assertion, graph, bind_said, binds_of, edges_of, from_of, is_side, quint_said, quints_of, tasks_of, to_of, vars_with, vertex_number, vertices_of}
-use Rattle.assert_syntax.specs.Words.{ends_expression, is_variable, moment_of}
+use Rattle.assert_syntax.specs.Spelled.{assertion, graph, bind_said, binds_of, edges_of, from_of, is_side, quint_said, quints_of, tasks_of, to_of, vars_with, vertex_number, vertices_of}
+use Rattle.assert_syntax.specs.Words.{ends_expression, is_variable}
 use Rattle.assert_syntax.specs.Written.{SaidClause, SaidEdge, SaidTask, SaidTimes, ste, gste, AreSayable, AreTimes, IsBindSaid, IsExpression, IsGuard, IsQuintSaid, IsSayable, IsTimed, WrittenIsRead, clause_line, clause_words, edge_lines, ends_of, guard_text, guard_words, line_of, on_side, reset_words, said_bind, said_edge, said_from, said_name, said_quint, said_task, said_to, side_word, task_lines, times_words, vars_lines, vertices_said, written}
 use Rattle.assert_syntax.proofs.Faults.{fault_from, same_fault}
-use Rattle.assert_syntax.proofs.Named.{double_found, found_in, stands_in}
+use Rattle.assert_syntax.proofs.Named.{double_found, stands_in}
 
 -- the clause that is read
 abbrev said_span : Option SaidTimes → Span

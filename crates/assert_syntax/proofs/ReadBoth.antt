@@ -1,5 +1,5 @@
 -- What the expressions of a clause are read as.
-use Rattle.std.proofs.Common.{ℕ, ◌≡◌, ◌≤◌, ◌<◌, refl, sym, ◌∙◌, ap, List, Option, Some, None, Result, Ok, Err, Bool, true, false, ◌||◌, arith, nat_lt}
+use Rattle.std.proofs.Common.{ℕ, ◌≡◌, ◌≤◌, ◌<◌, refl, List, Option, Some, None, Result, Ok, Err, Bool, true, false, ◌||◌, arith}
 use Rattle.bool_expr.specs.declared.expr.Expr.{Expr}
 use Rattle.bool_expr.specs.declared.fault.ExprFault.{ExprFault}
 use Rattle.bool_expr.specs.declared.fault.ExprFault.TheVariants.{BadExpr, TooDeep, UnknownVar, OutOfMemory}

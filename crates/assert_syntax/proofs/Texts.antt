@@ -1,5 +1,5 @@
 -- The text of some words, word by word; and names that are added one by one.
-use Rattle.std.proofs.Common.{ℕ, suc, ◌+◌, ◌<◌, ◌≡◌, refl, ap, sym, ◌∙◌, List, [], ◌∷◌, ◌++◌, length, get_or, drop, Bool, true, false, not, Option, Some, None, append_assoc, append-nil, bytes_eq, if◌then◌else◌}
+use Rattle.std.proofs.Common.{ℕ, ◌+◌, ◌<◌, ◌≡◌, refl, ap, sym, ◌∙◌, List, [], ◌∷◌, ◌++◌, length, get_or, drop, Bool, true, false, not, Option, Some, append_assoc, append-nil, bytes_eq}
 use Rattle.std.specs.List.{list_any}
 use Rattle.std.proofs.lemmas.List.{drop_more}
 use Rattle.blif_lines.specs.Laws.{spaced}

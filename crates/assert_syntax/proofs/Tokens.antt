@@ -1,5 +1,5 @@
 -- The tokens of words, and of texts with any blanks between their words.
-use Rattle.std.proofs.Common.{ℕ, ◌≡◌, refl, sym, ap, subst, ◌∙◌, ◌⊎◌, inl, inr, List, [], ◌∷◌, ◌++◌, filter, Bool, true, false, if◌then◌else◌, ◌&&◌, ◌||◌, nat_eq, append_assoc, append-nil, ◌↔◌}
+use Rattle.std.proofs.Common.{ℕ, ◌≡◌, refl, sym, ap, subst, ◌∙◌, ◌⊎◌, inl, inr, List, [], ◌∷◌, ◌++◌, filter, Bool, true, false, if◌then◌else◌, ◌&&◌, ◌||◌, nat_eq, append-nil}
 use Rattle.std.proofs.lemmas.Bool.{eqb-true}
 use Rattle.std.proofs.lemmas.List.Sums.{take_while-cons}
 use Rattle.std.specs.Prelude.{cond}
@@ -8,9 +8,7 @@ use Rattle.std.proofs.lemmas.Grind.{flat_map-append}
 use Rattle.ste_base.specs.Bytes.{is_blank, is_letter}
 use Rattle.blif_lines.specs.Laws.{Part, all_words, spaced}
 use Rattle.blif_lines.specs.Lines.{is_filled, onto_first, pieces, words_of}
-use Rattle.bool_expr.specs.Grammar.{Expression, spelling}
-use Rattle.bool_expr.specs.Read.{Spells}
-use Rattle.bool_expr.specs.Tokens.{Token, byte_token, is_name_byte, tokens_behind, tokens_of, word_token}
+use Rattle.bool_expr.specs.Tokens.{Token, is_name_byte, tokens_behind, tokens_of, word_token}
 use Rattle.assert_syntax.specs.Texts.{WordsAreTheText}
 
 word_on : (c : Bool) (byte : ℕ) (one other : List ℕ) → one ≡ other → cond c (byte ∷ one) [] ≡ cond c (byte ∷ other) []

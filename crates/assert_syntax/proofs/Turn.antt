@@ -1,9 +1,8 @@
 -- One line more, and what is still to come.
-use Rattle.std.proofs.Common.{ℕ, suc, ◌+◌, ◌<◌, ◌≤◌, ◌≡◌, refl, ap, sym, subst, ◌∙◌, List, [], ◌∷◌, ◌++◌, map, length, get_or, drop, arith, Bool, true, false, Option, Some, None, Result, Ok, Err, length-append, append-nil}
+use Rattle.std.proofs.Common.{ℕ, suc, ◌+◌, ◌<◌, ◌≤◌, ◌≡◌, refl, ap, sym, subst, ◌∙◌, List, [], ◌∷◌, map, length, get_or, drop, arith, true, false, Option, Some, None, Result, Ok, Err, length-append, append-nil}
 use Rattle.std.proofs.lemmas.List.{drop_more}
 use Rattle.blif_lines.specs.declared.lines.Line.{Line}
 use Rattle.bool_expr.specs.declared.expr.Expr.{Expr}
-use Rattle.bool_expr.specs.Tree.{tree_of}
 use Rattle.assert_syntax.specs.declared.draft.Draft.{Draft}
 use Rattle.assert_syntax.specs.declared.draft.OpenTask.{OpenTask}
 use Rattle.assert_syntax.specs.declared.draft.OpenTask.TheVariants.{Closed, Ste, Gste}
@@ -18,7 +17,7 @@ use Rattle.assert_syntax.specs.declared.form.LineFault.TheVariants.{Bad, Deep, D
 use Rattle.assert_syntax.specs.declared.tasks.RawTask.{RawTask}
 use Rattle.assert_syntax.specs.declared.tasks.RawTasks.{RawTasks}
 use Rattle.assert_syntax.specs.Answer.{entry_of, entries_of, IsAnswer}
-use Rattle.assert_syntax.specs.Parses.{Parse, IsParse, tree_over}
+use Rattle.assert_syntax.specs.Parses.{Parse, IsParse}
 use Rattle.assert_syntax.specs.Places.{Context, context_behind, context_of, fault_or, first_fault, form_fault, graph_fault, line_fault, may_stand, vertices_behind}
 use Rattle.assert_syntax.specs.Spelled.{task_tree, tasks_of, vars_with, vertex_number}
 use Rattle.assert_syntax.specs.private.Drafts.{HasRoom, IsFault, IsClauseRead, clause_added, edge_added, tasks_closed}

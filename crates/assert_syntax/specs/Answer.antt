@@ -1,10 +1,9 @@
 -- Meaning. What a task file's lines are answered with.
-use Rattle.std.specs.Prelude.{◌≡◌, ℕ, [], List, map, Some, None, Result, Ok, Err}
+use Rattle.std.specs.Prelude.{◌≡◌, [], List, map, Some, None, Result, Ok, Err}
 use Rattle.blif_lines.specs.declared.lines.Line.{Line}
 use Rattle.assert_syntax.specs.declared.fault.TaskFault.{TaskFault}
 use Rattle.assert_syntax.specs.declared.fault.TaskFault.TheVariants.{BadLine, TooDeep, DoubleName, UnknownVar, TooMany, NoTask, OutOfMemory}
 use Rattle.assert_syntax.specs.declared.form.Entry.{Entry}
-use Rattle.assert_syntax.specs.declared.form.LineFault.{LineFault}
 use Rattle.assert_syntax.specs.declared.form.LineFault.TheVariants.{Bad, Deep, Double, Unknown, Many}
 use Rattle.assert_syntax.specs.declared.tasks.RawTasks.{RawTasks}
 use Rattle.assert_syntax.specs.Forms.{form_of}

@@ -1,5 +1,5 @@
 -- Meaning. What the words of a task line spell, wherever the line stands. The rules are this project's own choice.
-use Rattle.std.specs.Prelude.{ℕ, ◌∷◌, [], List, length, take, drop, Bool, true, false, Option, Some, None, unwrap_or, if◌then◌else◌, nat_le, bytes_eq, codes}
+use Rattle.std.specs.Prelude.{ℕ, ◌∷◌, [], List, length, take, drop, true, false, Option, Some, None, unwrap_or, if◌then◌else◌, nat_le, bytes_eq, codes}
 use Rattle.std.specs.List.{list_all, position}
 use Rattle.blif_lines.specs.Laws.{spaced}
 use Rattle.assert_syntax.specs.declared.form.Form.{Form}

@@ -5,7 +5,6 @@ use Rattle.std.specs.List.{list_any}
 use Rattle.indexmap.specs.IndexSet.{insert_all}
 use Rattle.bool_expr.specs.Grammar.{Expression, spelling}
 use Rattle.bool_expr.specs.Read.{first_unknown, number_in}
-use Rattle.assert_syntax.specs.declared.form.Clause.{Clause}
 use Rattle.assert_syntax.specs.declared.form.Entry.{Entry}
 use Rattle.assert_syntax.specs.declared.form.Form.{Form}
 use Rattle.assert_syntax.specs.declared.form.Form.TheVariants as form

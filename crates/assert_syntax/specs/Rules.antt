@@ -6,7 +6,6 @@ use Rattle.indexmap.specs.IndexSet.{insert_all}
 use Rattle.bool_expr.specs.Grammar.{Expression, nesting}
 use Rattle.bool_expr.specs.Read.{Spells}
 use Rattle.bool_expr.specs.Tokens.{Token, tokens_of, variable}
-use Rattle.assert_syntax.specs.declared.form.Clause.{Clause}
 use Rattle.assert_syntax.specs.declared.form.Entry.{Entry}
 use Rattle.assert_syntax.specs.declared.form.Form.{Form}
 use Rattle.assert_syntax.specs.declared.form.Form.TheVariants as form

@@ -1,5 +1,5 @@
 -- Laws: which text of an expression is read, where its words stand in a line. Blanks and line breaks make no difference.
-use Rattle.std.specs.Prelude.{◌≡◌, ℕ, ◌++◌, ◌∷◌, [], List, ◌↔◌}
+use Rattle.std.specs.Prelude.{◌≡◌, ℕ, List, ◌↔◌}
 use Rattle.std.specs.List.{flat_map}
 use Rattle.blif_lines.specs.Laws.{Part, all_words, spaced}
 use Rattle.blif_lines.specs.Lines.{words_of}

@@ -6,7 +6,6 @@ use Rattle.blif_lines.specs.declared.lines.Line.{Line}
 use Rattle.blif_lines.specs.Laws.{spaced}
 use Rattle.bool_expr.specs.Grammar.{Expression, nesting, spelling}
 use Rattle.bool_expr.specs.Read.{Spells, first_unknown, number_in}
-use Rattle.bool_expr.specs.Tree.{Tree}
 use Rattle.assert_syntax.specs.declared.form.Moment.TheVariants as moment
 use Rattle.assert_syntax.specs.declared.form.Side.{Side}
 use Rattle.assert_syntax.specs.declared.form.Side.TheVariants.{Antecedent, Consequent}

@@ -1,6 +1,6 @@
 //! Texts with their trees and faults, in one table; begin with `trees_of_texts`.
 
-use crate::{Expr, ExprFault, read_expr, value};
+use crate::{Expr, ExprFault, Variables, copy_expr, read_expr, read_expr_over, value};
 use std::alloc::{AllocError, Global};
 use std::test::Fail;
 use ste_base::Name;
@@ -186,7 +186,7 @@ fn shown(alloc: Global, text: &[u8]) -> Result<Vec<u8>, AllocError> {
         return Ok(out);
     }
     match read_expr(alloc, text, &vars) {
-        Ok(expr) => write_expr(&mut out, alloc, &expr)?,
+        Ok(expr) => write_expr(&mut out, alloc, &copy_expr(alloc, &expr)?)?,
         Err(ExprFault::BadExpr) => out.extend_from_slice(b"bad")?,
         Err(ExprFault::TooDeep) => out.extend_from_slice(b"deep")?,
         Err(ExprFault::UnknownVar { name }) => {
@@ -256,5 +256,34 @@ fn values_of_a_text(rt: HostRuntime) -> Result<(), Fail> {
     for (bits, want) in rows {
         assert_eq!(rt; value(&expr, bits), *want, "at {bits:?}");
     }
+    Ok(())
+}
+
+#[test]
+fn variables_one_by_one(rt: HostRuntime) -> Result<(), Fail> {
+    let alloc = rt.alloc();
+    let mut variables = Variables::new(alloc);
+    let expr = read_expr_over(alloc, b"0 & a", &variables);
+    assert!(rt; matches!(expr, Err(ExprFault::UnknownVar { .. })));
+    for name in VARS {
+        variables.push(&Name::from_bytes(alloc, name)?)?;
+    }
+    let names = variables.names();
+    assert_eq!(rt; names.len(), VARS.len());
+    assert!(rt;
+        names
+            .iter()
+            .zip(VARS)
+            .all(|(name, want)| name.bytes() == *want)
+    );
+    assert!(rt; variables.contains(&Name::from_bytes(alloc, b"to_")?));
+    assert!(rt; !variables.contains(&Name::from_bytes(alloc, b"to")?));
+    let mut out = Vec::new(alloc);
+    write_expr(
+        &mut out,
+        alloc,
+        &read_expr_over(alloc, b"to_ & a", &variables)?,
+    )?;
+    assert_eq!(rt; out.as_slice(), b"(& v6 v0)".as_slice());
     Ok(())
 }

@@ -1,5 +1,5 @@
 -- The first node that names no net, node by node.
-use Rattle.std.proofs.Common.{ℕ, ◌+◌, ◌<◌, ◌≤◌, ◌≡◌, ◌⊎◌, inl, inr, refl, sym, ap, subst, ◌∙◌, List, [], ◌∷◌, ◌++◌, length, get_or, take, add-one, map, Option, None, Some, IsSome, Result, Ok, Err, IfOk, arith, append_assoc, append-nil}
+use Rattle.std.proofs.Common.{ℕ, ◌+◌, ◌<◌, ◌≤◌, ◌≡◌, refl, sym, ap, subst, ◌∙◌, List, [], ◌∷◌, ◌++◌, length, get_or, take, add-one, map, Option, None, Some, IsSome, Result, Ok, Err, IfOk, arith, append_assoc, append-nil}
 use Rattle.std.specs.Prelude.{All}
 use Rattle.std.specs.List.{Contains, flat_map}
 use Rattle.std.proofs.lemmas.List.Elements.{All-append, All-cons, All-nil, Contains-append_left, Contains-append_right}

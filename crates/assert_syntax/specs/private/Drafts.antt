@@ -1,12 +1,11 @@
 -- For private functions. What the reader holds of the lines that it has read, and what its parts answer.
-use Rattle.std.specs.Prelude.{◌≡◌, ◌≤◌, ℕ, ◌++◌, ◌∷◌, [], List, length, Bool, Option, Some, None, Result, Ok, Err}
+use Rattle.std.specs.Prelude.{◌≡◌, ◌≤◌, ℕ, ◌++◌, ◌∷◌, [], List, length, Option, Some, None, Result, Ok, Err}
 use Rattle.bool_expr.specs.declared.expr.Expr.{Expr}
 use Rattle.bool_expr.specs.declared.fault.ExprFault.{ExprFault}
 use Rattle.bool_expr.specs.declared.fault.ExprFault.TheVariants as expr_fault
 use Rattle.bool_expr.specs.Grammar.{Expression}
 use Rattle.bool_expr.specs.Read.{IsAnswer}
 use Rattle.bool_expr.specs.Tree.{tree_of}
-use Rattle.assert_syntax.specs.declared.draft.Draft.{Draft}
 use Rattle.assert_syntax.specs.declared.draft.OpenTask.{OpenTask}
 use Rattle.assert_syntax.specs.declared.draft.OpenTask.TheVariants as task
 use Rattle.assert_syntax.specs.declared.fault.TaskFault.{TaskFault}

@@ -1,4 +1,4 @@
-use Rattle.std.proofs.Common.{◌∙◌, sym, arith, subst, ap, length}
+use Rattle.std.proofs.Common.{◌∙◌, sym, arith, ap, length}
 use Rattle.assert_syntax.specs.private.Drafts.{context_held}
 use Rattle.assert_syntax.specs.Answer.{entries_of}
 use Rattle.assert_syntax.proofs.Turn.{read_begin, read_turn, bad_answer, fault_answer, all_read, few_tasks, none_read}

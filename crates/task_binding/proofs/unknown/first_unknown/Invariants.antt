@@ -1,4 +1,4 @@
-use Rattle.std.proofs.Common.{[], ◌∷◌, take}
+use Rattle.std.proofs.Common.{take}
 use Rattle.std.specs.List.{flat_map}
 use Rattle.task_binding.specs.Mentions.{task_mentions}
 use Rattle.task_binding.specs.private.Leading.{GoesOn}
