@@ -1,5 +1,5 @@
 -- The sums of products of a gate's rows are exact: they say just which bits some choice from the inputs' sets gives.
-use Rattle.std.proofs.Common.{◌≡◌, suc, Bool, true, false, not, List, [], ◌∷◌, length, map, refl, sym, ◌∙◌, ap, subst, arith, inl, inr}
+use Rattle.std.proofs.Common.{All, ◌≡◌, suc, Bool, true, false, not, List, [], ◌∷◌, length, map, refl, sym, ◌∙◌, ap, subst, arith, inl, inr}
 use Rattle.std.specs.Prelude.{◌&&◌, ◌||◌, ◌↔◌}
 use Rattle.std.specs.List.{AllZip}
 use Rattle.std.proofs.lemmas.Bool.{and_parts, and_from, or_cases, or_left, or_right}
@@ -12,7 +12,7 @@ use Rattle.net_core.specs.Cases.{on_rows, off_rows}
 use Rattle.net_core.proofs.Complement.{rows_tell_the_bit}
 use Rattle.net_core.specs.Sets.{IsIn}
 use Rattle.net_core.specs.Possible.{MayGive}
-use Rattle.net_core.specs.Work.{Function, AreWide, SymbolicSet, set_at, conjunction, disjunction, whole, product, sum, factor, factors, row_products, gate_set}
+use Rattle.net_core.specs.Work.{Function, AreWide, SymbolicSet, set_at, conjunction, disjunction, whole, product, sum, factor, factors, row_products, gate_set, some_bit}
 
 whole_both : (f : Function) (fs : List Function) (bits : List Bool) → whole conjunction f fs bits ≡ (f bits && product fs bits)
 whole_both f [] bits = by (f bits)
@@ -132,3 +132,26 @@ cover_gives cover ws bits bit sound long =
       λ h. may_give_same (some_matches (on_rows cover)) (cover_bit cover) ws bits bit on_is (exact.0 h),
       λ given. exact.1 (may_give_same (cover_bit cover) (some_matches (on_rows cover)) ws bits bit (λ bs l. sym (on_is bs l)) given),
     )
+
+-- ---- no empty sets
+
+in_one : (z o : Bool) → (z || o) ≡ true → IsIn o (record { zero = z; one = o })
+in_one z true e = refl
+in_one true false e = refl
+in_one false false e = absurd cc
+
+full_choice : (ws : List SymbolicSet) (bits : List Bool) → All (λ w. some_bit w bits ≡ true) ws → AllZip IsIn (map (λ w. w.one bits) ws) (map (set_at bits) ws)
+full_choice [] bits h = tt
+full_choice (w ∷ ws) bits h = (in_one (w.zero bits) (w.one bits) (All-head (λ x. some_bit x bits ≡ true) w ws h), full_choice ws bits (All-tail (λ x. some_bit x bits ≡ true) w ws h))
+
+some_in : (b z o : Bool) → IsIn b (record { zero = z; one = o }) → (z || o) ≡ true
+some_in true z o h = or_right z o h
+some_in false z o h = or_left z o h
+
+-- where no input is empty, the output is not
+pub full_gate : (cover : Cover) (ws : List SymbolicSet) (bits : List Bool) → IsCover cover → length ws ≡ cover.inputs → All (λ w. some_bit w bits ≡ true) ws
+    → some_bit (gate_set (on_rows cover) (off_rows cover) ws) bits ≡ true
+full_gate cover ws bits sound long h =
+    let bs : List Bool = map (λ w. w.one bits) ws in
+    let made = gate_set (on_rows cover) (off_rows cover) ws in
+    some_in (cover_bit cover bs) (made.zero bits) (made.one bits) ((cover_gives cover ws bits (cover_bit cover bs) sound long).1 (bs, full_choice ws bits h, refl))

@@ -1,9 +1,22 @@
 -- The rows of a gate's cover, as its set is made of them.
-use Rattle.std.proofs.Common.{◌≡◌, ℕ, ◌<◌, List, length, map, get_or, sym, ◌∙◌, ap, subst, Some, Result}
+use Rattle.std.proofs.Common.{refl, ◌≡◌, ℕ, ◌<◌, List, length, map, get_or, sym, ◌∙◌, ap, subst, Some, Result}
 use Rattle.std.specs.Prelude.{slice_get, Option}
 use Rattle.std.proofs.lemmas.Option.{get_or_from_slice_get}
 use Rattle.std.proofs.lemmas.List.{get_or-map}
-use Rattle.dd_nodes.specs.Stores.{Store}
+use Rattle.std.specs.Prelude.{Bool, true, All}
+use Rattle.std.proofs.Common.{[], ◌∷◌}
+use Rattle.std.proofs.lemmas.List.{length-map}
+use Rattle.std.proofs.lemmas.List.Elements.{All-nil, All-cons, All-head, All-tail}
+use Rattle.ste_base.specs.declared.id.NodeId.{NodeId}
+use Rattle.dd_nodes.specs.declared.node.Ref.{Ref}
+use Rattle.dd_nodes.specs.Stores.{Store, function}
+use Rattle.dd_nodes.proofs.Stores.{IsGood}
+use Rattle.dd_ops.proofs.Terminal.{one_bit}
+use Rattle.net_core.specs.Cover.{IsCover}
+use Rattle.net_core.specs.Work.{some_bit}
+use Rattle.net_core.proofs.GateSets.{full_gate}
+use Rattle.sym_step.specs.declared.net_rails.NetRails.{NetRails}
+use Rattle.sym_step.specs.private.NetSets.{HaveInputs, net_at, sets_at}
 use Rattle.dd_ops.specs.declared.fault.OpFault.{OpFault}
 use Rattle.net_core.specs.declared.cover.Cover.{Cover}
 use Rattle.net_core.specs.Work.{SymbolicSet, gate_set, gate_work, cover_set, cover_work}
@@ -36,3 +49,20 @@ pub by_rows : (covers : List Cover) (k : ℕ) (lists : CoverRows) (ws : List Sym
 by_rows covers k lists ws s t result at h =
     subst (λ (o : Option Cover). Built (cover_work o ws) (HasSet (cover_set o ws)) s t result) (sym at.is)
     (subst (λ (r : CoverRows). Built (gate_work r.on.list r.off.list ws) (HasSet (gate_set r.on.list r.off.list ws)) s t result) at.lists_are h)
+
+-- where no input is empty, the output is not
+pub full_output : (covers : List Cover) (k : ℕ) (lists : CoverRows) (sets : ℕ → SymbolicSet) (nets : List NetRails) (inputs : List NodeId) (s : Store) → IsGood s → (at : RowsAt covers k lists) → All IsCover covers → k < length covers
+    → at.cover.inputs ≡ length inputs → All (λ input. (net_at nets input.0).some ≡ record { 0 = 1 }) inputs → HaveInputs s sets nets inputs
+    → (bits : List Bool) → length bits ≡ s.vars → some_bit (cover_set (slice_get covers k) (sets_at sets inputs)) bits ≡ true
+full_output covers k lists sets nets inputs s d at sound lt width full have bits l =
+    let cover : Cover = at.cover in
+    let is_sound : IsCover cover = subst IsCover (get_or_from_slice_get covers k cover cover at.is) (sound k cover lt) in
+    let one : Ref = record { 0 = 1 } in
+    let each : All (λ input. some_bit (sets input.0) bits ≡ true) inputs = λ i e inside.
+    sym ((have i e inside).some.value bits l) ∙ ap (λ (r : Ref). function s r bits) (full i e inside) ∙ one_bit s one bits d refl in
+    subst (λ (o : Option Cover). some_bit (cover_set o (sets_at sets inputs)) bits ≡ true) (sym at.is)
+    (full_gate cover (sets_at sets inputs) bits is_sound (length-map inputs (λ (input : NodeId). sets input.0) ∙ sym width) (go inputs each))
+  where
+    go : (ids : List NodeId) → All (λ input. some_bit (sets input.0) bits ≡ true) ids → All (λ w. some_bit w bits ≡ true) (sets_at sets ids)
+    go [] h = All-nil (λ w. some_bit w bits ≡ true)
+    go (id ∷ ids) h = All-cons (λ w. some_bit w bits ≡ true) (sets id.0) (sets_at sets ids) (All-head (λ input. some_bit (sets input.0) bits ≡ true) id ids h) (go ids (All-tail (λ input. some_bit (sets input.0) bits ≡ true) id ids h))

@@ -1,17 +1,17 @@
 //! Cuts of one net; begin with `cut_net`.
 
-ghost use Rattle.std.specs.Prelude.{◌≡◌, ◌<◌, ◌∷◌, [], ℕ, List, All, IfOk, length};
+ghost use Rattle.std.specs.Prelude.{◌≡◌, ◌<◌, ◌∷◌, [], ℕ, List, All, IfOk, IsTrue, length};
 ghost use Rattle.std.specs.List.{AllZip};
 ghost use Rattle.dd_nodes.specs.Stores.{IsRef};
 ghost use Rattle.net_core.specs.Work.{SymbolicSet, SymbolicCut, after_cut, after_cuts, cut_work, cuts_work, some_bit};
 ghost use Rattle.dual_rail.specs.Rail.{AreRefs, AreRails, Built, HasSet};
 ghost use Rattle.sym_step.specs.Step.{IsCutBy};
 ghost use Rattle.sym_step.specs.private.NetSets.{HasNetSet};
-ghost use Rattle.sym_step.specs.private.Parts.{AreMarks};
+ghost use Rattle.sym_step.specs.private.Parts.{AreMarks, IsEverywhere};
 
 use crate::cut::Cut;
 use crate::net_rails::NetRails;
-use dd_nodes::Nodes;
+use dd_nodes::{Nodes, Ref};
 use dd_ops::{OpFault, Ops};
 use dual_rail::{Rails, cut, either};
 use std::alloc::{AllocError, Global};
@@ -136,4 +136,37 @@ pub fn cut_net<N: Nodes>(
 {
     let left = cut_marked(ops, nodes, cuts, marks, id, r)?;
     completed(ops, nodes, left)
+}
+
+/// The same where it is known whether the set has a bit everywhere; then nothing is called for a net without a mark.
+pub fn cut_full<N: Nodes>(
+    ops: &Ops,
+    nodes: &mut N,
+    cuts: &[Cut],
+    marks: &[bool],
+    id: u32,
+    r: Rails,
+    full: bool,
+) -> Result<NetRails, OpFault>
+    requires rails { AreRefs (N.store nodes.old) r }
+    requires guards { All (λ c. IsRef (N.store nodes.old) c.guard) cuts.now }
+    requires values { All (λ c. IsRef (N.store nodes.old) c.value) cuts.now }
+    requires id { id < length marks.now }
+    requires marks { AreMarks cuts.now marks.now }
+    ensures { (ds : List SymbolicCut) (sets : ℕ → SymbolicSet)
+        → AllZip (IsCutBy (N.store nodes.old)) ds cuts.now
+        → AreRails (N.store nodes.old) (sets id) r
+        → (IsTrue full → IsEverywhere (N.store nodes.old).vars (some_bit (sets id)))
+        → Built (some_bit (after_cuts ds sets id) ∷ cuts_work ds sets)
+        (HasNetSet (after_cuts ds sets id))
+        (N.store nodes.old) (N.store nodes.new) result }
+{
+    if full && !marks[id as usize] {
+        return Ok(NetRails {
+            can0: r.can0,
+            can1: r.can1,
+            some: Ref::TRUE,
+        });
+    }
+    cut_net(ops, nodes, cuts, marks, id, r)
 }

@@ -1,9 +1,9 @@
 //! The set that a gate gives; begin with `gate_at`.
 
-ghost use Rattle.std.specs.Prelude.{◌≡◌, ◌<◌, ℕ, List, All, length};
+ghost use Rattle.std.specs.Prelude.{◌≡◌, ◌<◌, ℕ, List, All, IsTrue, length};
 ghost use Rattle.net_core.specs.Work.{SymbolicSet, gate_set, gate_work};
 ghost use Rattle.dual_rail.specs.Rail.{Built, HasSet};
-ghost use Rattle.sym_step.specs.private.NetSets.{AreNetRefs, HaveInputs, sets_at};
+ghost use Rattle.sym_step.specs.private.NetSets.{AreNetRefs, HaveInputs, net_at, sets_at};
 
 use crate::net_rails::NetRails;
 use crate::rows::CoverRows;
@@ -38,4 +38,17 @@ pub fn gate_at<N: Nodes>(
     let can1 = rows_sum(ops, nodes, &rows.on, products, nets, inputs)?;
     let can0 = rows_sum(ops, nodes, &rows.off, products, nets, inputs)?;
     Ok(Rails { can0, can1 })
+}
+
+/// Whether each of these nets has some bit everywhere.
+pub fn are_full(nets: &[NetRails], inputs: &[NodeId]) -> bool
+    requires { All (λ input. input.0 < length nets.now) inputs.now }
+    ensures { IsTrue result → All (λ input. (net_at nets.now input.0).some ≡ Ref.TRUE) inputs.now }
+{
+    for input in inputs {
+        if nets[input.0 as usize].some != Ref::TRUE {
+            return false;
+        }
+    }
+    true
 }

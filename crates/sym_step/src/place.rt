@@ -11,8 +11,8 @@ ghost use Rattle.sym_step.specs.private.NetSets.{AreNetRefs, HasNetSet, HaveInpu
 ghost use Rattle.sym_step.specs.private.Parts.{AreMarks, HaveGates, asks};
 
 use crate::cut::Cut;
-use crate::cuts::cut_net;
-use crate::gates::gate_at;
+use crate::cuts::cut_full;
+use crate::gates::{are_full, gate_at};
 use crate::net_rails::NetRails;
 use crate::rows::GateRows;
 use dd_nodes::{Nodes, Ref};
@@ -54,8 +54,10 @@ fn place<N: Nodes>(
         (N.store nodes.old) (N.store nodes.new) result }
 {
     let lists = &rows.covers.as_slice()[g.cover as usize];
-    let given = gate_at(ops, nodes, lists, products, nets, g.inputs.as_slice())?;
-    cut_net(ops, nodes, cuts, marks, g.output.0, given)
+    let inputs = g.inputs.as_slice();
+    let full = are_full(nets, inputs);
+    let given = gate_at(ops, nodes, lists, products, nets, inputs)?;
+    cut_full(ops, nodes, cuts, marks, g.output.0, given, full)
 }
 
 /// Gives the gates' outputs their sets, one after another.

@@ -5,7 +5,7 @@ use Rattle.net_core.specs.declared.raw.Gate.{Gate}
 use Rattle.net_core.specs.declared.raw.RawNet.{RawNet}
 use Rattle.net_core.specs.declared.source.Source.TheVariants.{Gate as OfGate}
 use Rattle.net_core.specs.Source.{source_of}
-use Rattle.net_core.specs.Work.{SymbolicSet, SymbolicCut, SymbolicAsked}
+use Rattle.net_core.specs.Work.{Function, SymbolicSet, SymbolicCut, SymbolicAsked}
 use Rattle.sym_step.specs.declared.cut.Cut.{Cut}
 use Rattle.sym_step.specs.declared.net_rails.NetRails.{NetRails}
 use Rattle.sym_step.specs.private.NetSets.{AreNetRails, AreNetRefs, net_at}
@@ -38,3 +38,7 @@ HaveNets net sets t nets = (id : ℕ) → id < net.nets → AreNetRails t (sets 
 -- no cut is of a net without a mark
 abbrev pub AreMarks : List Cut → List Bool → Type 0
 AreMarks cuts marks = All (λ c. slice_index_or marks c.node.0 false ≡ true) cuts
+
+-- the function is 1 under each assignment of so many variables
+abbrev pub IsEverywhere : ℕ → Function → Type 0
+IsEverywhere vars f = (bits : List Bool) → length bits ≡ vars → f bits ≡ true

@@ -1,5 +1,5 @@
 use Rattle.std.proofs.Common.{◌≡◌, ℕ, List, ◌∷◌, ◌++◌, length, get_or, sym, ◌∙◌, ap, subst, Ok, Err}
-use Rattle.std.specs.Prelude.{slice_get}
+use Rattle.std.specs.Prelude.{All, slice_get}
 use Rattle.std.proofs.lemmas.List.Elements.{Contains-append_left, Contains-append_right}
 use Rattle.dd_nodes.specs.Diagram.{Function}
 use Rattle.dd_nodes.specs.Stores.{Store}
@@ -12,7 +12,7 @@ use Rattle.sym_step.specs.declared.rows.CoverRows.{CoverRows}
 use Rattle.sym_step.specs.private.NetSets.{HasNetSet}
 use Rattle.sym_step.proofs.Cutting.{Demands-keep}
 use Rattle.sym_step.proofs.NetRefs.{own_inputs}
-use Rattle.sym_step.proofs.Placed.{RowsAt, rows_at, by_rows}
+use Rattle.sym_step.proofs.Placed.{RowsAt, rows_at, by_rows, full_output}
 use Rattle.ste_base.specs.declared.id.NodeId.{NodeId}
 use Rattle.net_core.specs.declared.cover.Cover.{Cover}
 use Rattle.net_core.specs.declared.raw.Gate.{Gate}
@@ -29,7 +29,7 @@ gate_at-requires-clause-on g c =
     let lists : CoverRows = c.index-as_slice-g.result in
     let lists_is : lists ≡ get_or c.args.rows.now.covers k lists = c.index-as_slice-g.is ∙ ap (λ (xs : List CoverRows). get_or xs k lists) c.as_slice.ensures in
     let at : RowsAt covers k lists = subst (RowsAt covers k) (sym lists_is) (rows_at covers c.args.rows.now.covers k lists c.requires.rows c.requires.cover) in
-    let inputs_is : c.as_slice-2.result.now ≡ gate.inputs = c.as_slice-2.ensures in
+    let inputs_is : c.as_slice-inputs.result.now ≡ gate.inputs = c.as_slice-inputs.ensures in
     ap (λ (r : CoverRows). r.on.width) at.lists_are ∙ c.requires.width at.cover at.is ∙ ap length (sym inputs_is)
 
 pub gate_at-requires-clause-off : goal.gate_at-requires-clause-off
@@ -40,11 +40,11 @@ gate_at-requires-clause-off g c =
     let lists : CoverRows = c.index-as_slice-g.result in
     let lists_is : lists ≡ get_or c.args.rows.now.covers k lists = c.index-as_slice-g.is ∙ ap (λ (xs : List CoverRows). get_or xs k lists) c.as_slice.ensures in
     let at : RowsAt covers k lists = subst (RowsAt covers k) (sym lists_is) (rows_at covers c.args.rows.now.covers k lists c.requires.rows c.requires.cover) in
-    let inputs_is : c.as_slice-2.result.now ≡ gate.inputs = c.as_slice-2.ensures in
+    let inputs_is : c.as_slice-inputs.result.now ≡ gate.inputs = c.as_slice-inputs.ensures in
     ap (λ (r : CoverRows). r.off.width) at.lists_are ∙ c.requires.width at.cover at.is ∙ ap length (sym inputs_is)
 
-pub cut_net-requires-clause-rails : goal.cut_net-requires-clause-rails
-cut_net-requires-clause-rails g c =
+pub cut_full-requires-clause-rails : goal.cut_full-requires-clause-rails
+cut_full-requires-clause-rails g c =
     let s : Store = g.N.Nodes.store c.args.nodes.now in
     let t : Store = g.N.Nodes.store c.gate_at.new.nodes in
     let ds' = g.met.N.Nodes.diagram c.args.nodes.now in
@@ -55,7 +55,7 @@ cut_net-requires-clause-rails g c =
     let lists : CoverRows = c.index-as_slice-g.result in
     let lists_is : lists ≡ get_or c.args.rows.now.covers k lists = c.index-as_slice-g.is ∙ ap (λ (xs : List CoverRows). get_or xs k lists) c.as_slice.ensures in
     let at : RowsAt covers k lists = subst (RowsAt covers k) (sym lists_is) (rows_at covers c.args.rows.now.covers k lists c.requires.rows c.requires.cover) in
-    let inputs_is : c.as_slice-2.result.now ≡ gate.inputs = c.as_slice-2.ensures in
+    let inputs_is : c.as_slice-inputs.result.now ≡ gate.inputs = c.as_slice-inputs.ensures in
     let given = c.in_ok-given.given in
     let call : (sets : ℕ → SymbolicSet) → HaveInputs s sets c.args.nets.now gate.inputs → Built (cover_work (slice_get covers k) (input_sets sets gate)) (HasSet (output_set c.args.net.now.raw sets gate)) s t (Ok given) =
     λ sets have. by_rows covers k lists (input_sets sets gate) s t (Ok given) at
@@ -64,8 +64,8 @@ cut_net-requires-clause-rails g c =
     let mine = call (λ id. own_where s (net_at c.args.nets.now id)) (own_inputs s c.args.nets.now gate.inputs c.requires.inside c.requires.refs) in
     refs_of t _ given mine.ok
 
-pub cut_net-requires-clause-guards : goal.cut_net-requires-clause-guards
-cut_net-requires-clause-guards g c =
+pub cut_full-requires-clause-guards : goal.cut_full-requires-clause-guards
+cut_full-requires-clause-guards g c =
     let s : Store = g.N.Nodes.store c.args.nodes.now in
     let t : Store = g.N.Nodes.store c.gate_at.new.nodes in
     let ds' = g.met.N.Nodes.diagram c.args.nodes.now in
@@ -76,7 +76,7 @@ cut_net-requires-clause-guards g c =
     let lists : CoverRows = c.index-as_slice-g.result in
     let lists_is : lists ≡ get_or c.args.rows.now.covers k lists = c.index-as_slice-g.is ∙ ap (λ (xs : List CoverRows). get_or xs k lists) c.as_slice.ensures in
     let at : RowsAt covers k lists = subst (RowsAt covers k) (sym lists_is) (rows_at covers c.args.rows.now.covers k lists c.requires.rows c.requires.cover) in
-    let inputs_is : c.as_slice-2.result.now ≡ gate.inputs = c.as_slice-2.ensures in
+    let inputs_is : c.as_slice-inputs.result.now ≡ gate.inputs = c.as_slice-inputs.ensures in
     let given = c.in_ok-given.given in
     let call : (sets : ℕ → SymbolicSet) → HaveInputs s sets c.args.nets.now gate.inputs → Built (cover_work (slice_get covers k) (input_sets sets gate)) (HasSet (output_set c.args.net.now.raw sets gate)) s t (Ok given) =
     λ sets have. by_rows covers k lists (input_sets sets gate) s t (Ok given) at
@@ -85,8 +85,8 @@ cut_net-requires-clause-guards g c =
     let mine = call (λ id. own_where s (net_at c.args.nets.now id)) (own_inputs s c.args.nets.now gate.inputs c.requires.inside c.requires.refs) in
     λ i d l. IsFrom-grows s.held t.held 0 _ mine.spends.keeps.grows (c.requires.guards i d l)
 
-pub cut_net-requires-clause-values : goal.cut_net-requires-clause-values
-cut_net-requires-clause-values g c =
+pub cut_full-requires-clause-values : goal.cut_full-requires-clause-values
+cut_full-requires-clause-values g c =
     let s : Store = g.N.Nodes.store c.args.nodes.now in
     let t : Store = g.N.Nodes.store c.gate_at.new.nodes in
     let ds' = g.met.N.Nodes.diagram c.args.nodes.now in
@@ -97,7 +97,7 @@ cut_net-requires-clause-values g c =
     let lists : CoverRows = c.index-as_slice-g.result in
     let lists_is : lists ≡ get_or c.args.rows.now.covers k lists = c.index-as_slice-g.is ∙ ap (λ (xs : List CoverRows). get_or xs k lists) c.as_slice.ensures in
     let at : RowsAt covers k lists = subst (RowsAt covers k) (sym lists_is) (rows_at covers c.args.rows.now.covers k lists c.requires.rows c.requires.cover) in
-    let inputs_is : c.as_slice-2.result.now ≡ gate.inputs = c.as_slice-2.ensures in
+    let inputs_is : c.as_slice-inputs.result.now ≡ gate.inputs = c.as_slice-inputs.ensures in
     let given = c.in_ok-given.given in
     let call : (sets : ℕ → SymbolicSet) → HaveInputs s sets c.args.nets.now gate.inputs → Built (cover_work (slice_get covers k) (input_sets sets gate)) (HasSet (output_set c.args.net.now.raw sets gate)) s t (Ok given) =
     λ sets have. by_rows covers k lists (input_sets sets gate) s t (Ok given) at
@@ -118,7 +118,7 @@ returns-in_err-given-clause-built g c = λ ds before sets zip have is.
     let lists : CoverRows = c.index-as_slice-g.result in
     let lists_is : lists ≡ get_or c.args.rows.now.covers k lists = c.index-as_slice-g.is ∙ ap (λ (xs : List CoverRows). get_or xs k lists) c.as_slice.ensures in
     let at : RowsAt covers k lists = subst (RowsAt covers k) (sym lists_is) (rows_at covers c.args.rows.now.covers k lists c.requires.rows c.requires.cover) in
-    let inputs_is : c.as_slice-2.result.now ≡ gate.inputs = c.as_slice-2.ensures in
+    let inputs_is : c.as_slice-inputs.result.now ≡ gate.inputs = c.as_slice-inputs.ensures in
     let fault = c.in_err-given.field-0.0 in
     let call : (sets : ℕ → SymbolicSet) → HaveInputs s sets c.args.nets.now gate.inputs → Built (cover_work (slice_get covers k) (input_sets sets gate)) (HasSet (output_set c.args.net.now.raw sets gate)) s t (Err fault) =
     λ sets have. by_rows covers k lists (input_sets sets gate) s t (Err fault) at
@@ -137,15 +137,15 @@ returns-clause-built g c = λ ds before sets zip have is.
     let t : Store = g.N.Nodes.store c.gate_at.new.nodes in
     let ds' = g.met.N.Nodes.diagram c.args.nodes.now in
     let dt = g.met.N.Nodes.diagram c.gate_at.new.nodes in
-    let u : Store = g.N.Nodes.store c.cut_net.new.nodes in
-    let du = g.met.N.Nodes.diagram c.cut_net.new.nodes in
+    let u : Store = g.N.Nodes.store c.cut_full.new.nodes in
+    let du = g.met.N.Nodes.diagram c.cut_full.new.nodes in
     let covers : List Cover = c.args.net.now.raw.covers in
     let gate : Gate = c.args.g.now in
     let k = gate.cover in
     let lists : CoverRows = c.index-as_slice-g.result in
     let lists_is : lists ≡ get_or c.args.rows.now.covers k lists = c.index-as_slice-g.is ∙ ap (λ (xs : List CoverRows). get_or xs k lists) c.as_slice.ensures in
     let at : RowsAt covers k lists = subst (RowsAt covers k) (sym lists_is) (rows_at covers c.args.rows.now.covers k lists c.requires.rows c.requires.cover) in
-    let inputs_is : c.as_slice-2.result.now ≡ gate.inputs = c.as_slice-2.ensures in
+    let inputs_is : c.as_slice-inputs.result.now ≡ gate.inputs = c.as_slice-inputs.ensures in
     let given = c.in_ok-given.given in
     let call : (sets : ℕ → SymbolicSet) → HaveInputs s sets c.args.nets.now gate.inputs → Built (cover_work (slice_get covers k) (input_sets sets gate)) (HasSet (output_set c.args.net.now.raw sets gate)) s t (Ok given) =
     λ sets have. by_rows covers k lists (input_sets sets gate) s t (Ok given) at
@@ -156,7 +156,10 @@ returns-clause-built g c = λ ds before sets zip have is.
     let work : List Function = some ∷ (given_work ++ cuts_work ds before) in
     let given_in : Within given_work work = λ f h. behind some (given_work ++ cuts_work ds before) f (Contains-append_left given_work (cuts_work ds before) f h) in
     let a : Built work (HasSet (output_set c.args.net.now.raw sets gate)) s t (Ok given) = Built-wider work given_work (HasSet (output_set c.args.net.now.raw sets gate)) s t (Ok given) given_in (call sets have) in
-    last work (HasNetSet (after_cuts ds before gate.output.0)) s t u c.cut_net.result dt du (first work (HasSet (output_set c.args.net.now.raw sets gate)) s t (Ok given) a)
-    (Built-wider work (some ∷ cuts_work ds before) (HasNetSet (after_cuts ds before gate.output.0)) t u c.cut_net.result
+    last work (HasNetSet (after_cuts ds before gate.output.0)) s t u c.cut_full.result dt du (first work (HasSet (output_set c.args.net.now.raw sets gate)) s t (Ok given) a)
+    (Built-wider work (some ∷ cuts_work ds before) (HasNetSet (after_cuts ds before gate.output.0)) t u c.cut_full.result
     (within_more some (cuts_work ds before) work (here some (given_work ++ cuts_work ds before)) (λ f h. behind some (given_work ++ cuts_work ds before) f (Contains-append_right given_work (cuts_work ds before) f h)))
-    (c.cut_net.ensures ds before (Demands-keep s t ds c.args.cuts.now ds' dt a.spends.keeps zip) (subst (λ (w : SymbolicSet). AreRails t w given) (sym is) a.ok)))
+    (c.cut_full.ensures ds before (Demands-keep s t ds c.args.cuts.now ds' dt a.spends.keeps zip) (subst (λ (w : SymbolicSet). AreRails t w given) (sym is) a.ok)
+    (λ yes bits l. ap (λ (w : SymbolicSet). some_bit w bits) is
+    ∙ full_output covers k lists sets c.args.nets.now gate.inputs s ds' at c.args.net.now.in_range.sound c.requires.cover (c.requires.width at.cover at.is)
+    (subst (λ (ids : List NodeId). All (λ input. (net_at c.args.nets.now input.0).some ≡ record { 0 = 1 }) ids) inputs_is (c.are_full-full.ensures yes)) have bits (l ∙ a.spends.keeps.vars))))

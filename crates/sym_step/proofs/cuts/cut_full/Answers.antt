@@ -1,0 +1,23 @@
+use Rattle.std.proofs.Common.{◌≡◌, ℕ, List, ◌∷◌, false, get_or, sym, ◌∙◌, subst}
+use Rattle.dd_nodes.specs.Diagram.{Function}
+use Rattle.dd_nodes.specs.Stores.{Store}
+use Rattle.dd_nodes.proofs.Spending.{one_means}
+use Rattle.net_core.specs.Work.{SymbolicSet, after_cuts, cuts_work, some_bit}
+use Rattle.dual_rail.proofs.Works.{So-start, Built-made}
+use Rattle.sym_step.specs.declared.net_rails.NetRails.{NetRails}
+use Rattle.sym_step.specs.private.NetSets.{AreNetRails, HasNetSet}
+use Rattle.sym_step.proofs.Cutting.{unmarked}
+use Rattle.sym_step.proofs.cuts.cut_full.Goals as goal
+
+pub returns-then-not-marks-id : goal.returns-then-not-marks-id
+returns-then-not-marks-id g c = λ ds sets zip h everywhere.
+    let s : Store = g.N.Nodes.store c.args.nodes.now in
+    let id : ℕ = c.args.id in
+    let w : SymbolicSet = sets id in
+    let work : List Function = some_bit (after_cuts ds sets id) ∷ cuts_work ds sets in
+    let one = one_means s (g.met.N.Nodes.diagram c.args.nodes.now) in
+    let made : NetRails = record { can0 = c.args.r.can0; can1 = c.args.r.can1; some = record { 0 = 1 } } in
+    let all : AreNetRails s w made = record { zero = h.zero; one = h.one; some = record { ref = one.ref; value = λ bits l. one.value bits l ∙ sym (everywhere c.if-full.true bits l) } } in
+    let none : get_or c.args.marks.now id false ≡ false = c.if-not-marks-id.true in
+    Built-made work (HasNetSet (after_cuts ds sets id)) s s made (So-start work s)
+    (subst (λ (v : SymbolicSet). AreNetRails s v made) (sym (unmarked s ds c.args.cuts.now c.args.marks.now id sets zip c.requires.marks none)) all)
