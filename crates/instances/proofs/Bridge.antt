@@ -1,14 +1,14 @@
 -- The instances by models as numbers are those by models.
-use Rattle.std.proofs.Common.{◌≡◌, ℕ, zero, suc, ◌+◌, ◌<◌, ◌≤◌, List, [], ◌∷◌, ◌++◌, map, length, take, Option, None, Some, slice_get, get_or, arith, refl, sym, ap, ◌∙◌, subst}
+use Rattle.std.proofs.Common.{◌≡◌, ℕ, zero, suc, ◌+◌, ◌<◌, List, [], ◌∷◌, ◌++◌, length, Some, slice_get, get_or, refl, sym, ap, ◌∙◌, subst}
 use Rattle.std.specs.Prelude.{filter_map, flat_map, option_and_then}
 use Rattle.std.specs.List.{cons_option, enumerate_from}
 use Rattle.blif_syntax.specs.declared.models.Model.{Model}
 use Rattle.hierarchy.specs.Faults.{HasUnknownModel, IsFree}
 use Rattle.hierarchy.specs.Lines.{UseLine, use_lines}
-use Rattle.hierarchy.specs.Instances.{instances, instances_below, model_at, model_named, number_named}
-use Rattle.hierarchy.specs.Reach.{Reaches, end_of, uses}
+use Rattle.hierarchy.specs.Instances.{instances, instances_below, model_named, number_named}
+use Rattle.hierarchy.specs.Reach.{Reaches, uses}
 use Rattle.hierarchy.proofs.Levels.{end_found, known, model_of_path, step_at, uses_at}
-use Rattle.hierarchy.proofs.Members.{In, in_get}
+use Rattle.hierarchy.proofs.Members.{in_get}
 use Rattle.instances.specs.declared.table.Row.{Row}
 use Rattle.instances.specs.Table.{IsTable, instances_on}
 use Rattle.instances.specs.Numbers.{AreRows}

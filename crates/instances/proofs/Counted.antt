@@ -1,13 +1,13 @@
 -- The numbers that an instance's signals are given are those of their nets.
 use Rattle.std.proofs.Common.{◌≡◌, ℕ, zero, suc, ◌+◌, ◌<◌, ◌≤◌, Bool, true, false, not, cond, List, [], ◌∷◌, ◌++◌, map, length, length-append, take, drop, get_or, Option, None, Some, slice_get, arith, refl, sym, ap, ◌∙◌, subst, append_assoc, append-nil}
-use Rattle.std.specs.Prelude.{filter, flat_map, is_none, is_some, option_map, option_and_then, count_by}
+use Rattle.std.specs.Prelude.{filter, flat_map, is_none, is_some, option_map, count_by}
 use Rattle.std.specs.Option.{option_map_or}
 use Rattle.std.specs.List.{position_or_len}
 use Rattle.std.proofs.lemmas.List.{length_push, map-append, take_more}
 use Rattle.std.proofs.lemmas.Grind.{flat_map-append}
 use Rattle.std.proofs.lemmas.List.Sums.{sum_by-cons}
 use Rattle.blif_syntax.specs.declared.models.Model.{Model}
-use Rattle.hierarchy.specs.Lines.{UseLine, signals}
+use Rattle.hierarchy.specs.Lines.{signals}
 use Rattle.hierarchy.specs.Instances.{bound_to, had_by, instances, is_bound, model_at}
 use Rattle.hierarchy.specs.Nets.{InstanceSignal, home, is_same_signal, nets, number_at, own_nets}
 use Rattle.hierarchy.specs.Names.{own_name, path_text}

@@ -1,9 +1,9 @@
 -- The own names of nets.
-use Rattle.std.proofs.Common.{◌≡◌, ℕ, zero, suc, ◌+◌, ◌<◌, ◌≤◌, Bool, true, false, not, cond, List, [], ◌∷◌, ◌++◌, map, length, take, drop, get_or, Option, None, Some, slice_get, arith, refl, sym, ap, ◌∙◌, subst, append_assoc, append-nil}
+use Rattle.std.proofs.Common.{◌≡◌, ℕ, zero, suc, ◌+◌, ◌<◌, List, [], ◌∷◌, ◌++◌, map, length, take, drop, get_or, Option, None, Some, slice_get, arith, refl, sym, ap, ◌∙◌, subst, append_assoc, append-nil}
 use Rattle.std.specs.Prelude.{codes, option_to_list, slice_index_or}
 use Rattle.std.specs.Fmt.{decimal}
 use Rattle.std.proofs.lemmas.List.{get_or-map}
-use Rattle.hierarchy.specs.Names.{own_name, path_text}
+use Rattle.hierarchy.specs.Names.{path_text}
 use Rattle.instances.specs.declared.table.Row.{Row}
 use Rattle.instances.specs.Table.{IsBelow, LinksFit}
 use Rattle.instances.specs.Numbers.{own_names_in}

@@ -1,5 +1,5 @@
 -- A row's signals have the numbers of their nets.
-use Rattle.std.proofs.Common.{◌≡◌, ℕ, zero, suc, ◌+◌, ◌<◌, ◌≤◌, Bool, true, false, cond, List, [], ◌∷◌, ◌++◌, map, length, take, drop, get_or, Option, None, Some, slice_get, arith, refl, sym, ap, ◌∙◌, subst}
+use Rattle.std.proofs.Common.{◌≡◌, ℕ, zero, suc, ◌+◌, ◌<◌, ◌≤◌, List, [], ◌∷◌, ◌++◌, map, length, take, get_or, Option, None, Some, slice_get, arith, refl, sym, ap, ◌∙◌, subst}
 use Rattle.std.specs.Prelude.{bytes_eq, count_by, find, flat_map, is_none, option_map, option_and_then, slice_index_or}
 use Rattle.std.specs.List.{position_or_len}
 use Rattle.std.proofs.lemmas.List.{get_or-map, length-map, map-append}
@@ -7,7 +7,7 @@ use Rattle.std.proofs.lemmas.Option.{slice_get-map}
 use Rattle.std.proofs.lemmas.Slice.Eq.{bytes_eq-Decides}
 use Rattle.blif_syntax.specs.declared.models.Model.{Model}
 use Rattle.hierarchy.specs.Lines.{UseLine, signals, use_lines}
-use Rattle.hierarchy.specs.Instances.{actual_of, bound_to, had_by, instances, model_at, use_at}
+use Rattle.hierarchy.specs.Instances.{actual_of, had_by, instances, model_at, use_at}
 use Rattle.hierarchy.specs.Nets.{nets, number_at, own_nets}
 use Rattle.hierarchy.specs.Names.{own_name, path_text}
 use Rattle.hierarchy.proofs.Members.{In, at_found, found}

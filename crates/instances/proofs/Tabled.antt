@@ -1,12 +1,12 @@
 -- A table grows by a row.
-use Rattle.std.proofs.Common.{◌≡◌, ℕ, zero, suc, ◌+◌, ◌-◌, ◌<◌, ◌≤◌, List, [], ◌∷◌, ◌++◌, take, drop, length, length-append, get_or, Option, None, Some, slice_get, arith, refl, sym, ap, ◌∙◌, subst, inl, inr, append_assoc, append-nil, take_all}
+use Rattle.std.proofs.Common.{◌≡◌, ℕ, zero, suc, ◌+◌, ◌-◌, ◌<◌, ◌≤◌, List, [], ◌∷◌, ◌++◌, take, length, get_or, Some, slice_get, arith, refl, sym, ap, ◌∙◌, subst, inl, inr, append_assoc, append-nil, take_all}
 use Rattle.std.specs.Prelude.{◌⊎◌, flat_map, option_and_then, slice_index_or}
 use Rattle.std.specs.List.{enumerate_from}
-use Rattle.std.proofs.lemmas.List.{length_push, take_more, get_or_append_left, length-take-le}
+use Rattle.std.proofs.lemmas.List.{length_push, take_more, length-take-le}
 use Rattle.std.proofs.lemmas.Grind.{flat_map-append}
 use Rattle.hierarchy.specs.Reach.{end_of}
 use Rattle.instances.specs.declared.table.Row.{Row}
-use Rattle.instances.specs.Table.{IsBelow, IsTable, Fits, instances_on}
+use Rattle.instances.specs.Table.{IsTable, Fits, instances_on}
 
 last_get : {X : Type 0} (xs : List X) (x y : X) (k : ℕ) → slice_get (xs ++ x ∷ []) k ≡ Some y → (slice_get xs k ≡ Some y) ⊎ ((k ≡ length xs) × (x ≡ y))
 last_get [] x y zero e = inr (refl, cc)

@@ -1,5 +1,4 @@
-use Rattle.std.proofs.Common.{length, ◌≡◌, ◌<◌, ◌≤◌, arith}
-use Rattle.std.specs.Prelude.{bytes_eq, vec_len}
+use Rattle.std.specs.Prelude.{bytes_eq}
 use Rattle.instances.proofs.Bound.{bound_at, bound_nowhere, place_is}
 use Rattle.instances.proofs.bounds.bind.Goals as goal
 

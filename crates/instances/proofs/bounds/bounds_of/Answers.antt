@@ -1,4 +1,4 @@
-use Rattle.std.proofs.Common.{drop, length, map, refl, ◌∙◌, ◌<◌, arith}
+use Rattle.std.proofs.Common.{drop, ◌∙◌, arith}
 use Rattle.instances.specs.Numbers.{bound_number, number_of}
 use Rattle.instances.proofs.Bound.{bound_next, none_bound}
 use Rattle.instances.proofs.bounds.bounds_of.Goals as goal

@@ -1,4 +1,4 @@
-use Rattle.std.proofs.Common.{refl, sym, ap, arith, ◌∙◌, ◌≡◌, ◌+◌, ◌≤◌, ◌++◌, ◌∷◌, [], map, get_or, subst, length}
+use Rattle.std.proofs.Common.{sym, ap, arith, ◌∙◌, ◌≡◌, ◌+◌, ◌++◌, ◌∷◌, [], map, length}
 use Rattle.std.specs.Prelude.{count_by, is_none}
 use Rattle.instances.specs.Numbers.{numbers_from}
 use Rattle.instances.proofs.Rows.{are_linked, row_low, turn_fits, turn_long, turn_names, turn_numbers, turn_next}

@@ -1,4 +1,4 @@
-use Rattle.std.proofs.Common.{◌≡◌, ◌++◌, length, take, map}
+use Rattle.std.proofs.Common.{◌≡◌, length, take, map}
 use Rattle.std.specs.Prelude.{flat_map}
 use Rattle.hierarchy.specs.Instances.{instances}
 use Rattle.hierarchy.specs.Names.{own_name}

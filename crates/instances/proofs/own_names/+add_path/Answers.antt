@@ -1,4 +1,3 @@
-use Rattle.std.proofs.Common.{◌≡◌, ◌∙◌}
 use Rattle.instances.proofs.OwnNames.{below_path, top_path}
 use Rattle.instances.proofs.own_names.+add_path.Goals as goal
 

@@ -1,6 +1,4 @@
-use Rattle.std.proofs.Common.{◌≡◌, ◌<◌, ◌∙◌, ap, sym, drop, length, ◌++◌, arith, ◌+◌, append_assoc, [], ◌∷◌, get_or}
-use Rattle.std.specs.Prelude.{option_to_list, slice_get, option_copied}
-use Rattle.instances.specs.Numbers.{own_names_in}
+use Rattle.std.specs.Prelude.{option_copied}
 use Rattle.instances.proofs.OwnNames.{one_added}
 use Rattle.instances.proofs.own_names.add_own.Goals as goal
 

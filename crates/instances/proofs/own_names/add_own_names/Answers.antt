@@ -1,4 +1,4 @@
-use Rattle.std.proofs.Common.{◌≡◌, ◌∙◌, ◌++◌, ap, sym, length}
+use Rattle.std.proofs.Common.{◌∙◌, ◌++◌, ap, sym, length}
 use Rattle.hierarchy.specs.Names.{path_text}
 use Rattle.instances.specs.Numbers.{own_names_in}
 use Rattle.instances.proofs.OwnNames.{keys_at}

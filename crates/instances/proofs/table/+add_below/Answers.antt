@@ -1,7 +1,7 @@
-use Rattle.std.proofs.Common.{arith, rules, refl, ◌≡◌, ◌∙◌, ◌<◌, ◌≤◌, ◌-◌, ◌∷◌, ◌++◌, [], ap, sym, length, get_or, List, ℕ, take, Some, slice_get}
+use Rattle.std.proofs.Common.{arith, rules, refl, ◌≡◌, ◌∙◌, ◌-◌, ◌∷◌, ◌++◌, [], ap, sym, length, get_or, ℕ, take}
 use Rattle.std.specs.Prelude.{flat_map, slice_index_or, vec_len}
 use Rattle.std.specs.List.{enumerate_from}
-use Rattle.instances.specs.Table.{IsTable, Fits, instances_on}
+use Rattle.instances.specs.Table.{instances_on}
 use Rattle.instances.proofs.Tabled.{pushed, inner_fits, next_paths, table_same, finished, get_of, no_more, more_left}
 use Rattle.instances.proofs.table.+add_below.Goals as goal
 

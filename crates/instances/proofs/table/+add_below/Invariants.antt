@@ -1,4 +1,4 @@
-use Rattle.std.proofs.Common.{◌≡◌, ◌<◌, ◌++◌, ◌∷◌, ◌-◌, [], ℕ, List, take, length}
+use Rattle.std.proofs.Common.{◌++◌, ◌∷◌, ◌-◌, [], ℕ, List, take}
 use Rattle.std.specs.Prelude.{flat_map, slice_index_or}
 use Rattle.std.specs.List.{enumerate_from}
 use Rattle.instances.specs.Table.{IsTable, Fits, instances_on}

@@ -1,7 +1,5 @@
-use Rattle.std.proofs.Common.{◌≡◌, ◌<◌, List, refl, sym, subst, ℕ, length, get_or, []}
-use Rattle.hierarchy.specs.Reach.{uses}
+use Rattle.std.proofs.Common.{◌<◌, List, refl, sym, subst, ℕ, length, get_or}
 use Rattle.hierarchy.proofs.Refused.{uses_low}
-use Rattle.instances.specs.Table.{IsTable, instances_on}
 use Rattle.instances.proofs.Bridge.{rows_of}
 use Rattle.instances.proofs.table.instance_rows.Goals as goal
 

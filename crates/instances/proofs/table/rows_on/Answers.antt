@@ -1,5 +1,4 @@
-use Rattle.std.proofs.Common.{[], refl, subst, sym}
-use Rattle.instances.specs.Table.{IsTable, instances_on}
+use Rattle.std.proofs.Common.{[], refl}
 use Rattle.instances.proofs.Tabled.{from_top}
 use Rattle.instances.proofs.table.rows_on.Goals as goal
 
