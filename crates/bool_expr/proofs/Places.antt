@@ -1,10 +1,8 @@
 -- The numbers of the declared variables.
-use Rattle.std.proofs.Common.{ℕ, suc, ◌+◌, ◌<◌, ◌≤◌, ◌≡◌, refl, sym, ap, ◌∙◌, List, [], ◌∷◌, ◌++◌, length, get_or, take, add-one, length-take, arith, Bool, true, false, Option, None, Some}
+use Rattle.std.proofs.Common.{ℕ, suc, ◌+◌, ◌<◌, ◌≡◌, refl, sym, ap, ◌∙◌, List, [], ◌∷◌, ◌++◌, length, arith, Bool, true, false, Option, None, Some}
 use Rattle.std.specs.Prelude.{bytes_eq, if◌then◌else◌, is_some, IfSome, ◌||◌}
 use Rattle.std.specs.List.{list_any}
 use Rattle.std.proofs.lemmas.Slice.Eq.{bytes_eq-Decides}
-use Rattle.std.proofs.lemmas.List.{take_all}
-use Rattle.std.proofs.Math.Seq.{take-suc}
 use Rattle.bool_expr.specs.Read.{number_from, number_in}
 use Rattle.bool_expr.specs.private.Held.{with_place}
 

@@ -1,5 +1,5 @@
 -- Meaning. The tokens of the text of an expression. The rules are this project's own choice.
-use Rattle.std.specs.Prelude.{ℕ, List, [], ◌∷◌, codes, Bool, true, false, ◌&&◌, ◌||◌, if◌then◌else◌, nat_eq, nat_le, bytes_eq}
+use Rattle.std.specs.Prelude.{ℕ, List, [], ◌∷◌, codes, Bool, true, false, ◌&&◌, ◌||◌, if◌then◌else◌, nat_eq, bytes_eq}
 use Rattle.std.specs.List.{take_while}
 use Rattle.ste_base.specs.Bytes.{is_blank, is_digit, is_letter}
 use Rattle.bool_expr.specs.declared.token.Sign.{Sign}

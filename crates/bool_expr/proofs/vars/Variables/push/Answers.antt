@@ -1,4 +1,4 @@
-use Rattle.std.proofs.Common.{◌∙◌, sym}
+use Rattle.std.proofs.Common.{◌∙◌}
 use Rattle.bool_expr.proofs.Places.{number_pushed}
 use Rattle.bool_expr.proofs.vars.Variables.push.Goals as goal
 
