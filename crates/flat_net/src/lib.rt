@@ -6,6 +6,8 @@ mod covers;
 mod drivers;
 pub mod flat;
 mod gates;
+#[cfg(test)]
+mod hierarchy_tests;
 mod instance;
 pub mod laws;
 mod parts;

@@ -264,7 +264,11 @@ fn models_of(alloc: Global, text: &[u8]) -> Result<Option<Models>, AllocError>
 }
 
 /// Adds the nets, each behind a space.
-fn show_nets(alloc: Global, out: &mut Vec<u8>, nets: &[NodeId]) -> Result<(), AllocError> {
+pub(crate) fn show_nets(
+    alloc: Global,
+    out: &mut Vec<u8>,
+    nets: &[NodeId],
+) -> Result<(), AllocError> {
     for net in nets {
         out.extend_from_slice(format!(in alloc; " {}", net.0)?.as_bytes())?;
     }
@@ -286,7 +290,7 @@ fn show_cover(out: &mut Vec<u8>, cover: &Cover) -> Result<(), AllocError> {
 }
 
 /// Adds a gate with its cover.
-fn show_gate(
+pub(crate) fn show_gate(
     alloc: Global,
     out: &mut Vec<u8>,
     gate: &Gate,
@@ -305,7 +309,11 @@ fn show_gate(
 }
 
 /// Adds a latch.
-fn show_latch(alloc: Global, out: &mut Vec<u8>, latch: &Latch) -> Result<(), AllocError> {
+pub(crate) fn show_latch(
+    alloc: Global,
+    out: &mut Vec<u8>,
+    latch: &Latch,
+) -> Result<(), AllocError> {
     let init = match latch.init {
         Init::Zero => '0',
         Init::One => '1',
