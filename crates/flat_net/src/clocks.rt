@@ -46,7 +46,8 @@ fn control_in(instance: &Instance, control: &Option<Name>) -> Option<u32>
 
 /// The latch of a line, where it is one.
 fn clock_of(instance: &Instance, item: &Item) -> Option<Clock>
-    ensures { result ≡ option_map (clock_at instance.now) (option_map (λ latch. (item.now.line, latch)) (latch_of item.now.what)) }
+    ensures { result ≡ option_map (clock_at instance.now)
+        (option_map (λ latch. (item.now.line, latch)) (latch_of item.now.what)) }
 {
     match &item.what {
         What::Latch {
@@ -130,7 +131,8 @@ fn refuse_in(instance: &Instance, names: &[Name], clocks: &mut Clocks) -> Result
     ensures ok { OnOk result ((rest : List Clock) →
         mixed clocks.new rest ≡ mixed clocks.old (clocks_in instance.now ++ rest)) }
     ensures err { IfErr result (λ fault. (fault ≡ OutOfMemory) ⊎ ((rest : List Clock) →
-        option_map (mixed_fault names.now) (mixed clocks.old (clocks_in instance.now ++ rest)) ≡ Some fault)) }
+        option_map (mixed_fault names.now) (mixed clocks.old (clocks_in instance.now ++ rest))
+        ≡ Some fault)) }
 {
     for item in instance.model.items.as_slice() {
         if let Some(latch) = clock_of(instance, item) {

@@ -24,7 +24,8 @@ pub(crate) struct Covers {
 
 /// Adds a copy of the cover of each gate of a model.
 fn add_covers(alloc: Global, covers: &mut Items<Cover>, model: &Model) -> Result<(), AllocError>
-    ensures { OnOk result (covers.new ≡ covers.old ++ map (λ line. line.cover) (gate_lines model.now)) }
+    ensures { OnOk result
+        (covers.new ≡ covers.old ++ map (λ line. line.cover) (gate_lines model.now)) }
 {
     for item in model.items.as_slice() {
         if let What::Names { cover, .. } = &item.what {
@@ -47,7 +48,8 @@ fn first_cover(
     requires long { length seen.old.items ≡ length models.now }
     requires seen { AreSeen models.now covers.old seen.old.items }
     requires few { length covers.old + length (had_by gate_lines (slice_get models.now number)) ≤ 4294967295 }
-    ensures { IfOk result (λ first. IsFilled models.now number covers.old covers.new seen.new.items first) }
+    ensures { IfOk result
+        (λ first. IsFilled models.now number covers.old covers.new seen.new.items first) }
 {
     if let Some(first) = seen[number] {
         return Ok(first);
@@ -67,8 +69,10 @@ pub(crate) fn all_covers(
     requires rows { All (λ row. row.model < length models.now) rows.now }
     requires few { length (flat_map (lines_at models.now) rows.now) ≤ 4294967295 }
     requires covered { AreCovered models.now }
-    ensures firsts { IfOk result (λ made. AllZip (IsFirstCover models.now made.covers) made.firsts.items rows.now) }
-    ensures few { IfOk result (λ made. length made.covers ≤ length (flat_map (lines_at models.now) rows.now)) }
+    ensures firsts { IfOk result (λ made.
+        AllZip (IsFirstCover models.now made.covers) made.firsts.items rows.now) }
+    ensures few { IfOk result (λ made.
+        length made.covers ≤ length (flat_map (lines_at models.now) rows.now)) }
     ensures sound { IfOk result (λ made. All IsCover made.covers) }
 {
     let mut seen = models

@@ -37,7 +37,8 @@ fn mark_all(marks: &mut Vec<bool>, nodes: &[NodeId])
 
 /// The fault of a driver of a net that is driven already.
 fn driven_twice(line: u32, node: NodeId, names: &[Name]) -> NetFault
-    ensures { (result ≡ OutOfMemory) ⊎ (result ≡ DrivenTwice line (slice_index_or names.now node.0 [])) }
+    ensures { (result ≡ OutOfMemory)
+        ⊎ (result ≡ DrivenTwice line (slice_index_or names.now node.0 [])) }
 {
     let Some(name) = names.get(node.0 as usize) else {
         return NetFault::OutOfMemory;
@@ -50,7 +51,8 @@ fn driven_twice(line: u32, node: NodeId, names: &[Name]) -> NetFault
 
 /// The signal that a line drives.
 fn driven_by(what: &What) -> Option<&Name>
-    ensures { (line : ℕ) → driver_on line what.now ≡ option_map (λ output. record { line = line; output = output }) (option_copied result) }
+    ensures { (line : ℕ) → driver_on line what.now
+        ≡ option_map (λ output. record { line = line; output = output }) (option_copied result) }
 {
     match what {
         What::Names { output, .. } | What::Latch { output, .. } => Some(output),
@@ -64,7 +66,8 @@ fn refuse_in(instance: &Instance, names: &[Name], marks: &mut Vec<bool>) -> Resu
     ensures ok { OnOk result ((rest : List Driver) →
         twice marks.new.items rest ≡ twice marks.old.items (drivers_in instance.now ++ rest)) }
     ensures err { IfErr result (λ fault. (fault ≡ OutOfMemory) ⊎ ((rest : List Driver) →
-        option_map (driven_fault names.now) (twice marks.old.items (drivers_in instance.now ++ rest)) ≡ Some fault)) }
+        option_map (driven_fault names.now) (twice marks.old.items (drivers_in instance.now ++ rest))
+        ≡ Some fault)) }
 {
     for item in instance.model.items.as_slice() {
         if let Some(output) = driven_by(&item.what) {
@@ -85,10 +88,11 @@ pub(crate) fn refuse_driven_twice(
     inputs: &[NodeId],
     names: &[Name],
 ) -> Result<(), NetFault>
-    ensures ok { OnOk result
-        (twice (marked (replicate (length names.now) false) inputs.now) (flat_map drivers_in instances.now) ≡ None) }
-    ensures err { IfErr result (λ fault. (fault ≡ OutOfMemory) ⊎ (option_map (driven_fault names.now)
-        (twice (marked (replicate (length names.now) false) inputs.now) (flat_map drivers_in instances.now)) ≡ Some fault)) }
+    ensures ok { OnOk result (twice (marked (replicate (length names.now) false) inputs.now)
+        (flat_map drivers_in instances.now) ≡ None) }
+    ensures err { IfErr result (λ fault. (fault ≡ OutOfMemory)
+        ⊎ (option_map (driven_fault names.now) (twice (marked (replicate (length names.now) false)
+        inputs.now) (flat_map drivers_in instances.now)) ≡ Some fault)) }
 {
     let mut marks = vec![in alloc; false; names.len()]?;
     mark_all(&mut marks, inputs);

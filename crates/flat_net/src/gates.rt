@@ -31,7 +31,8 @@ fn add_gates(alloc: Global, gates: &mut Items<Gate>, instance: &Instance) -> Res
 
 /// The gates of all instances, by instance and line.
 pub(crate) fn all_gates(alloc: Global, instances: &[Instance]) -> Result<Items<Gate>, AllocError>
-    requires { All (λ instance. instance.cover + length (gate_lines instance.model) ≤ 4294967295) instances.now }
+    requires { All (λ instance.
+        instance.cover + length (gate_lines instance.model) ≤ 4294967295) instances.now }
     ensures { IfOk result (λ gates. gates ≡ flat_map gates_in instances.now) }
 {
     let mut gates = Items::new(alloc);

@@ -29,7 +29,12 @@ impl<'a> Model for Instance<'a> {
 
     ghost Value = { Instance };
 
-    ghost view = { λ a. record { model = a.model.now; names = a.names.now.keys; numbers = a.numbers.now; cover = a.cover } };
+    ghost view = { λ a. record {
+      model = a.model.now;
+      names = a.names.now.keys;
+      numbers = a.numbers.now;
+      cover = a.cover;
+    } };
 }
 
 /// The net of a word.
@@ -89,10 +94,12 @@ pub(crate) fn all_instances<'a>(
 ) -> Result<Vec<Instance<'a>>, AllocError>
     requires names { map (λ set. set.keys) names.now ≡ map signals models.now }
     requires rows { AreRows models.now rows.now }
-    requires numbers { numbers.now ≡ map (λ path. numbers_in models.now path) (instances models.now) }
+    requires numbers { numbers.now
+        ≡ map (λ path. numbers_in models.now path) (instances models.now) }
     requires firsts { length firsts.now ≡ length rows.now }
     ensures { IfOk result (λ all. (covers : List Cover) →
-        AllZip (IsFirstCover models.now covers) firsts.now rows.now → AreInstances models.now covers all.items) }
+        AllZip (IsFirstCover models.now covers) firsts.now rows.now →
+        AreInstances models.now covers all.items) }
 {
     let mut all = Vec::with_capacity(alloc, rows.len())?;
     for (place, row) in rows.iter().enumerate() {

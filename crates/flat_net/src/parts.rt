@@ -47,8 +47,9 @@ pub(crate) fn parts_of(
     requires names { names.now.keys ≡ model_names models.now }
     requires free { IsFree (HasFaultBeforeInstances models.now) }
     requires covered { AreCovered models.now }
-    ensures { IfOk result (λ parts. ArePartsOf models.now (map (λ set. set.keys) parts.signals.items) parts.rows.items
-        parts.numbered.numbers.items parts.numbered.names parts.covers.firsts.items parts.covers.covers) }
+    ensures { IfOk result (λ parts. ArePartsOf models.now
+        (map (λ set. set.keys) parts.signals.items) parts.rows.items parts.numbered.numbers.items
+        parts.numbered.names parts.covers.firsts.items parts.covers.covers) }
 {
     let graph = uses(alloc, names, models)?;
     let signals = all_signals(alloc, models)?;

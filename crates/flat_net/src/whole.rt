@@ -11,7 +11,7 @@ ghost use Rattle.hierarchy.specs.Names.{own_name};
 ghost use Rattle.hierarchy.specs.Sizes.{IsShallow};
 ghost use Rattle.hierarchy.specs.Nets.{nets};
 ghost use Rattle.flat_net.specs.Flat.{IsFlat};
-ghost use Rattle.flat_net.specs.private.Passes.{AreInstances, IsInstance};
+ghost use Rattle.flat_net.specs.private.Passes.{AreInstances, AreNumbered, IsInstance};
 
 use crate::clocks::refuse_mixed_clocks;
 use crate::covers::Covers;
@@ -64,12 +64,12 @@ fn refuse_numbered(
     instances: &[Instance],
     top: &Instance,
 ) -> Result<(), NetFault>
-    ensures ok { OnOk result ((covers : List Cover) → IsShallow models.now → names.now ≡ map own_name (nets models.now) →
-        AreInstances models.now covers instances.now → IsInstance models.now covers top.now [] →
+    ensures ok { OnOk result ((covers : List Cover) →
+        AreNumbered models.now names.now covers instances.now top.now →
         IsFree (Else (HasDrivenTwice models.now) (HasMixedClocks models.now))) }
-    ensures err { IfErr result (λ fault. (fault ≡ OutOfMemory) ⊎ ((covers : List Cover) → IsShallow models.now →
-        names.now ≡ map own_name (nets models.now) → AreInstances models.now covers instances.now →
-        IsInstance models.now covers top.now [] → Else (HasDrivenTwice models.now) (HasMixedClocks models.now) fault)) }
+    ensures err { IfErr result (λ fault. (fault ≡ OutOfMemory) ⊎ ((covers : List Cover) →
+        AreNumbered models.now names.now covers instances.now top.now →
+        Else (HasDrivenTwice models.now) (HasMixedClocks models.now) fault)) }
 {
     let _ = models;
     let inputs = inputs_of(alloc, top.model)?;
@@ -98,7 +98,8 @@ fn flat_of(
     requires few_covers { length covers ≤ 4294967295 }
     requires instances { AreInstances models.now covers instances.now }
     ensures flat { IfOk result (λ raw. IsFlat models.now raw × (raw.covers ≡ covers)) }
-    ensures ok { OnOk result (IsFree (Else (HasDrivenTwice models.now) (HasMixedClocks models.now))) }
+    ensures ok { OnOk result
+        (IsFree (Else (HasDrivenTwice models.now) (HasMixedClocks models.now))) }
     ensures err { IfErr result (λ fault. (fault ≡ OutOfMemory)
         ⊎ Else (HasDrivenTwice models.now) (HasMixedClocks models.now) fault) }
 {
@@ -121,7 +122,8 @@ fn flat_behind(alloc: Global, models: &[Model]) -> Result<RawNet, NetFault>
     requires free { IsFree (HasFaultBeforeInstances models.now) }
     ensures flat { IfOk result (λ raw. IsFlat models.now raw) }
     ensures in_range { IfOk result (λ raw. IsInRange raw) }
-    ensures ok { OnOk result (IsFree (Else (HasDrivenTwice models.now) (HasMixedClocks models.now))) }
+    ensures ok { OnOk result
+        (IsFree (Else (HasDrivenTwice models.now) (HasMixedClocks models.now))) }
     ensures err { IfErr result (λ fault. (fault ≡ OutOfMemory)
         ⊎ Else (HasDrivenTwice models.now) (HasMixedClocks models.now) fault) }
 {
@@ -158,8 +160,7 @@ fn flat_behind(alloc: Global, models: &[Model]) -> Result<RawNet, NetFault>
 }
 
 /// The flat net of a netlist, or the fault that its hierarchy is refused for. Each cover has to be sound, with as many
-/// inputs as its line names. Time and memory are linear in the size: over all instances one, and one for each word that
-/// names a signal.
+/// inputs as its line names.
 pub fn hierarchical_net(alloc: Global, models: &Models) -> Result<RawNet, NetFault>
     requires { AreCovered models.now.models }
     ensures flat { IfOk result (λ raw. IsFlat models.now.models raw) }
@@ -167,7 +168,8 @@ pub fn hierarchical_net(alloc: Global, models: &Models) -> Result<RawNet, NetFau
     ensures in_range { IfOk result (λ raw. IsInRange raw) }
     ensures one_driver { IfOk result (λ raw. HasOneDriver raw) }
     ensures ok { OnOk result (IsFree (IsRefusal models.now.models)) }
-    ensures err { IfErr result (λ fault. (fault ≡ OutOfMemory) ⊎ IsRefusal models.now.models fault) }
+    ensures err { IfErr result (λ fault. (fault ≡ OutOfMemory)
+        ⊎ IsRefusal models.now.models fault) }
 {
     match refuse(alloc, models) {
         Err(fault) => Err(fault),

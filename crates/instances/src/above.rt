@@ -25,7 +25,11 @@ impl<'a> Model for Above<'a> {
 
     ghost Value = { Above };
 
-    ghost view = { λ above. record { names = above.names.now.keys; numbers = above.numbers.now; bindings = above.bindings.now } };
+    ghost view = { λ above. record {
+      names = above.names.now.keys;
+      numbers = above.numbers.now;
+      bindings = above.bindings.now;
+    } };
 }
 
 /// The uses of models in a model, by line.
@@ -52,7 +56,8 @@ fn above_at<'a, 'b: 'a>(
     numbers: &'a [Items<u32>],
     row: &Row,
 ) -> Option<Above<'a>>
-    ensures { result ≡ above_at uses.now (map (λ set. set.keys) names.now) rows.now numbers.now row.now }
+    ensures { result
+        ≡ above_at uses.now (map (λ set. set.keys) names.now) rows.now numbers.now row.now }
 {
     let above = row.above?;
     let over = rows.get(above)?;
@@ -79,7 +84,8 @@ pub(crate) fn row_bounds(
 ) -> Result<Vec<Option<u32>>, AllocError>
     requires { row.now.model < length names.now }
     ensures { IfOk result (λ bounds. bounds.items
-        ≡ map (bound_by (above_at uses.now (map (λ set. set.keys) names.now) rows.now numbers.now row.now))
+        ≡ map (bound_by (above_at uses.now (map (λ set. set.keys) names.now) rows.now numbers.now
+        row.now))
         (slice_index_or (map (λ set. set.keys) names.now) row.now.model [])) }
 {
     let own = &names[row.model];

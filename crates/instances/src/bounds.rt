@@ -19,7 +19,8 @@ pub fn number_of(names: &IndexSet<Name>, numbers: &[u32], word: &Name) -> u32
 /// Binds a signal to a number, where there is one of that name. `bounds` has an entry for each of the names.
 fn bind(bounds: &mut Vec<Option<u32>>, names: &IndexSet<Name>, formal: &Name, number: u32)
     ensures { (f : List ℕ → Option ℕ) → bounds.old.items ≡ map f names.now.keys →
-        bounds.new.items ≡ map (λ name. if bytes_eq formal.now name then Some number else f name) names.now.keys }
+        bounds.new.items
+        ≡ map (λ name. if bytes_eq formal.now name then Some number else f name) names.now.keys }
 {
     let place = names.get_index_of(formal).unwrap_or(names.len());
     if let Some(bound) = bounds.get_mut(place) {

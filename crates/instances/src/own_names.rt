@@ -79,7 +79,8 @@ fn add_own(
     bounds: &[Option<u32>],
 ) -> Result<(), AllocError>
     requires { length bounds.now ≡ length signals.now.keys }
-    ensures { OnOk result (names.new ≡ names.old ++ own_names_in path.now signals.now.keys bounds.now) }
+    ensures { OnOk result
+        (names.new ≡ names.old ++ own_names_in path.now signals.now.keys bounds.now) }
 {
     for (place, bound) in bounds.iter().enumerate() {
         add_free(alloc, names, path, signals.get_index(place), bound)?;
@@ -101,7 +102,8 @@ pub(crate) fn add_own_names(
     requires place { place < length rows.now }
     requires linked { AreLinked rows.now }
     requires model { model < length signals.now }
-    requires long { length bounds.now ≡ length (slice_index_or (map (λ set. set.keys) signals.now) model []) }
+    requires long { length bounds.now
+        ≡ length (slice_index_or (map (λ set. set.keys) signals.now) model []) }
     ensures { OnOk result ((paths : List (List ℕ)) → LinksFit rows.now paths →
         (path : List ℕ) → slice_get paths place ≡ Some path →
         names.new ≡ names.old ++ own_names_in (path_text path)

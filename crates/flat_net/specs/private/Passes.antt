@@ -10,6 +10,9 @@ use Rattle.blif_syntax.specs.Covered.{IsCovered}
 use Rattle.blif_syntax.specs.declared.models.Model.{Model}
 use Rattle.hierarchy.specs.Lines.{GateLine, LatchLine, gate_lines, latch_lines, signals}
 use Rattle.hierarchy.specs.Instances.{had_by, instances, model_at}
+use Rattle.hierarchy.specs.Names.{own_name}
+use Rattle.hierarchy.specs.Nets.{nets}
+use Rattle.hierarchy.specs.Sizes.{IsShallow}
 use Rattle.instances.specs.declared.table.Row.{Row}
 use Rattle.instances.specs.Numbers.{number_of, numbers_in}
 
@@ -89,3 +92,10 @@ pub record IsFilled (models : List Model) (number : ℕ) (before after : List Co
   pub is : (model : Model) → slice_get models number ≡ Some model → CoversOf after first model
   pub sound : All IsCover before → (model : Model) → slice_get models number ≡ Some model →
       All (λ item. IsCovered item.what) model.items → All IsCover after
+
+-- these are all instances and the first of them, and these are the nets' own names
+pub record AreNumbered (models : List Model) (names : List (List ℕ)) (covers : List Cover) (all : List Instance) (first : Instance) : Type 0 where
+  pub shallow : IsShallow models
+  pub named : names ≡ map own_name (nets models)
+  pub instances : AreInstances models covers all
+  pub top : IsInstance models covers first []
