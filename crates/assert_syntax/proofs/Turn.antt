@@ -179,6 +179,13 @@ none_read parse all [] z e = sym e
 none_read parse all (task ∷ tasks) z e = absurd (omega (arith, z))
 
 -- an answer by whatever the texts spell is one by what they do spell
+pub some_read : (parse : Parse) (all : List Entry) (tasks : List RawTask) (count : ℕ) → count ≡ length tasks → (count ≡ 0 → ⊥) → map task_tree tasks ≡ tasks_of parse [] all → tasks_of parse [] all ≡ [] → ⊥
+some_read parse all [] count long some e none = some long
+some_read parse all (task ∷ tasks) count long some e none = absurd (filled (e ∙ none))
+  where
+    filled : {X : Type 0} {x : X} {xs : List X} → x ∷ xs ≡ [] → ⊥
+    filled e = cc
+
 pub caused : (all : List Entry) (answer : Result RawTasks TaskFault) → ((parse : Parse) → IsParse parse → IsAnswer parse all answer) → (parse : Parse) × IsParse parse × IsAnswer parse all answer
 caused all answer exact = (a_parse.0, a_parse.1, exact a_parse.0 a_parse.1)
 

@@ -1,5 +1,5 @@
 -- Meaning. What a task file's lines are answered with.
-use Rattle.std.specs.Prelude.{◌≡◌, [], List, map, Some, None, Result, Ok, Err}
+use Rattle.std.specs.Prelude.{◌≡◌, ◌≢◌, [], List, map, Some, None, Result, Ok, Err}
 use Rattle.blif_lines.specs.declared.lines.Line.{Line}
 use Rattle.assert_syntax.specs.declared.fault.TaskFault.{TaskFault}
 use Rattle.assert_syntax.specs.declared.fault.TaskFault.TheVariants.{BadLine, TooDeep, DoubleName, UnknownVar, TooMany, NoTask, OutOfMemory}
@@ -24,6 +24,7 @@ entries_of lines = map entry_of lines
 abbrev pub IsAnswer : Parse → List Entry → Result RawTasks TaskFault → Type 0
 IsAnswer parse lines (Ok raw) =
     (first_fault parse [] lines ≡ None) × (raw.vars ≡ vars_with [] lines) × (map task_tree raw.tasks ≡ tasks_of parse [] lines)
+    × (tasks_of parse [] lines ≢ [])
 IsAnswer parse lines (Err (BadLine line)) = first_fault parse [] lines ≡ Some (line, Bad)
 IsAnswer parse lines (Err (TooDeep line)) = first_fault parse [] lines ≡ Some (line, Deep)
 IsAnswer parse lines (Err (DoubleName line name)) = first_fault parse [] lines ≡ Some (line, Double name)

@@ -1,7 +1,7 @@
 use Rattle.std.proofs.Common.{◌∙◌, sym, arith, ap, length}
 use Rattle.assert_syntax.specs.private.Drafts.{context_held}
 use Rattle.assert_syntax.specs.Answer.{entries_of}
-use Rattle.assert_syntax.proofs.Turn.{read_begin, read_turn, bad_answer, fault_answer, all_read, few_tasks, none_read}
+use Rattle.assert_syntax.proofs.Turn.{read_begin, read_turn, bad_answer, fault_answer, all_read, few_tasks, none_read, some_read}
 use Rattle.assert_syntax.proofs.read.tasks_read.Goals as goal
 
 pub loop-line-init : goal.loop-line-init
@@ -30,4 +30,4 @@ invariant_of-result c = record {
 pub returns : goal.returns
 returns c = λ parse is.
     let r = all_read c.args.lines.now c.loop-line.line-index (context_held c.loop-line.known) c.loop-line.draft c.in_ok-tasks.tasks c.as_slice.result.now (omega (arith, c.loop-line-test.false, c.loop-line.auto.line-index-end)) c.as_slice.ensures.keys c.in_ok-tasks.ensures c.loop-line.invariant parse is in
-    (r.0, c.in_ok-vars.ensures ∙ c.names.ensures ∙ r.1, r.2)
+    (r.0, c.in_ok-vars.ensures ∙ c.names.ensures ∙ r.1, r.2, some_read parse (entries_of c.args.lines.now) c.in_ok-tasks.tasks c.len.result c.len.ensures c.if-len-eq0.false r.2)
