@@ -1,0 +1,8 @@
+//! The names of a flat net: what its nets are called, and which net a text names.
+#![tactic(auto)]
+
+pub mod names;
+mod number;
+mod text;
+
+pub use names::NetNames;
