@@ -3,6 +3,8 @@
 
 pub mod names;
 mod number;
+#[cfg(test)]
+mod tests;
 mod text;
 
 pub use names::NetNames;

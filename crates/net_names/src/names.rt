@@ -32,7 +32,7 @@ pub struct NetNames {
     /// The name of the top model.
     top: Name,
     /// The nets' own names, by number.
-    own: Items<Name>,
+    pub(crate) own: Items<Name>,
     /// The signals of each model, by first mention.
     signals: Vec<IndexSet<Name>>,
     /// How often each model uses models.
