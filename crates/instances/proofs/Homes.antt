@@ -25,7 +25,7 @@ in_insert_old keys name x h = by (list_any (bytes_eq name) keys)
     by true = h
     by false = in_append_left keys (name ∷ []) x h
 
-any_in : (name : List ℕ) (keys : List (List ℕ)) → list_any (bytes_eq name) keys ≡ true → In keys name
+pub any_in : (name : List ℕ) (keys : List (List ℕ)) → list_any (bytes_eq name) keys ≡ true → In keys name
 any_in name [] e = absurd (cc)
 any_in name (k ∷ keys) e = by (any_in name keys) (bytes_eq name k) refl e
   where

@@ -99,7 +99,7 @@ module _ (models : List Model) where
       let i = ends depth (r.0.0 ∷ base) (model_named models r.0.1.model) path r.2 in
       (i.0 ++ r.0.0 ∷ [], i.1 ∙ sym (append_assoc i.0 (r.0.0 ∷ []) base))
 
-  walk_distinct : (depth : ℕ) (base : List ℕ) (over : Option Model) → Distinct (instances_below models depth base over)
+  pub walk_distinct : (depth : ℕ) (base : List ℕ) (over : Option Model) → Distinct (instances_below models depth base over)
   walk_distinct zero base over = tt
   walk_distinct (suc depth) base None = tt
   walk_distinct (suc depth) base (Some m) = (

@@ -27,18 +27,18 @@ number_among f names word h =
     ∙ ap f (at_found (bytes_eq word) word ((bytes_eq-Decides word word).1 refl) (λ y e. (bytes_eq-Decides word y).0 e) names [] h)
 
 -- what is at a place of a list
-at_place : {X : Type 0} (xs : List X) (k : ℕ) (d : X) → k < length xs → slice_get xs k ≡ Some (get_or xs k d)
+pub at_place : {X : Type 0} (xs : List X) (k : ℕ) (d : X) → k < length xs → slice_get xs k ≡ Some (get_or xs k d)
 at_place [] k d h = absurd (omega arith)
 at_place (x ∷ xs) zero d h = refl
 at_place (x ∷ xs) (suc k) d h = at_place xs k d (omega arith)
 
-taken : {X : Type 0} (xs : List X) (n k : ℕ) → k < n → slice_get (take n xs) k ≡ slice_get xs k
+pub taken : {X : Type 0} (xs : List X) (n k : ℕ) → k < n → slice_get (take n xs) k ≡ slice_get xs k
 taken xs zero k h = absurd (omega arith)
 taken [] (suc n) k h = refl
 taken (x ∷ xs) (suc n) zero h = refl
 taken (x ∷ xs) (suc n) (suc k) h = taken xs n k (omega arith)
 
-below : {X : Type 0} (xs : List X) (k : ℕ) (x : X) → slice_get xs k ≡ Some x → k < length xs
+pub below : {X : Type 0} (xs : List X) (k : ℕ) (x : X) → slice_get xs k ≡ Some x → k < length xs
 below [] k x e = absurd (cc)
 below (y ∷ xs) zero x e = omega arith
 below (y ∷ xs) (suc k) x e = let r = below xs k x e in omega arith
@@ -50,7 +50,7 @@ map_same : {X Y : Type 0} (f g : X → Y) → ((x : X) → f x ≡ g x) → (xs 
 map_same f g h [] = refl
 map_same f g h (x ∷ xs) = ap (λ y. y ∷ map f xs) (h x) ∙ ap (λ l. g x ∷ l) (map_same f g h xs)
 
-less : {X : Type 0} (xs : List X) (k n : ℕ) → n < length (take k xs) → n < k
+pub less : {X : Type 0} (xs : List X) (k n : ℕ) → n < length (take k xs) → n < k
 less xs zero n h = absurd (omega arith)
 less [] (suc k) n h = absurd (omega arith)
 less (x ∷ xs) (suc k) zero h = omega arith

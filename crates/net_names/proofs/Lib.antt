@@ -1,0 +1,4 @@
+pub mod Numbers
+pub mod Links
+pub mod Named
+pub mod Tested

@@ -1,0 +1,10 @@
+//! The names of a flat net: what its nets are called, and which net a text names.
+#![tactic(auto)]
+
+pub mod names;
+mod number;
+#[cfg(test)]
+mod tests;
+mod text;
+
+pub use names::NetNames;
