@@ -1,5 +1,6 @@
--- Meaning. What makes a hierarchy faulty, and which fault it is refused for: the kind is chosen first, in a fixed order, then the
--- first line in the file, among the lines of reachable models. Source: this project's own choice.
+-- Meaning. What makes a hierarchy faulty, and which fault it is refused for: the kind is chosen first, in a fixed order, and then
+-- the first of that kind: of the file, among the lines of reachable models (among all models for a double model), or by instance
+-- and line for the two kinds of nets. Source: this project's own choice.
 use Rattle.std.specs.Prelude.{◌≡◌, ◌<◌, ◌⊎◌, ℕ, ◌∷◌, [], List, Bool, true, false, not, ◌||◌, Option, None, Some, bytes_eq, filter_map, find, is_some, length, map, nat_eq, nat_lt, position, slice_get, if◌then◌else◌, option_and_then, option_map}
 use Rattle.std.specs.Bool.{beq}
 use Rattle.std.specs.List.{list_any}

@@ -7,8 +7,9 @@ use std::alloc::{AllocError, AllocFailed};
 use ste_base::Name;
 use thiserror::Error;
 
-/// Why a netlist has no flat net, in the order in which the kinds are chosen. `line` is the number of the faulty line; it
-/// is the first of its kind in the file, among the lines of models that the top reaches.
+/// Why a netlist has no flat net, in the order in which the kinds are chosen. `line` is the number of the faulty line. It is
+/// the first of its kind: of the file among all models for a double model, of the file among the models that the top reaches
+/// for the other kinds of lines, and by instance in preorder and then by line for the last two kinds.
 #[derive(Debug, Drop, Error)]
 pub enum NetFault {
     /// An earlier model has the model's name.

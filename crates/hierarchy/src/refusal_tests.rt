@@ -230,78 +230,80 @@ fn chain_text(
     Ok(out)
 }
 
+/// Heads, how many models there are and how often each uses the next, the last, and what each text is refused for; the n-th
+/// of the models is m(n - 1).
+const CHAINS: &[(&[u8], u32, u32, &[u8], &[u8])] = &[
+    (b"", 65, 1, b".model m64\n", b"nothing"),
+    (
+        b"",
+        65,
+        1,
+        b".model m64\n.subckt n\n.end\n.model n\n",
+        b"hierarchy too deep",
+    ),
+    (b".model top\n.end\n", 90, 1, b".model m89\n", b"nothing"),
+    (
+        b".model top\n.subckt m26\n.end\n",
+        90,
+        1,
+        b".model m89\n",
+        b"nothing",
+    ),
+    (
+        b".model top\n.subckt m25\n.end\n",
+        90,
+        1,
+        b".model m89\n",
+        b"hierarchy too deep",
+    ),
+    (
+        b".model top\n.subckt m1\n.subckt m0\n.end\n",
+        65,
+        1,
+        b".model m64\n",
+        b"hierarchy too deep",
+    ),
+    // Each other kind comes before.
+    (
+        b"",
+        90,
+        1,
+        b".model m89\n.subckt m85\n",
+        b"recursive model 257 m86",
+    ),
+    (
+        b"",
+        6000,
+        1,
+        b".model m5999\n.subckt m5999\n",
+        b"recursive model 17999 m5999",
+    ),
+    (
+        b"",
+        90,
+        1,
+        b".model m89\n.inputs a a\n.end\n.model n\n.inputs b\n",
+        b"missing formal 266 a",
+    ),
+    (
+        b"",
+        90,
+        1,
+        b".model m89\n.subckt n z=a\n.end\n.model n\n",
+        b"bad formal 269 z",
+    ),
+    // Too many instances to make one by one: up to 2 to the 65th.
+    (b"", 22, 2, b".model m21\n", b"too many nodes"),
+    (b"", 20, 2, b".model m19\n", b"nothing"),
+    (b"", 64, 2, b".model m63\n", b"too many nodes"),
+    (b"", 65, 2, b".model m64\n", b"too many nodes"),
+    (b"", 66, 2, b".model m65\n", b"hierarchy too deep"),
+    (b".model top\n.end\n", 30, 2, b".model m29\n", b"nothing"),
+];
+
 #[test]
 fn deepest_hierarchies(rt: HostRuntime) -> Result<(), Fail> {
-    // The head, how many models there are and how often each uses the next, and the last; the n-th of the models is m(n - 1).
-    let table: &[(&[u8], u32, u32, &[u8], &[u8])] = &[
-        (b"", 65, 1, b".model m64\n", b"nothing"),
-        (
-            b"",
-            65,
-            1,
-            b".model m64\n.subckt n\n.end\n.model n\n",
-            b"hierarchy too deep",
-        ),
-        (b".model top\n.end\n", 90, 1, b".model m89\n", b"nothing"),
-        (
-            b".model top\n.subckt m26\n.end\n",
-            90,
-            1,
-            b".model m89\n",
-            b"nothing",
-        ),
-        (
-            b".model top\n.subckt m25\n.end\n",
-            90,
-            1,
-            b".model m89\n",
-            b"hierarchy too deep",
-        ),
-        (
-            b".model top\n.subckt m1\n.subckt m0\n.end\n",
-            65,
-            1,
-            b".model m64\n",
-            b"hierarchy too deep",
-        ),
-        // Each other kind comes before.
-        (
-            b"",
-            90,
-            1,
-            b".model m89\n.subckt m85\n",
-            b"recursive model 257 m86",
-        ),
-        (
-            b"",
-            6000,
-            1,
-            b".model m5999\n.subckt m5999\n",
-            b"recursive model 17999 m5999",
-        ),
-        (
-            b"",
-            90,
-            1,
-            b".model m89\n.inputs a a\n.end\n.model n\n.inputs b\n",
-            b"missing formal 266 a",
-        ),
-        (
-            b"",
-            90,
-            1,
-            b".model m89\n.subckt n z=a\n.end\n.model n\n",
-            b"bad formal 269 z",
-        ),
-        // Too many instances to make one by one: up to 2 to the 65th.
-        (b"", 22, 2, b".model m21\n", b"too many nodes"),
-        (b"", 20, 2, b".model m19\n", b"nothing"),
-        (b"", 64, 2, b".model m63\n", b"too many nodes"),
-        (b"", 65, 2, b".model m64\n", b"too many nodes"),
-        (b"", 66, 2, b".model m65\n", b"hierarchy too deep"),
-        (b".model top\n.end\n", 30, 2, b".model m29\n", b"nothing"),
-    ];
-    for (head, models, times, last, want) in table {
+    for (head, models, times, last, want) in CHAINS {
         let text = chain_text(rt.alloc(), head, *models, *times, last)?;
         assert!(rt; text.len() <= 67_108_864);
         let got = refusal(rt.alloc(), text.as_slice())?;
