@@ -1,20 +1,15 @@
 -- The covers of one more model.
 use Rattle.std.proofs.Common.{append-nil, ◌≡◌, ℕ, zero, suc, ◌+◌, ◌<◌, ◌≤◌, List, [], ◌∷◌, ◌++◌, map, length, length-append, take, get_or, set, Option, Some, slice_get, arith, refl, sym, ap, ◌∙◌, subst, inl, inr}
-use Rattle.std.specs.Prelude.{◌⊎◌, All, filter_map, flat_map}
-use Rattle.std.specs.List.{AllZip, cons_option}
+use Rattle.std.specs.Prelude.{◌⊎◌, All, flat_map}
+use Rattle.std.specs.List.{AllZip}
 use Rattle.std.proofs.lemmas.List.{length-map, take_more}
 use Rattle.std.proofs.lemmas.Grind.{flat_map-append}
 use Rattle.net_core.specs.declared.cover.Cover.{Cover}
 use Rattle.blif_syntax.specs.declared.models.Model.{Model}
-use Rattle.hierarchy.specs.Lines.{GateLine, gate_lines, gate_of}
+use Rattle.hierarchy.specs.Lines.{GateLine, gate_lines}
 use Rattle.hierarchy.specs.Instances.{had_by}
 use Rattle.instances.specs.declared.table.Row.{Row}
-use Rattle.flat_net.specs.private.Passes.{AreSeen, CoversOf, Extends, IsFilled, IsFirstCover, lines_at}
-use Rattle.net_core.specs.Cover.{IsCover}
-use Rattle.blif_syntax.specs.Covered.{AreCovered, IsCovered}
-use Rattle.blif_syntax.specs.declared.models.Item.{Item}
-use Rattle.blif_syntax.specs.declared.models.What.{What}
-use Rattle.blif_syntax.specs.declared.models.What.TheVariants.{Inputs, Outputs, Clock, Names, Latch, Subckt}
+use Rattle.flat_net.specs.private.Passes.{AreNarrow, AreSeen, CoversOf, Extends, IsFilled, IsFirstCover, IsNarrow, lines_at}
 
 get_left : {X : Type 0} (xs ys : List X) (k : ℕ) (x : X) → slice_get xs k ≡ Some x → slice_get (xs ++ ys) k ≡ Some x
 get_left [] ys k x e = absurd (cc)
@@ -31,26 +26,18 @@ get_right (x ∷ xs) ys k = ap (λ n. slice_get (x ∷ (xs ++ ys)) n) (shift (le
     shift : (a b : ℕ) → suc a + b ≡ suc (a + b)
     shift a b = omega arith
 
-put_first : (x : Cover) (xs : List Cover) → IsCover x → All IsCover xs → (k : ℕ) (d : Cover) → k < length (x ∷ xs) → IsCover (get_or (x ∷ xs) k d)
+put_first : (x : Cover) (xs : List Cover) → IsNarrow x → All IsNarrow xs → (k : ℕ) (d : Cover) → k < length (x ∷ xs) → IsNarrow (get_or (x ∷ xs) k d)
 put_first x xs is all zero d low = is
 put_first x xs is all (suc k) d low = all k d (omega arith)
 
-all_append : (xs ys : List Cover) → All IsCover xs → All IsCover ys → All IsCover (xs ++ ys)
+all_append : (xs ys : List Cover) → All IsNarrow xs → All IsNarrow ys → All IsNarrow (xs ++ ys)
 all_append [] ys a b = b
 all_append (x ∷ xs) ys a b = put_first x (xs ++ ys) (a zero x (omega arith)) (all_append xs ys (λ j e h. a (suc j) e (omega arith)) b)
 
--- the covers of gates are sound
-sound_lines : (items : List Item) → All (λ item. IsCovered item.what) items → All IsCover (map (λ (line : GateLine). line.cover) (filter_map (λ item. gate_of item.what) items))
-sound_lines [] h = λ k d low. absurd (omega arith)
-sound_lines (item ∷ items) h = by item.what (h zero item (omega arith)) (sound_lines items (λ k d low. h (suc k) d (omega arith)))
-  where
-    by : (what : What) → IsCovered what → All IsCover (map (λ (line : GateLine). line.cover) (filter_map (λ i. gate_of i.what) items)) → All IsCover (map (λ (line : GateLine). line.cover) (cons_option (gate_of what) (filter_map (λ i. gate_of i.what) items)))
-    by (Names inputs output cover) is again = put_first cover (map (λ (line : GateLine). line.cover) (filter_map (λ i. gate_of i.what) items)) is.1 again
-    by (Inputs _) is again = again
-    by (Outputs _) is again = again
-    by (Clock _) is again = again
-    by (Latch _ _ _ _ _) is again = again
-    by (Subckt _ _) is again = again
+-- covers of gates are those of their lines
+all_mapped : (lines : List GateLine) → AreNarrow lines → All IsNarrow (map (λ (line : GateLine). line.cover) lines)
+all_mapped [] h = λ k d low. absurd (omega arith)
+all_mapped (line ∷ lines) h = put_first line.cover (map (λ (l : GateLine). l.cover) lines) (h zero line (omega arith)) (all_mapped lines (λ k d low. h (suc k) d (omega arith)))
 
 pub covers_stay : (before after : List Cover) (first : ℕ) (model : Model) → Extends before after → length before ≤ length after → CoversOf before first model → CoversOf after first model
 covers_stay before after first model extends longer h = record {
@@ -67,7 +54,7 @@ covered_old models number covers seen first d low long known e = record {
   longer = omega arith;
   few = omega arith;
   is = λ model at. known number first model (at_place seen number d (omega (arith, low, long)) ∙ ap Some e) at;
-  sound = λ sound model at covered. sound;
+  narrow = λ before lines. before;
 }
   where
     at_place : {X : Type 0} (xs : List X) (k : ℕ) (d : X) → k < length xs → slice_get xs k ≡ Some (get_or xs k d)
@@ -91,8 +78,8 @@ covered_new models number covers after seen later first model long known at is a
       longer = omega (arith, grown);
       few = let l = ap (λ m. length (had_by gate_lines m)) at in omega (arith, grown, l);
       is = λ m e. subst (λ x. CoversOf after first x) (same model m (sym at ∙ e)) mine;
-      sound = λ sound m e covered. subst (λ l. All IsCover l) (sym add) (all_append covers (map (λ line. line.cover) (gate_lines model)) sound
-          (sound_lines model.items (subst (λ x. All (λ item. IsCovered item.what) x.items) (sym (same model m (sym at ∙ e))) covered)));
+      narrow = λ before lines. subst (λ l. All IsNarrow l) (sym add) (all_append covers (map (λ line. line.cover) (gate_lines model)) before
+          (all_mapped (gate_lines model) (subst (λ o. AreNarrow (had_by gate_lines o)) at lines)));
     }
   where
     same : (a b : Model) → Some a ≡ Some b → a ≡ b
@@ -150,17 +137,8 @@ module _ {X Y : Type 0} (f : X → List Y) where
       let c = rows_within xs k in
       omega (arith, a, b, c)
 
-pub still_sound : (models : List Model) (rows : List Row) (k : ℕ) (d : Row) → k < length rows → All (λ row. row.model < length models) rows → AreCovered models → (covers after : List Cover) (seen : List (Option ℕ)) (first : ℕ) → IsFilled models (get_or rows k d).model covers after seen first → All IsCover covers → All IsCover after
-still_sound models rows k d low in_range covered covers after seen first c sound =
-    let none : Model = record { line = 0; name = []; items = [] } in
-    let number = (get_or rows k d).model in
-    let here = at_is models number (get_or models number none) (in_range k d low) (same_default models number none (in_range k d low)) in
-    c.sound sound (get_or models number none) here (covered number none (in_range k d low))
-  where
-    same_default : {X : Type 0} (xs : List X) (k : ℕ) (d : X) → k < length xs → get_or xs k d ≡ get_or xs k (get_or xs k d)
-    same_default [] k d h = absurd (omega arith)
-    same_default (x ∷ xs) zero d h = refl
-    same_default (x ∷ xs) (suc k) d h = same_default xs k d (omega arith)
+pub still_narrow : (models : List Model) (rows : List Row) (k : ℕ) (d : Row) → k < length rows → All (λ row. AreNarrow (lines_at models row)) rows → (covers after : List Cover) (seen : List (Option ℕ)) (first : ℕ) → IsFilled models (get_or rows k d).model covers after seen first → All IsNarrow covers → All IsNarrow after
+still_narrow models rows k d low narrow covers after seen first c before = c.narrow before (narrow k d low)
 
 module _ (models : List Model) (rows : List Row) (k : ℕ) (d : Row) (low : k < length rows) (covers : List Cover) (few : length covers ≤ length (flat_map (lines_at models) (take k rows))) where
   pub room : length (flat_map (lines_at models) rows) ≤ 4294967295 → length covers + length (had_by gate_lines (slice_get models (get_or rows k d).model)) ≤ 4294967295

@@ -1,14 +1,10 @@
-pub mod Mentions
-pub mod Distinct
-pub mod Driven
-pub mod Named
-pub mod Nets
 pub mod Covered
 pub mod Marks
 pub mod Refusals
 pub mod Parting
 pub mod OneDriver
 pub mod Ranges
+pub mod Narrow
 pub mod OneToOne
 pub mod Placed
 pub mod Corresponds

@@ -40,7 +40,8 @@ model_among models (n ∷ above) model e = by (use_at (model_at models above) n)
     by None e = absurd (cc)
     by (Some used) e = of (number_named models used.model) e
 
-all_in : {X : Type 0} (P : X → Type 0) (xs : List X) (x : X) → All P xs → In xs x → P x
+-- what holds of all holds of one of them
+pub all_in : {X : Type 0} (P : X → Type 0) (xs : List X) (x : X) → All P xs → In xs x → P x
 all_in P xs x all h = let c = contains_from_in xs x h in subst P c.2 (all c.0 x c.1)
 
 covered_gate : (what : What) (gate : GateLine) → gate_of what ≡ Some gate → IsCovered what → gate.cover.inputs ≡ length gate.inputs

@@ -1,4 +1,3 @@
 pub mod Flat
 pub mod Corresponds
-pub mod Supported
 pub mod private

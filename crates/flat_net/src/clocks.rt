@@ -14,7 +14,8 @@ use blif_syntax::{Item, LatchKind, What};
 use hierarchy::NetFault;
 use ste_base::Name;
 
-/// A latch: its line, its output's net, whether its type is `re`, where it has one, and its control's net, where it has one.
+/// A latch: its line, its output's net, whether its type is `re`, where it has one, and its
+/// control's net, where it has one.
 #[derive(Clone, Copy, Debug)]
 pub(crate) struct Clock {
     pub(crate) line: u32,
@@ -125,8 +126,8 @@ fn mixed_fault(latch: &Clock, names: &[Name]) -> NetFault
     }
 }
 
-/// Refuses the first latch in an instance, by line, that has another type or control than what came before, and adds what
-/// the others have. `names` has the nets' own names, by number.
+/// Refuses the first latch in an instance, by line, that has another type or control than what came
+/// before, and adds what the others have. `names` has the nets' own names, by number.
 fn refuse_in(instance: &Instance, names: &[Name], clocks: &mut Clocks) -> Result<(), NetFault>
     ensures ok { OnOk result ((rest : List Clock) →
         mixed clocks.new rest ≡ mixed clocks.old (clocks_in instance.now ++ rest)) }
@@ -145,8 +146,9 @@ fn refuse_in(instance: &Instance, names: &[Name], clocks: &mut Clocks) -> Result
     Ok(())
 }
 
-/// Refuses the first latch, by instance and line, whose type is another than the first type, or whose control is on another
-/// net than the first control. `names` has the nets' own names, by number.
+/// Refuses the first latch, by instance and line, whose type is another than the first type, or
+/// whose control is on another net than the first control. `names` has the nets' own names, by
+/// number.
 pub(crate) fn refuse_mixed_clocks(instances: &[Instance], names: &[Name]) -> Result<(), NetFault>
     ensures ok { OnOk result (mixed no_clocks (flat_map clocks_in instances.now) ≡ None) }
     ensures err { IfErr result (λ fault. (fault ≡ OutOfMemory) ⊎ (option_map (mixed_fault names.now)

@@ -1,14 +1,12 @@
-//! The covers of a flat net: those of each model that has an instance, once; begin with `all_covers`.
+//! The covers of a flat net: those of each model that has an instance, once; begin with
+//! `all_covers`.
 
 ghost use Rattle.std.specs.Prelude.{◌≡◌, ◌<◌, ◌≤◌, ◌+◌, ◌++◌, All, IfOk, OnOk, flat_map, length, map, slice_get};
 ghost use Rattle.std.specs.List.{AllZip};
-ghost use Rattle.net_core.specs.Cover.{IsCover};
-ghost use Rattle.blif_syntax.specs.Covered.{AreCovered};
 ghost use Rattle.hierarchy.specs.Instances.{had_by};
 ghost use Rattle.hierarchy.specs.Lines.{gate_lines};
-ghost use Rattle.flat_net.specs.private.Passes.{AreSeen, IsFilled, IsFirstCover, lines_at};
+ghost use Rattle.flat_net.specs.private.Passes.{AreNarrow, AreSeen, IsFilled, IsFirstCover, IsNarrow, lines_at};
 
-use crate::flat::cover_copied;
 use blif_syntax::{Model, What};
 use instances::Row;
 use net_core::Cover;
@@ -20,6 +18,28 @@ use ste_base::Items;
 pub(crate) struct Covers {
     pub(crate) firsts: Vec<u32>,
     pub(crate) covers: Items<Cover>,
+}
+
+/// A copy of these rows.
+fn rows_copied(alloc: Global, rows: &[net_core::Row]) -> Result<Items<net_core::Row>, AllocError>
+    ensures { IfOk result (λ copy. copy ≡ rows.now) }
+{
+    let mut copy = Items::new(alloc);
+    for row in rows {
+        copy.push(Items::from(row.as_slice().to_vec(alloc)?))?;
+    }
+    Ok(copy)
+}
+
+/// A copy of a cover.
+fn cover_copied(alloc: Global, cover: &Cover) -> Result<Cover, AllocError>
+    ensures { IfOk result (λ copy. copy ≡ cover.now) }
+{
+    Ok(Cover {
+        inputs: cover.inputs,
+        on: cover.on,
+        rows: rows_copied(alloc, cover.rows.as_slice())?,
+    })
 }
 
 /// Adds a copy of the cover of each gate of a model.
@@ -35,8 +55,8 @@ fn add_covers(alloc: Global, covers: &mut Items<Cover>, model: &Model) -> Result
     Ok(())
 }
 
-/// The number of the first cover of the model of that number; its covers are added where they are not there yet. `seen` has
-/// for each model the number of its first cover, where they are there.
+/// The number of the first cover of the model of that number; its covers are added where they are
+/// not there yet. `seen` has for each model the number of its first cover, where they are there.
 fn first_cover(
     alloc: Global,
     covers: &mut Items<Cover>,
@@ -47,7 +67,8 @@ fn first_cover(
     requires number { number < length models.now }
     requires long { length seen.old.items ≡ length models.now }
     requires seen { AreSeen models.now covers.old seen.old.items }
-    requires few { length covers.old + length (had_by gate_lines (slice_get models.now number)) ≤ 4294967295 }
+    requires few { length covers.old + length (had_by gate_lines (slice_get models.now number))
+        ≤ 4294967295 }
     ensures { IfOk result
         (λ first. IsFilled models.now number covers.old covers.new seen.new.items first) }
 {
@@ -68,12 +89,12 @@ pub(crate) fn all_covers(
 ) -> Result<Covers, AllocError>
     requires rows { All (λ row. row.model < length models.now) rows.now }
     requires few { length (flat_map (lines_at models.now) rows.now) ≤ 4294967295 }
-    requires covered { AreCovered models.now }
+    requires narrow { All (λ row. AreNarrow (lines_at models.now row)) rows.now }
     ensures firsts { IfOk result (λ made.
         AllZip (IsFirstCover models.now made.covers) made.firsts.items rows.now) }
     ensures few { IfOk result (λ made.
         length made.covers ≤ length (flat_map (lines_at models.now) rows.now)) }
-    ensures sound { IfOk result (λ made. All IsCover made.covers) }
+    ensures narrow { IfOk result (λ made. All IsNarrow made.covers) }
 {
     let mut seen = models
         .iter()

@@ -60,8 +60,8 @@ fn driven_by(what: &What) -> Option<&Name>
     }
 }
 
-/// Refuses the first driver in an instance, by line, whose net is marked or has an earlier driver there; the nets of all
-/// its drivers are marked. `names` has the nets' own names, by number.
+/// Refuses the first driver in an instance, by line, whose net is marked or has an earlier driver
+/// there; the nets of all its drivers are marked. `names` has the nets' own names, by number.
 fn refuse_in(instance: &Instance, names: &[Name], marks: &mut Vec<bool>) -> Result<(), NetFault>
     ensures ok { OnOk result ((rest : List Driver) →
         twice marks.new.items rest ≡ twice marks.old.items (drivers_in instance.now ++ rest)) }
@@ -80,8 +80,8 @@ fn refuse_in(instance: &Instance, names: &[Name], marks: &mut Vec<bool>) -> Resu
     Ok(())
 }
 
-/// Refuses the first driver, by instance and line, of a net that is an input or has an earlier driver. `names` has the
-/// nets' own names, by number.
+/// Refuses the first driver, by instance and line, of a net that is an input or has an earlier
+/// driver. `names` has the nets' own names, by number.
 pub(crate) fn refuse_driven_twice(
     alloc: Global,
     instances: &[Instance],

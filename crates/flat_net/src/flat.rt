@@ -1,203 +1,242 @@
-//! The flat net of a netlist; begin with `flatten`.
+//! The flat net of a hierarchy; begin with `flatten`.
 
-ghost use Rattle.std.specs.Prelude.{◌≡◌, ◌<◌, ◌≤◌, ◌^◌, All, IfOk, IfSome, IfNone, IsTrue, false, length, map};
-ghost use Rattle.net_core.specs.Flat.{IsInRange, HasOneDriver, IsListedInOrder};
+ghost use Rattle.std.specs.Prelude.{◌≡◌, ◌<◌, ◌≤◌, ◌⊎◌, ℕ, List, [], All, IfErr, IfOk, OnOk, length, map};
+ghost use Rattle.net_core.specs.Cases.{cases_of};
+ghost use Rattle.net_core.specs.Flat.{HasOneDriver, IsInRange};
+ghost use Rattle.net_core.specs.declared.cover.Cover.{Cover};
+ghost use Rattle.hierarchy.specs.declared.fault.NetFault.TheVariants.{OutOfMemory};
 ghost use Rattle.blif_syntax.specs.Covered.{AreCovered};
-ghost use Rattle.hierarchy.specs.Lines.{gate_lines, latch_lines, signals, top};
-ghost use Rattle.flat_net.specs.Flat.{flat_of, gates_from, latch_at, net_of};
-ghost use Rattle.flat_net.specs.Supported.{is_supported, is_supported_model};
+ghost use Rattle.hierarchy.specs.Faults.{Else, HasDrivenTwice, HasFaultBeforeInstances, HasMixedClocks, IsFree, IsRefusal};
+ghost use Rattle.flat_net.specs.Corresponds.{Corresponds};
+ghost use Rattle.hierarchy.specs.Names.{own_name};
+ghost use Rattle.hierarchy.specs.Sizes.{IsShallow};
+ghost use Rattle.hierarchy.specs.Nets.{nets};
+ghost use Rattle.flat_net.specs.Flat.{IsFlat};
+ghost use Rattle.flat_net.specs.private.Parts.{ArePartsOf};
+ghost use Rattle.flat_net.specs.private.Passes.{AreInstances, AreNumbered, IsInstance, IsNarrow};
+ghost use Rattle.net_names.specs.Names.{AreNamesOf};
 
-use crate::supported::is_supported_model;
+use crate::clocks::refuse_mixed_clocks;
+use crate::covers::Covers;
+use crate::drivers::refuse_driven_twice;
+use crate::gates::{all_gates, all_latches};
+use crate::instance::{Instance, all_instances, nodes_in};
+use crate::parts::{Parts, parts_of};
 use blif_syntax::{Model, Models};
-use hierarchy::lines::{GateLine, LatchLine, gate_lines, latch_lines};
-use hierarchy::signals::{inputs_of, outputs_of, signals};
+use hierarchy::signals::{inputs_of, outputs_of};
+use hierarchy::uses::names_of;
+use hierarchy::{NetFault, refuse};
 use indexmap::IndexSet;
-use net_core::{Cover, Gate, Latch, RawNet, Row};
+use instances::{Numbered, Row};
+use net_core::{Cover, RawNet};
+use net_names::NetNames;
 use std::alloc::{AllocError, Global};
-use ste_base::{Items, Name, NodeId};
+use ste_base::{Items, Name};
 
-/// A flat net with the names of its nets: the net of number n has the n-th of them.
-#[derive(Debug, Drop)]
-pub struct FlatNet {
-    pub raw: RawNet,
-    pub names: Items<Name>,
-}
-
-/// The net of a signal.
-#[tactic(auto, using(crate::proofs::Mentions::place_or_len))]
-fn net_of(names: &IndexSet<Name>, word: &Name) -> NodeId
-    requires { length names.now.keys < 2 ^ 32 }
-    ensures { result ≡ net_of names.now.keys word.now }
-{
-    let number = names.get_index_of(word).unwrap_or(names.len());
-    NodeId(number as u32)
-}
-
-/// The nets of these signals.
-fn nets_of(
-    alloc: Global,
-    names: &IndexSet<Name>,
-    words: &[Name],
-) -> Result<Items<NodeId>, AllocError>
-    requires { length names.now.keys < 2 ^ 32 }
-    ensures { IfOk result (λ nets. nets ≡ map (net_of names.now.keys) words.now) }
-{
-    let mut nets = Items::new(alloc);
-    for word in words {
-        nets.push(net_of(names, word))?;
-    }
-    Ok(nets)
-}
-
-/// The gates of these lines, by number: a gate's cover has its number.
-fn gates_of(
-    alloc: Global,
-    names: &IndexSet<Name>,
-    lines: &[GateLine],
-) -> Result<Items<Gate>, AllocError>
-    requires names { length names.now.keys < 2 ^ 32 }
-    requires lines { length lines.now < 2 ^ 32 }
-    ensures { IfOk result (λ gates. gates ≡ gates_from names.now.keys 0 lines.now) }
-{
-    let mut gates = Items::new(alloc);
-    for line in lines {
-        let gate = Gate {
-            inputs: nets_of(alloc, names, line.inputs)?,
-            output: net_of(names, line.output),
-            cover: gates.len() as u32,
-        };
-        gates.push(gate)?;
-    }
-    Ok(gates)
-}
-
-/// The latches of these lines, by number.
-fn latches_of(
-    alloc: Global,
-    names: &IndexSet<Name>,
-    lines: &[LatchLine],
-) -> Result<Items<Latch>, AllocError>
-    requires { length names.now.keys < 2 ^ 32 }
-    ensures { IfOk result (λ latches. latches ≡ map (latch_at names.now.keys) lines.now) }
-{
-    let mut latches = Items::new(alloc);
-    for line in lines {
-        latches.push(Latch {
-            input: net_of(names, line.input),
-            output: net_of(names, line.output),
-            init: line.init,
-        })?;
-    }
-    Ok(latches)
-}
-
-/// A copy of these rows.
-fn rows_copied(alloc: Global, rows: &[Row]) -> Result<Items<Row>, AllocError>
-    ensures { IfOk result (λ copy. copy ≡ rows.now) }
-{
-    let mut copy = Items::new(alloc);
-    for row in rows {
-        copy.push(Items::from(row.as_slice().to_vec(alloc)?))?;
-    }
-    Ok(copy)
-}
-
-/// A copy of a cover.
-pub(crate) fn cover_copied(alloc: Global, cover: &Cover) -> Result<Cover, AllocError>
-    ensures { IfOk result (λ copy. copy ≡ cover.now) }
-{
-    Ok(Cover {
-        inputs: cover.inputs,
-        on: cover.on,
-        rows: rows_copied(alloc, cover.rows.as_slice())?,
-    })
-}
-
-/// The covers of these lines, by number.
-fn covers_of(alloc: Global, lines: &[GateLine]) -> Result<Items<Cover>, AllocError>
-    ensures { IfOk result (λ covers. covers ≡ map (λ line. line.cover) lines.now) }
-{
-    let mut covers = Items::new(alloc);
-    for line in lines {
-        covers.push(cover_copied(alloc, line.cover)?)?;
-    }
-    Ok(covers)
-}
-
-/// The flat net of a model with these signals, gates and latches.
+/// The flat net with so many nets, and these covers and instances; `top` is the first of these.
 fn raw_net(
     alloc: Global,
-    model: &Model,
-    names: &IndexSet<Name>,
-    gates: &[GateLine],
-    latches: &[LatchLine],
+    models: &[Model],
+    count: u32,
+    covers: Items<Cover>,
+    instances: &[Instance],
+    top: &Instance,
 ) -> Result<RawNet, AllocError>
-    requires names { names.now.keys ≡ signals model.now }
-    requires gates { gates.now ≡ gate_lines model.now }
-    requires latches { latches.now ≡ latch_lines model.now }
-    requires few_names { length (signals model.now) < 2 ^ 32 }
-    requires few_gates { length (gate_lines model.now) < 2 ^ 32 }
-    ensures { IfOk result (λ raw. raw ≡ flat_of model.now) }
+    requires count { count ≡ length (nets models.now) }
+    requires instances { AreInstances models.now covers instances.now }
+    requires top { IsInstance models.now covers top.now [] }
+    requires few { length covers ≤ 4294967295 }
+    ensures { IfOk result (λ raw. IsFlat models.now raw × (raw.covers ≡ covers)) }
 {
-    let inputs = inputs_of(alloc, model)?;
-    let outputs = outputs_of(alloc, model)?;
+    let _ = models;
+    let inputs = inputs_of(alloc, top.model)?;
+    let outputs = outputs_of(alloc, top.model)?;
     Ok(RawNet {
-        nets: names.len() as u32,
-        inputs: nets_of(alloc, names, inputs.as_slice())?,
-        outputs: nets_of(alloc, names, outputs.as_slice())?,
-        gates: gates_of(alloc, names, gates)?,
-        latches: latches_of(alloc, names, latches)?,
-        covers: covers_of(alloc, gates)?,
+        nets: count,
+        inputs: nodes_in(alloc, top, inputs.as_slice())?,
+        outputs: nodes_in(alloc, top, outputs.as_slice())?,
+        gates: all_gates(alloc, instances)?,
+        latches: all_latches(alloc, instances)?,
+        covers,
     })
 }
 
-/// The flat net of a model, and the names of its nets; None where the model is none that is flattened.
-#[tactic(auto, using(crate::proofs::Nets::few_signals, crate::proofs::Nets::few_gates))]
-fn flatten_model(alloc: Global, model: &Model) -> Result<Option<FlatNet>, AllocError>
-    ensures some { IfOk result (λ found. IfSome found (λ flat.
-        IsTrue (is_supported_model model.now) × (flat.raw ≡ flat_of model.now)
-        × (flat.names ≡ signals model.now))) }
-    ensures none { IfOk result (λ found. IfNone found (is_supported_model model.now ≡ false)) }
+/// Refuses the first driver of a net that is driven twice, or where there is none the first latch
+/// with another type or control. `names` has the nets' own names, by number, and `top` is the first
+/// of the instances.
+fn refuse_numbered(
+    alloc: Global,
+    models: &[Model],
+    names: &[Name],
+    instances: &[Instance],
+    top: &Instance,
+) -> Result<(), NetFault>
+    ensures ok { OnOk result ((covers : List Cover) →
+        AreNumbered models.now names.now covers instances.now top.now →
+        IsFree (Else (HasDrivenTwice models.now) (HasMixedClocks models.now))) }
+    ensures err { IfErr result (λ fault. (fault ≡ OutOfMemory) ⊎ ((covers : List Cover) →
+        AreNumbered models.now names.now covers instances.now top.now →
+        Else (HasDrivenTwice models.now) (HasMixedClocks models.now) fault)) }
 {
-    let names = signals(alloc, model)?;
-    let gates = gate_lines(alloc, model)?;
-    let latches = latch_lines(alloc, model)?;
-    if !is_supported_model(
-        alloc,
-        model,
-        names.len(),
-        gates.as_slice(),
-        latches.as_slice(),
-    )? {
-        return Ok(None);
+    let _ = models;
+    let inputs = inputs_of(alloc, top.model)?;
+    let nodes = nodes_in(alloc, top, inputs.as_slice())?;
+    match refuse_driven_twice(alloc, instances, nodes.as_slice(), names) {
+        Err(fault) => Err(fault),
+        Ok(()) => match refuse_mixed_clocks(instances, names) {
+            Err(fault) => Err(fault),
+            Ok(()) => Ok(()),
+        },
     }
-    let raw = raw_net(alloc, model, &names, gates.as_slice(), latches.as_slice())?;
-    Ok(Some(FlatNet {
-        raw,
-        names: names.into_iter().collect::<Vec<Name>>(alloc)?.into(),
-    }))
 }
 
-/// The flat net of a netlist, and the names of its nets, by number; None where the netlist is none that is flattened so
-/// far: it has more than one model, a model uses a model, a signal is driven twice or is an input and driven, its latches
-/// have different types or controls, a gate has more than eight inputs, or an input that it or a later gate drives, or
-/// there are more than 200 nets. Each cover has to be sound, with as many inputs as its line names. The only error is
-/// want of memory.
-pub fn flatten(alloc: Global, models: &Models) -> Result<Option<FlatNet>, AllocError>
-    requires { AreCovered models.now.models }
-    ensures some { IfOk result (λ found. IfSome found (λ flat.
-        IsTrue (is_supported models.now.models) × (flat.raw ≡ flat_of (top models.now.models))
-        × (flat.names ≡ signals (top models.now.models)))) }
-    ensures none { IfOk result (λ found. IfNone found (is_supported models.now.models ≡ false)) }
-    ensures in_range { IfOk result (λ found. IfSome found (λ flat. IsInRange flat.raw)) }
-    ensures one_driver { IfOk result (λ found. IfSome found (λ flat. HasOneDriver flat.raw)) }
-    ensures in_order { IfOk result (λ found. IfSome found (λ flat. IsListedInOrder flat.raw)) }
-    ensures few { IfOk result (λ found. IfSome found (λ flat. flat.raw.nets ≤ 200)) }
-    ensures narrow { IfOk result (λ found. IfSome found (λ flat.
-        All (λ gate. length gate.inputs ≤ 8) flat.raw.gates)) }
+/// The flat net of these instances, or the fault that the numbers of nets show. `names` has the
+/// nets' own names, by number.
+fn flat_of(
+    alloc: Global,
+    models: &[Model],
+    names: &[Name],
+    covers: Items<Cover>,
+    instances: &[Instance],
+) -> Result<RawNet, NetFault>
+    requires some { 0 < length models.now }
+    requires shallow { IsShallow models.now }
+    requires names { names.now ≡ map own_name (nets models.now) }
+    requires few_nets { length names.now ≤ 4294967295 }
+    requires few_covers { length covers ≤ 4294967295 }
+    requires instances { AreInstances models.now covers instances.now }
+    ensures flat { IfOk result (λ raw. IsFlat models.now raw × (raw.covers ≡ covers)) }
+    ensures ok { OnOk result
+        (IsFree (Else (HasDrivenTwice models.now) (HasMixedClocks models.now))) }
+    ensures err { IfErr result (λ fault. (fault ≡ OutOfMemory)
+        ⊎ Else (HasDrivenTwice models.now) (HasMixedClocks models.now) fault) }
 {
-    match models.models.as_slice() {
-        [model] => flatten_model(alloc, model),
-        _ => Ok(None),
+    let top = &instances[0];
+    match refuse_numbered(alloc, models, names, instances, top) {
+        Err(fault) => Err(fault),
+        Ok(()) => {
+            let count = names.len() as u32;
+            let raw = raw_net(alloc, models, count, covers, instances, top)?;
+            Ok(raw)
+        }
+    }
+}
+
+/// The flat net of a hierarchy of which these are the parts, or the fault that the numbers of nets
+/// show.
+fn net_of_parts(
+    alloc: Global,
+    models: &[Model],
+    signals: &[IndexSet<Name>],
+    rows: &[Row],
+    numbered: &Numbered,
+    covers: Covers,
+) -> Result<RawNet, NetFault>
+    requires some { 0 < length models.now }
+    requires shallow { IsShallow models.now }
+    requires parts { ArePartsOf models.now (map (λ set. set.keys) signals.now) rows.now
+        numbered.now.numbers.items numbered.now.names covers.firsts.items covers.covers }
+    ensures flat { IfOk result (λ raw. IsFlat models.now raw × (raw.covers ≡ covers.covers)) }
+    ensures ok { OnOk result
+        (IsFree (Else (HasDrivenTwice models.now) (HasMixedClocks models.now))) }
+    ensures err { IfErr result (λ fault. (fault ≡ OutOfMemory)
+        ⊎ Else (HasDrivenTwice models.now) (HasMixedClocks models.now) fault) }
+{
+    let Covers { firsts, covers } = covers;
+    let instances = all_instances(
+        alloc,
+        models,
+        signals,
+        rows,
+        numbered.numbers.as_slice(),
+        firsts.as_slice(),
+    )?;
+    match flat_of(
+        alloc,
+        models,
+        numbered.names.as_slice(),
+        covers,
+        instances.as_slice(),
+    ) {
+        Err(fault) => Err(fault),
+        Ok(raw) => Ok(raw),
+    }
+}
+
+/// The flat net, with the names of its nets, of a hierarchy without a fault that can be told before
+/// any instance is made, or the fault that the numbers of nets show.
+fn flat_behind(alloc: Global, models: &[Model]) -> Result<(RawNet, NetNames), NetFault>
+    requires some { 0 < length models.now }
+    requires covered { AreCovered models.now }
+    requires free { IsFree (HasFaultBeforeInstances models.now) }
+    ensures flat { IfOk result (λ made. IsFlat models.now made.0) }
+    ensures in_range { IfOk result (λ made. IsInRange made.0) }
+    ensures narrow { IfOk result (λ made. All IsNarrow made.0.covers) }
+    ensures names { IfOk result (λ made. AreNamesOf models.now made.1) }
+    ensures ok { OnOk result
+        (IsFree (Else (HasDrivenTwice models.now) (HasMixedClocks models.now))) }
+    ensures err { IfErr result (λ fault. (fault ≡ OutOfMemory)
+        ⊎ Else (HasDrivenTwice models.now) (HasMixedClocks models.now) fault) }
+{
+    let names = match names_of(alloc, models) {
+        Ok(names) => names,
+        Err(_fault) => return Err(NetFault::OutOfMemory),
+    };
+    let parts = parts_of(alloc, models, &names)?;
+    let Parts {
+        signals,
+        rows,
+        numbered,
+        covers,
+    } = parts;
+    match net_of_parts(
+        alloc,
+        models,
+        signals.as_slice(),
+        rows.as_slice(),
+        &numbered,
+        covers,
+    ) {
+        Err(fault) => Err(fault),
+        Ok(raw) => {
+            let names = NetNames::new(alloc, models, signals, rows, numbered)?;
+            Ok((raw, names))
+        }
+    }
+}
+
+/// The flat net of a netlist, of one model or of a hierarchy, with the names of its nets. The nets
+/// of all instances are numbered in preorder, and gates and latches stand by instance and line; a
+/// bound formal is on its actual's net. Each cover has to be sound, with as many inputs as its line
+/// names. An error is the fault that the hierarchy is refused for, with its line and name, of the
+/// first kind for which there is one, or want of memory.
+pub fn flatten(alloc: Global, models: &Models) -> Result<(RawNet, NetNames), NetFault>
+    requires { AreCovered models.now.models }
+
+    // The net is that of the hierarchy, and its runs are those of the hierarchy.
+    ensures flat { IfOk result (λ made. IsFlat models.now.models made.0) }
+    ensures runs { IfOk result (λ made. (n : ℕ) → Corresponds models.now.models made.0 n) }
+
+    // What the order of its gates and the rows of its covers ask.
+    ensures in_range { IfOk result (λ made. IsInRange made.0) }
+    ensures one_driver { IfOk result (λ made. HasOneDriver made.0) }
+    ensures inputs { IfOk result (λ made. All (λ cover. cover.inputs ≤ 1000) made.0.covers) }
+    ensures cases { IfOk result (λ made.
+        All (λ cover. cases_of cover.inputs cover.rows ≤ 65536) made.0.covers) }
+
+    // The names are those of its nets.
+    ensures names { IfOk result (λ made. AreNamesOf models.now.models made.1) }
+
+    // Ok exactly where there is no fault, and otherwise the first of them, or want of memory.
+    ensures ok { OnOk result (IsFree (IsRefusal models.now.models)) }
+    ensures err { IfErr result (λ fault. (fault ≡ OutOfMemory)
+        ⊎ IsRefusal models.now.models fault) }
+{
+    match refuse(alloc, models) {
+        Err(fault) => Err(fault),
+        Ok(()) => match flat_behind(alloc, models.models.as_slice()) {
+            Err(fault) => Err(fault),
+            Ok(made) => Ok(made),
+        },
     }
 }

@@ -15,7 +15,8 @@ use std::alloc::{AllocError, Global};
 use std::marker::Model;
 use ste_base::{Items, Name, NodeId};
 
-/// An instance: its model, the signals of that with the numbers of their nets, and the number of its first cover.
+/// An instance: its model, the signals of that with the numbers of their nets, and the number of
+/// its first cover.
 #[derive(Drop)]
 pub(crate) struct Instance<'a> {
     pub(crate) model: &'a blif_syntax::Model,
@@ -82,8 +83,9 @@ fn instance_of<'a>(
     }
 }
 
-/// The instances of a hierarchy, in preorder. `names` has the signals of each model, `rows` the instances, and for each of
-/// these `numbers` those of its signals' nets, and `firsts` the number of its first cover.
+/// The instances of a hierarchy, in preorder. `names` has the signals of each model, `rows` the
+/// instances, and for each of these `numbers` those of its signals' nets, and `firsts` the number
+/// of its first cover.
 pub(crate) fn all_instances<'a>(
     alloc: Global,
     models: &'a [blif_syntax::Model],

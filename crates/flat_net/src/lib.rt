@@ -1,4 +1,5 @@
-//! The flat net of a netlist: its nets are numbered, and each gate and latch drives the nets of its signals.
+//! The flat net of a netlist: its nets are numbered, and each gate and latch drives the nets of its
+//! signals.
 #![tactic(auto)]
 
 mod clocks;
@@ -6,14 +7,8 @@ mod covers;
 mod drivers;
 pub mod flat;
 mod gates;
-#[cfg(test)]
-mod hierarchy_tests;
 mod instance;
 pub mod laws;
 mod parts;
-mod supported;
-#[cfg(test)]
-mod tests;
-pub mod whole;
 
-pub use flat::{FlatNet, flatten};
+pub use flat::flatten;

@@ -16,8 +16,8 @@ use instances::{Numbered, Row, instance_numbers, instance_rows};
 use std::alloc::{AllocError, Global};
 use ste_base::Name;
 
-/// What the passes over instances stand on: the signals of each model, the instances, for these the numbers of their
-/// signals' nets with the nets' own names, and the covers.
+/// What the passes over instances stand on: the signals of each model, the instances, for these the
+/// numbers of their signals' nets with the nets' own names, and the covers.
 #[derive(Drop)]
 pub(crate) struct Parts {
     pub(crate) signals: Vec<IndexSet<Name>>,
@@ -37,7 +37,8 @@ fn all_signals(alloc: Global, models: &[Model]) -> Result<Vec<IndexSet<Name>>, A
     Ok(sets)
 }
 
-/// The parts of a hierarchy without a fault that can be told before any instance is made. `names` has the names of all models.
+/// The parts of a hierarchy without a fault that can be told before any instance is made. `names`
+/// has the names of all models.
 pub(crate) fn parts_of(
     alloc: Global,
     models: &[Model],

@@ -1,5 +1,5 @@
 -- Where nets are made.
-use Rattle.std.proofs.Common.{◌≡◌, ℕ, ◌<◌, Bool, true, false, not, ◌&&◌, ◌||◌, cond, List, [], ◌∷◌, ◌++◌, map, length, Option, None, Some, slice_get, get_or, arith, refl, sym, ap, ◌∙◌, subst, inl, inr}
+use Rattle.std.proofs.Common.{◌≡◌, ℕ, ◌<◌, ◌≤◌, Bool, true, false, not, ◌&&◌, ◌||◌, cond, List, [], ◌∷◌, ◌++◌, map, length, Option, None, Some, slice_get, get_or, arith, refl, sym, ap, ◌∙◌, subst, inl, inr}
 use Rattle.std.specs.Prelude.{flat_map, filter, find, option_and_then, option_map, is_some, bytes_eq}
 use Rattle.std.specs.List.{list_any}
 use Rattle.std.specs.Option.{option_map_or}
@@ -86,25 +86,30 @@ actual_is_above models over above n used signal actual o at e =
     let here : option_and_then (λ s. actual_of s signal) (use_at over n) ≡ actual_of used signal = ap (λ w. option_and_then (λ s. actual_of s signal) (use_at w n)) o ∙ ap (λ w. option_and_then (λ s. actual_of s signal) w) at in
     actual_is_signal above n used signal actual at (sym here ∙ e)
 
-module _ (models : List Model) (shallow : IsShallow models) where
-  pub met : (path : List ℕ) (model : Model) → model_at models path ≡ Some model → In (instances models) path
-  met path model e = let short : length path < 65 = let s = shallow path model e in omega arith in complete models 65 path model e short
-
-  own : (path : List ℕ) (model : Model) (signal : List ℕ) → model_at models path ≡ Some model → In (signals model) signal → is_bound models path signal ≡ false → In (nets models) (record { path = path; signal = signal })
-  own path model signal e h free =
+module _ (models : List Model) where
+  own : (path : List ℕ) (model : Model) (signal : List ℕ) → length path ≤ 64 → model_at models path ≡ Some model → In (signals model) signal → is_bound models path signal ≡ false → In (nets models) (record { path = path; signal = signal })
+  own path model signal short e h free =
       let mine : In (had_by signals (model_at models path)) signal = subst (λ o. In (had_by signals o) signal) (sym e) h in
-      in_flat_map (λ p. own_nets models p) (instances models) path (record { path = path; signal = signal }) (met path model e) (in_map (λ s. record { path = path; signal = s }) (filter (λ s. not (is_bound models path s)) (had_by signals (model_at models path))) signal (in_filter (λ s. not (is_bound models path s)) (had_by signals (model_at models path)) signal mine (ap not free)))
+      in_flat_map (λ p. own_nets models p) (instances models) path (record { path = path; signal = signal }) (complete models 65 path model e (omega (arith, short))) (in_map (λ s. record { path = path; signal = s }) (filter (λ s. not (is_bound models path s)) (had_by signals (model_at models path))) signal (in_filter (λ s. not (is_bound models path s)) (had_by signals (model_at models path)) signal mine (ap not free)))
 
-  pub home_is_net : (path : List ℕ) (model : Model) (signal : List ℕ) → model_at models path ≡ Some model → In (signals model) signal → In (nets models) (home models path signal)
-  home_is_net [] model signal e h = own [] model signal e h refl
-  home_is_net (n ∷ above) model signal e h = by (λ m a. home_is_net above m a) (bound_to models above n signal) refl
+  -- the home of a signal of an instance whose path is short is a net
+  pub short_home_is_net : (path : List ℕ) (model : Model) (signal : List ℕ) → length path ≤ 64 → model_at models path ≡ Some model → In (signals model) signal → In (nets models) (home models path signal)
+  short_home_is_net [] model signal short e h = own [] model signal short e h refl
+  short_home_is_net (n ∷ above) model signal short e h = by (λ m a. short_home_is_net above m a (omega (arith, short))) (bound_to models above n signal) refl
     where
       by : ((m : Model) (a : List ℕ) → model_at models above ≡ Some m → In (signals m) a → In (nets models) (home models above a)) → (o : Option (List ℕ)) → bound_to models above n signal ≡ o → In (nets models) (home models (n ∷ above) signal)
-      by again None is = subst (λ p. In (nets models) p) (sym (ap (λ w. option_map_or (λ actual. home models above actual) w (record { path = n ∷ above; signal = signal })) is)) (own (n ∷ above) model signal e h (ap is_some is))
+      by again None is = subst (λ p. In (nets models) p) (sym (ap (λ w. option_map_or (λ actual. home models above actual) w (record { path = n ∷ above; signal = signal })) is)) (own (n ∷ above) model signal short e h (ap is_some is))
       by again (Some actual) is =
           let s = stands_on models (model_at models above) n model e in
           subst (λ p. In (nets models) p) (sym (ap (λ w. option_map_or (λ actual. home models above actual) w (record { path = n ∷ above; signal = signal })) is))
           (again s.0 actual s.2 (actual_is_above models (model_at models above) s.0 n s.1 signal actual s.2 s.3 is))
+
+module _ (models : List Model) (shallow : IsShallow models) where
+  pub met : (path : List ℕ) (model : Model) → model_at models path ≡ Some model → In (instances models) path
+  met path model e = let short : length path < 65 = let s = shallow path model e in omega arith in complete models 65 path model e short
+
+  pub home_is_net : (path : List ℕ) (model : Model) (signal : List ℕ) → model_at models path ≡ Some model → In (signals model) signal → In (nets models) (home models path signal)
+  home_is_net path model signal e h = short_home_is_net models path model signal (shallow path model e) e h
 
 module _ (models : List Model) (n : ℕ) (run : List ℕ → List ℕ → ℕ → Bool) (is_run : IsHierarchicalRun models n run) (t : ℕ) (in_time : t < n) where
   pub home_bit : (path signal : List ℕ) → run (home models path signal).path (home models path signal).signal t ≡ run path signal t

@@ -1,4 +1,5 @@
 pub mod Numbers
 pub mod Links
 pub mod Named
+pub mod Parts
 pub mod Tested

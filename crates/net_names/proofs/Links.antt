@@ -15,8 +15,7 @@ use Rattle.instances.specs.Numbers.{AreRows}
 use Rattle.instances.proofs.NoRepeats.{Distinct, walk_distinct}
 use Rattle.instances.proofs.Rows.{at_place, below, less, taken}
 use Rattle.net_names.specs.declared.names.Link.{Link}
-use Rattle.net_names.specs.Names.{link_of}
-use Rattle.net_names.specs.private.Links.{is_same_link}
+use Rattle.net_names.specs.Names.{is_same_link, link_of}
 
 -- in a list without repeats an element has one place
 pub one_place : {X : Type 0} (xs : List X) → Distinct xs → (i k : ℕ) (x : X) → slice_get xs i ≡ Some x → slice_get xs k ≡ Some x → i ≡ k

@@ -1,9 +1,9 @@
 -- What a text names, level by level.
-use Rattle.std.proofs.Common.{◌≡◌, ℕ, zero, suc, ◌+◌, ◌-◌, ◌<◌, Bool, true, false, cond, ◌||◌, nat_lt, ◌==◌, List, [], ◌∷◌, map, length, take, drop, get_or, Option, None, Some, slice_get, unwrap_or, arith, refl, sym, ap, ◌∙◌, subst, inl, inr}
+use Rattle.std.proofs.Common.{◌≡◌, ℕ, zero, suc, ◌+◌, ◌<◌, ◌≤◌, Bool, true, false, cond, ◌||◌, nat_lt, ◌==◌, List, [], ◌∷◌, map, length, take, drop, get_or, Option, None, Some, slice_get, unwrap_or, arith, refl, sym, ap, ◌∙◌, subst, inl, inr}
 use Rattle.std.specs.Prelude.{bytes_eq, option_and_then, option_map, position}
 use Rattle.std.specs.List.{list_any, position_from, position_or_len}
+use Rattle.std.specs.Option.{option_or}
 use Rattle.std.proofs.lemmas.Iterator.Adapters.{position_from-zero}
-use Rattle.std.proofs.lemmas.List.{take_rest}
 use Rattle.std.proofs.lemmas.List.Quantifiers.{position-Some}
 use Rattle.std.proofs.lemmas.Option.{slice_get-map}
 use Rattle.std.proofs.lemmas.Slice.Eq.{bytes_eq-Decides}
@@ -15,19 +15,17 @@ use Rattle.blif_syntax.specs.Words.{is_one_of}
 use Rattle.hierarchy.specs.Instances.{had_by, instances, model_at}
 use Rattle.hierarchy.specs.Lines.{signals, use_lines}
 use Rattle.hierarchy.specs.Names.{is_slash, named_in, number_below}
-use Rattle.hierarchy.specs.Nets.{number_at}
+use Rattle.hierarchy.specs.Nets.{home, is_same_signal, nets, number_at}
 use Rattle.hierarchy.proofs.Members.{In, at_found, found}
 use Rattle.instances.specs.declared.table.Row.{Row}
 use Rattle.instances.specs.Table.{IsBelow}
 use Rattle.instances.specs.Numbers.{AreRows, numbers_in}
-use Rattle.instances.proofs.Homes.{any_in, met}
+use Rattle.instances.proofs.Homes.{any_in, met, short_home_is_net, signal_itself, signal_same}
 use Rattle.instances.proofs.NoRepeats.{walk_distinct}
 use Rattle.instances.proofs.Rows.{at_place, below, less, taken}
 use Rattle.net_names.specs.declared.names.Link.{Link}
 use Rattle.net_names.specs.declared.names.NetNames.{NetNames}
-use Rattle.net_names.specs.Names.{AreNamesOf, link_of}
-use Rattle.net_names.specs.private.Links.{is_same_link}
-use Rattle.net_names.specs.private.Named.{number_named, row_below}
+use Rattle.net_names.specs.Names.{AreNamesOf, NamedInRange, NamesAreResolved, is_same_link, link_of, named_by, named_from, number_named, row_below}
 use Rattle.net_names.proofs.Links.{below_is, one_place, same_itself, same_link}
 
 -- tests that answer alike
@@ -186,7 +184,7 @@ module _ (models : List Model) (names : NetNames) (known : AreNamesOf models nam
       ∙ ap (λ m. Some (map (λ signal. number_at models path signal) (had_by signals m))) has
 
   -- the number that stands for a signal is that of its net
-  signal_is : (text : List ℕ) → number_named (map (λ set. set.keys) names.signals.items) names.rows.items names.numbers.items place_of text ≡ cond (is_one_of (had_by signals (model_at models path)) text) (Some (number_at models path text)) None
+  signal_is : (text : List ℕ) → number_named names place_of text ≡ cond (is_one_of (had_by signals (model_at models path)) text) (Some (number_at models path text)) None
   signal_is text =
       chain (slice_get names.rows.items place_of) here (map (λ set. set.keys) names.signals.items) its_signals (slice_get names.numbers.items place_of) its_numbers
       ∙ looked_up (λ signal. number_at models path signal) (signals model) text
@@ -198,7 +196,7 @@ module _ (models : List Model) (names : NetNames) (known : AreNamesOf models nam
       chain o oe sets se n ne = rw (oe, se, ne) refl
 
   -- the row that a text leads to is that of the instance
-  row_is : (text : List ℕ) → row_below names.uses.items names.rows.items names.links.keys place_of text ≡ option_and_then (λ number. position (bytes_eq (number ∷ path)) (instances models)) (number_below (length (had_by use_lines (model_at models path))) text)
+  row_is : (text : List ℕ) → row_below names place_of text ≡ option_and_then (λ number. position (bytes_eq (number ∷ path)) (instances models)) (number_below (length (had_by use_lines (model_at models path))) text)
   row_is text =
       chain (slice_get names.rows.items place_of) here names.uses.items its_uses
       ∙ each (number_below (length (use_lines model)) text)
@@ -214,7 +212,7 @@ module _ (models : List Model) (names : NetNames) (known : AreNamesOf models nam
       each (Some number) = ap (λ l. position (is_same_link (record { above = Some place_of; number = number })) l) known.links_known ∙ links_to models names.rows.items known.rows_known place_of path its number
 
   -- a text that is a signal names its net
-  pub signal_named : (depth : ℕ) (text : List ℕ) (number : ℕ) → 0 < depth → number_named (map (λ set. set.keys) names.signals.items) names.rows.items names.numbers.items place_of text ≡ Some number → Some number ≡ named_in models depth path text
+  pub signal_named : (depth : ℕ) (text : List ℕ) (number : ℕ) → 0 < depth → number_named names place_of text ≡ Some number → Some number ≡ named_in models depth path text
   signal_named zero text number some e = absurd (omega (arith, some))
   signal_named (suc depth) text number some e = by (is_one_of (had_by signals (model_at models path)) text) refl (sym e ∙ signal_is text)
     where
@@ -222,7 +220,7 @@ module _ (models : List Model) (names : NetNames) (known : AreNamesOf models nam
       by true is h = h ∙ rw is refl
       by false is h = absurd (cc)
 
-  no_signal : (text : List ℕ) → number_named (map (λ set. set.keys) names.signals.items) names.rows.items names.numbers.items place_of text ≡ None → is_one_of (had_by signals (model_at models path)) text ≡ false
+  no_signal : (text : List ℕ) → number_named names place_of text ≡ None → is_one_of (had_by signals (model_at models path)) text ≡ false
   no_signal text e = by (is_one_of (had_by signals (model_at models path)) text) (sym e ∙ signal_is text)
     where
       by : (b : Bool) → None ≡ cond b (Some (number_at models path text)) None → b ≡ false
@@ -230,7 +228,7 @@ module _ (models : List Model) (names : NetNames) (known : AreNamesOf models nam
       by false h = refl
 
   -- a text that is no signal and has no slash names nothing
-  pub no_slash : (depth : ℕ) (text : List ℕ) → 0 < depth → number_named (map (λ set. set.keys) names.signals.items) names.rows.items names.numbers.items place_of text ≡ None → position is_slash text ≡ None → None ≡ named_in models depth path text
+  pub no_slash : (depth : ℕ) (text : List ℕ) → 0 < depth → number_named names place_of text ≡ None → position is_slash text ≡ None → None ≡ named_in models depth path text
   no_slash zero text some e slash = absurd (omega (arith, some))
   no_slash (suc depth) text some e slash =
       let long : length text ≡ length (before is_slash text) = ap (λ o. unwrap_or o (length text)) (sym slash) ∙ place is_slash text in
@@ -238,7 +236,7 @@ module _ (models : List Model) (names : NetNames) (known : AreNamesOf models nam
       rw (no_signal text e, test) refl
 
   -- a text that is no signal and has a slash names what the text behind it names in the subcircuit before it
-  behind : (depth : ℕ) (text : List ℕ) (slash : ℕ) → number_named (map (λ set. set.keys) names.signals.items) names.rows.items names.numbers.items place_of text ≡ None → position is_slash text ≡ Some slash → option_and_then (λ number. named_in models depth (number ∷ path) (drop (suc slash) text)) (number_below (length (had_by use_lines (model_at models path))) (take slash text)) ≡ named_in models (suc depth) path text
+  behind : (depth : ℕ) (text : List ℕ) (slash : ℕ) → number_named names place_of text ≡ None → position is_slash text ≡ Some slash → option_and_then (λ number. named_in models depth (number ∷ path) (drop (suc slash) text)) (number_below (length (had_by use_lines (model_at models path))) (take slash text)) ≡ named_in models (suc depth) path text
   behind depth text slash e is =
       let at : slash ≡ length (before is_slash text) = ap (λ o. unwrap_or o (length text)) (sym is) ∙ place is_slash text in
       let head : take slash text ≡ before is_slash text = ap (λ o. take (unwrap_or o (length text)) text) (sym is) ∙ front is_slash text in
@@ -256,7 +254,7 @@ module _ (models : List Model) (names : NetNames) (known : AreNamesOf models nam
           by false e = refl
 
   -- no row stands below
-  pub no_row_below : (depth : ℕ) (text : List ℕ) (slash : ℕ) → 0 < depth → number_named (map (λ set. set.keys) names.signals.items) names.rows.items names.numbers.items place_of text ≡ None → position is_slash text ≡ Some slash → row_below names.uses.items names.rows.items names.links.keys place_of (take slash text) ≡ None → None ≡ named_in models depth path text
+  pub no_row_below : (depth : ℕ) (text : List ℕ) (slash : ℕ) → 0 < depth → number_named names place_of text ≡ None → position is_slash text ≡ Some slash → row_below names place_of (take slash text) ≡ None → None ≡ named_in models depth path text
   no_row_below zero text slash some e is none = absurd (omega (arith, some))
   no_row_below (suc depth) text slash some e is none = by (number_below (length (had_by use_lines (model_at models path))) (take slash text)) (sym (row_is (take slash text)) ∙ none) ∙ behind depth text slash e is
     where
@@ -269,22 +267,78 @@ module _ (models : List Model) (names : NetNames) (known : AreNamesOf models nam
           no_model (Some m) e = absurd (missed (bytes_eq (number ∷ path)) (number ∷ path) ((bytes_eq-Decides (number ∷ path) (number ∷ path)).1 refl) (instances models) 0 (met models known.shallow (number ∷ path) m e) (sym (by_steps (bytes_eq (number ∷ path)) (instances models)) ∙ h))
 
   -- a row stands below
-  pub row_found : (depth : ℕ) (text : List ℕ) (slash lower : ℕ) (result : Option ℕ) → 0 < depth → number_named (map (λ set. set.keys) names.signals.items) names.rows.items names.numbers.items place_of text ≡ None → position is_slash text ≡ Some slash → row_below names.uses.items names.rows.items names.links.keys place_of (take slash text) ≡ Some lower →
-      ((path : List ℕ) → slice_get (instances models) lower ≡ Some path → result ≡ named_in models (depth - 1) path (take (length text - (slash + 1)) (drop (slash + 1) text))) → result ≡ named_in models depth path text
-  row_found zero text slash lower result some e is at then = absurd (omega (arith, some))
-  row_found (suc depth) text slash lower result some e is at then = by (number_below (length (had_by use_lines (model_at models path))) (take slash text)) (sym (row_is (take slash text)) ∙ at) ∙ behind depth text slash e is
+  pub row_found : (depth : ℕ) (text : List ℕ) (slash lower : ℕ) (result : Option ℕ) → number_named names place_of text ≡ None → position is_slash text ≡ Some slash → row_below names place_of (take slash text) ≡ Some lower →
+      ((path : List ℕ) → slice_get (instances models) lower ≡ Some path → result ≡ named_in models depth path (drop (suc slash) text)) → result ≡ named_in models (suc depth) path text
+  row_found depth text slash lower result e is at then = by (number_below (length (had_by use_lines (model_at models path))) (take slash text)) (sym (row_is (take slash text)) ∙ at) ∙ behind depth text slash e is
     where
-      next : slash + 1 ≡ suc slash
-      next = omega arith
-
-      left : suc depth - 1 ≡ depth
-      left = omega arith
-
       by : (o : Option ℕ) → option_and_then (λ number. position (bytes_eq (number ∷ path)) (instances models)) o ≡ Some lower → result ≡ option_and_then (λ number. named_in models depth (number ∷ path) (drop (suc slash) text)) o
       by None h = absurd (cc)
-      by (Some number) h = then (number ∷ path) (found_path (bytes_eq (number ∷ path)) (number ∷ path) (λ y same. (bytes_eq-Decides (number ∷ path) y).0 same) (instances models) lower h) ∙ ap (λ n. named_in models n (number ∷ path) (take (length text - (slash + 1)) (drop (slash + 1) text))) left ∙ ap (λ l. named_in models depth (number ∷ path) l) (take_rest text (slash + 1)) ∙ ap (λ n. named_in models depth (number ∷ path) (drop n text)) next
+      by (Some number) h = then (number ∷ path) (found_path (bytes_eq (number ∷ path)) (number ∷ path) (λ y same. (bytes_eq-Decides (number ∷ path) y).0 same) (instances models) lower h)
 
 -- the first instance is the top
 pub first_path : (models : List Model) → 0 < length models → slice_get (instances models) 0 ≡ Some []
 first_path [] some = absurd (omega (arith, some))
 first_path (_ ∷ models) some = refl
+
+-- what texts name in the instances in rows is what they name in those instances, with so many levels left
+abbrev AreResolved : List Model → NetNames → ℕ → Type 0
+AreResolved models names depth = (lower : ℕ) (its_path behind : List ℕ) → slice_get (instances models) lower ≡ Some its_path → named_from names depth lower behind ≡ named_in models depth its_path behind
+
+-- so they are where these are the names of the hierarchy
+resolved : (models : List Model) (names : NetNames) → AreNamesOf models names → (depth place_of : ℕ) (path text : List ℕ) → slice_get (instances models) place_of ≡ Some path → named_from names depth place_of text ≡ named_in models depth path text
+resolved models names known zero place_of path text its = refl
+resolved models names known (suc depth) place_of path text its = signal (λ lower its_path behind at. resolved models names known depth lower its_path behind at) (number_named names place_of text) refl
+  where
+    row : AreResolved models names depth → number_named names place_of text ≡ None → (slash : ℕ) → position is_slash text ≡ Some slash → (o : Option ℕ) → row_below names place_of (take slash text) ≡ o →
+        option_and_then (λ lower. named_from names depth lower (drop (suc slash) text)) o ≡ named_in models (suc depth) path text
+    row again none slash is None at = no_row_below models names known place_of path its (suc depth) text slash (omega arith) none is at
+    row again none slash is (Some lower) at = row_found models names known place_of path its depth text slash lower (named_from names depth lower (drop (suc slash) text)) none is at (λ its_path here. again lower its_path (drop (suc slash) text) here)
+
+    slashed : AreResolved models names depth → number_named names place_of text ≡ None → (o : Option ℕ) → position is_slash text ≡ o →
+        option_and_then (λ slash. option_and_then (λ lower. named_from names depth lower (drop (suc slash) text)) (row_below names place_of (take slash text))) o ≡ named_in models (suc depth) path text
+    slashed again none None is = no_slash models names known place_of path its (suc depth) text (omega arith) none is
+    slashed again none (Some slash) is = row again none slash is (row_below names place_of (take slash text)) refl
+
+    signal : AreResolved models names depth → (o : Option ℕ) → number_named names place_of text ≡ o →
+        option_or o (option_and_then (λ slash. option_and_then (λ lower. named_from names depth lower (drop (suc slash) text)) (row_below names place_of (take slash text))) (position is_slash text)) ≡ named_in models (suc depth) path text
+    signal again None e = slashed again e (position is_slash text) refl
+    signal again (Some number) e = signal_named models names known place_of path its (suc depth) text number (omega arith) e
+
+-- by the parts of the names, a text names what it names in the hierarchy
+pub names_are_resolved : NamesAreResolved
+unfolding named_by
+names_are_resolved models names known text = resolved models names known 65 0 [] text (first_path models known.some)
+
+-- what texts name in an instance below one is the number of a net
+abbrev AreLow : List Model → ℕ → List ℕ → ℕ → Type 0
+AreLow models depth path n = (number : ℕ) (behind : List ℕ) → named_in models depth (number ∷ path) behind ≡ Some n → n < length (nets models)
+
+-- what a text names in an instance is the number of a net, where the levels left and those of the path are at most 65
+in_range : (models : List Model) (depth : ℕ) (path text : List ℕ) (n : ℕ) → depth + length path ≤ 65 → named_in models depth path text ≡ Some n → n < length (nets models)
+in_range models zero path text n short e = absurd (cc)
+in_range models (suc depth) path text n short e = signal (λ number behind is. in_range models depth (number ∷ path) behind n (omega (arith, short)) is) (is_one_of (had_by signals (model_at models path)) text) refl e
+  where
+    net : (o : Option Model) → model_at models path ≡ o → is_one_of (had_by signals o) text ≡ true → number_at models path text < length (nets models)
+    net None at is = absurd (cc)
+    net (Some model) at is =
+        let p = home models path text in
+        found (λ net. is_same_signal p net) p (signal_itself p) (λ net same. signal_same p net same) (nets models) (short_home_is_net models path model text (omega (arith, short)) at (any_in text (signals model) is))
+
+    same : (a b : ℕ) → Some a ≡ Some b → a ≡ b
+    same a b h = cc
+
+    behind : AreLow models depth path n → (o : Option ℕ) → option_and_then (λ number. named_in models depth (number ∷ path) (drop (suc (length (before is_slash text))) text)) o ≡ Some n → n < length (nets models)
+    behind again None h = absurd (cc)
+    behind again (Some number) h = again number (drop (suc (length (before is_slash text))) text) h
+
+    slash : AreLow models depth path n → (b : Bool) → cond b None (option_and_then (λ number. named_in models depth (number ∷ path) (drop (suc (length (before is_slash text))) text)) (number_below (length (had_by use_lines (model_at models path))) (before is_slash text))) ≡ Some n → n < length (nets models)
+    slash again true h = absurd (cc)
+    slash again false h = behind again (number_below (length (had_by use_lines (model_at models path))) (before is_slash text)) h
+
+    signal : AreLow models depth path n → (b : Bool) → is_one_of (had_by signals (model_at models path)) text ≡ b → cond b (Some (number_at models path text)) (cond (length (before is_slash text) == length text) None (option_and_then (λ number. named_in models depth (number ∷ path) (drop (suc (length (before is_slash text))) text)) (number_below (length (had_by use_lines (model_at models path))) (before is_slash text)))) ≡ Some n → n < length (nets models)
+    signal again true is h = subst (λ k. k < length (nets models)) (same (number_at models path text) n h) (net (model_at models path) refl is)
+    signal again false is h = slash again (length (before is_slash text) == length text) h
+
+-- what a text names is the number of a net
+pub named_in_range : NamedInRange
+named_in_range models text n e = in_range models 65 [] text n (omega arith) e

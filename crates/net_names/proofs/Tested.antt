@@ -1,5 +1,5 @@
 -- For tests. What a hierarchy without a fault is.
-use Rattle.std.proofs.Common.{◌≡◌, ◌<◌, ◌≤◌, ℕ, List, Some, length, arith, refl, inl}
+use Rattle.std.proofs.Common.{◌<◌, ◌≤◌, ℕ, List, length, arith, refl, inl}
 use Rattle.blif_syntax.specs.declared.models.Model.{Model}
 use Rattle.hierarchy.specs.declared.fault.NetFault.TheVariants.{TooDeep, TooManyNodes}
 use Rattle.hierarchy.specs.Faults.{HasFaultBeforeInstances, HasUnknownModel, IsFree}

@@ -1,6 +1,7 @@
 //! The names of a flat net: what its nets are called, and which net a text names.
 #![tactic(auto)]
 
+pub mod laws;
 pub mod names;
 mod number;
 #[cfg(test)]

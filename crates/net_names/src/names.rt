@@ -1,15 +1,14 @@
 //! What the nets of a hierarchy are called, and which net a text names; begin with `NetNames`.
 
-ghost use Rattle.std.specs.Prelude.{◌≡◌, ◌<◌, ℕ, List, Some, IfOk, length, map, option_map, slice_get};
+ghost use Rattle.std.specs.Prelude.{◌≡◌, ◌<◌, List, Some, IfOk, length, map, option_map, slice_get};
 ghost use Rattle.blif_syntax.specs.declared.models.Model.{Model};
 ghost use Rattle.hierarchy.specs.Instances.{instances};
 ghost use Rattle.hierarchy.specs.Lines.{signals, top, use_lines};
-ghost use Rattle.hierarchy.specs.Names.{named_in, net_named, own_name};
+ghost use Rattle.hierarchy.specs.Names.{net_named, own_name};
 ghost use Rattle.hierarchy.specs.Nets.{nets};
 ghost use Rattle.hierarchy.specs.Sizes.{IsShallow};
 ghost use Rattle.instances.specs.Numbers.{AreRows, numbers_in};
-ghost use Rattle.net_names.specs.Names.{AreNamesOf, link_of};
-ghost use Rattle.net_names.specs.private.Named.{number_named, row_below};
+ghost use Rattle.net_names.specs.Names.{AreNamesOf, link_of, named_by, named_from, number_named, row_below};
 
 use crate::number::number_below;
 use crate::text::{place_of, place_of_slash};
@@ -19,7 +18,8 @@ use instances::{Numbered, Row};
 use std::alloc::{AllocError, Global};
 use ste_base::{Items, Name, NodeId};
 
-/// What leads to an instance: the row of the instance above it, none for the top, and its number there.
+/// What leads to an instance: the row of the instance above it, none for the top, and its number
+/// there.
 #[derive(Clone, Copy, Debug, PartialEq, Eq, Hash)]
 pub struct Link {
     pub above: Option<usize>,
@@ -88,8 +88,8 @@ fn all_links(alloc: Global, rows: &[Row]) -> Result<IndexSet<Link>, AllocError>
 const LEVELS: u32 = 65;
 
 impl NetNames {
-    /// The names of the nets of a hierarchy that is not too deep: of its models, `names`, the signals of each, its instances as rows, and
-    /// the numbers and own names of its nets.
+    /// The names of the nets of a hierarchy that is not too deep: of its models, `names`, the
+    /// signals of each, its instances as rows, and the numbers and own names of its nets.
     pub fn new(
         alloc: Global,
         models: &[blif_syntax::Model],
@@ -142,10 +142,10 @@ impl NetNames {
         &self.own.as_slice()[id.0 as usize]
     }
 
-    /// The number of the net of a signal of the instance in a row; None where the text is no signal of it.
+    /// The number of the net of a signal of the instance in a row; None where the text is no signal
+    /// of it.
     fn number_named(&self, place: usize, text: &[u8]) -> Option<u32>
-        ensures { result ≡ number_named (map (λ set. set.keys) self.now.signals.items) self.now.rows.items
-            self.now.numbers.items place text.now }
+        ensures { result ≡ number_named self.now place text.now }
     {
         let row = self.rows.get(place)?;
         let signals = self.signals.get(row.model)?;
@@ -154,10 +154,10 @@ impl NetNames {
         numbers.as_slice().get(signal).copied()
     }
 
-    /// The row of the subcircuit that a text counts in the instance in a row; None where it counts none.
+    /// The row of the subcircuit that a text counts in the instance in a row; None where it counts
+    /// none.
     fn row_below(&self, place: usize, text: &[u8]) -> Option<usize>
-        ensures { result ≡ row_below self.now.uses.items self.now.rows.items self.now.links.keys place
-            text.now }
+        ensures { result ≡ row_below self.now place text.now }
     {
         let row = self.rows.get(place)?;
         let uses = self.uses.get(row.model)?;
@@ -170,9 +170,7 @@ impl NetNames {
 
     /// The number of the net that a text names in the instance in a row, with so many levels left.
     fn named_in(&self, depth: u32, place: usize, text: &[u8]) -> Option<u32>
-        ensures { (models : List Model) → AreNamesOf models self.now →
-            (path : List ℕ) → slice_get (instances models) place ≡ Some path →
-            result ≡ named_in models depth path text.now }
+        ensures { result ≡ named_from self.now depth place text.now }
     {
         if depth == 0 {
             return None;
@@ -185,11 +183,13 @@ impl NetNames {
         self.named_in(depth - 1, below, &text[slash + 1..])
     }
 
-    /// The net that a text names, from the top: in an instance, a text that is a signal of its model names that signal's net;
-    /// another text with a slash names what the text behind it names in the subcircuit that the number before it counts. It
-    /// takes no memory, and a few look-ups by name a level.
+    /// The net that a text names, from the top: in an instance, a text that is a signal of its
+    /// model names that signal's net; another text with a slash names what the text behind it names
+    /// in the subcircuit that the number before it counts. It takes no memory, and a few look-ups
+    /// by name a level.
     pub fn resolve(&self, text: &[u8]) -> Option<NodeId>
-        ensures { (models : List Model) → AreNamesOf models self.now →
+        ensures same { option_map (λ id. id.0) result ≡ named_by self.now text.now }
+        ensures known { (models : List Model) → AreNamesOf models self.now →
             option_map (λ id. id.0) result ≡ net_named models text.now }
     {
         let number = self.named_in(LEVELS, 0, text)?;

@@ -12,7 +12,8 @@ fn is_padded(text: &[u8]) -> bool
     text.len() > 1 && text[0] == b'0'
 }
 
-/// The number below `count` that a text is, in decimal digits without leading zeros. It takes no memory.
+/// The number below `count` that a text is, in decimal digits without leading zeros. It takes no
+/// memory.
 pub(crate) fn number_below(count: usize, text: &[u8]) -> Option<usize>
     ensures { result ≡ number_below count text.now }
 {

@@ -17,7 +17,8 @@ use std::alloc::{AllocError, Global};
 use std::test::Fail;
 use ste_base::{Name, NodeId};
 
-/// Two instances of a model with two of another below each; the top has signals with slashes in them.
+/// Two instances of a model with two of another below each; the top has signals with slashes in
+/// them.
 const NESTED: &[u8] = b".model top\n.inputs a 0/b 0/0/q 7/x\n.outputs y\n\
       .subckt mid p=a r=m\n.subckt mid p=m r=y\n.end\n\
       .model mid\n.inputs p\n.outputs r s/t\n.subckt leaf i=p o=b\n.subckt leaf i=b o=r\n.end\n\
@@ -107,7 +108,8 @@ fn all_signals(alloc: Global, models: &[Model]) -> Result<Vec<IndexSet<Name>>, A
     Ok(sets)
 }
 
-/// The names of the nets of a hierarchy without a fault that can be told before any instance is made.
+/// The names of the nets of a hierarchy without a fault that can be told before any instance is
+/// made.
 fn names_behind(alloc: Global, models: &[Model]) -> Result<NetNames, NetFault>
     requires some { 0 < length models.now }
     requires free { IsFree (HasFaultBeforeInstances models.now) }

@@ -3,10 +3,10 @@ use Rattle.std.proofs.Common.{◌≡◌, ◌<◌, ◌≤◌, ℕ, List, [], ◌�
 use Rattle.std.specs.Prelude.{IsSomeAnd}
 use Rattle.std.specs.FinMap.{get}
 use Rattle.ste_program.specs.Answer.{WhyUnprepared}
-use Rattle.ste_program.specs.Causes.{Rose}
+use Rattle.ste_io.specs.Causes.{Rose}
 use Rattle.ste_program.specs.Command.{Command}
 use Rattle.ste_program.specs.Order.{AllSilent, stages_before}
-use Rattle.ste_program.specs.Outside.{FilesState, IsFetched, IsTooLarge, StandsAt, Store, asked_for, with_name, with_names}
+use Rattle.ste_io.specs.Outside.{FilesState, IsFetched, IsTooLarge, StandsAt, Store, asked_for, with_name, with_names}
 use Rattle.ste_program.specs.Report.{greatest}
 use Rattle.ste_program.specs.private.Texts.{WhyNoFile}
 use Rattle.ste_program.specs.declared.refusal.File.{File}
@@ -85,6 +85,10 @@ second_of_two command before between after text refusal.OutOfMemory (stands, sma
     (2, why ∙ (ap (λ (s : FilesState). asked_for s command.tasks) first ∙ asked_two before command.net command.tasks))
 second_of_two command before between after text refusal.OutOfMemory (stands, small, first) (inr why) = (1, why ∙ (first ∙ asked_one before command.net))
 second_of_two command before between after text (refusal.Netlist fault) fetched why = absurd why
+second_of_two command before between after text (refusal.Tasks fault) fetched why = absurd why
+second_of_two command before between after text (refusal.Hierarchy fault) fetched why = absurd why
+second_of_two command before between after text (refusal.Loop name) fetched why = absurd why
+second_of_two command before between after text (refusal.Binding fault) fetched why = absurd why
 
 -- the tasks' file is not at hand, behind the netlist's, which is
 pub second_file : (command inside : Command) (before between after : FilesState) (text : List ℕ) (found : Refusal) → inside ≡ command →

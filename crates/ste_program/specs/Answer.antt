@@ -1,11 +1,11 @@
 -- Meaning. How a run of the program ends, from the states of the files (`files`), the output (`out`) and the error sink (`err`)
 -- before it, and after it (`files'`, `out'`, `err'`). Meaning.
 use Rattle.std.specs.Prelude.{◌≡◌, ◌<◌, ◌≤◌, ◌⊎◌, ℕ, Bool, List, length, take, Option, Some}
-use Rattle.ste_program.specs.Causes.{Rose}
+use Rattle.ste_io.specs.Causes.{Rose}
 use Rattle.ste_program.specs.Command.{Command, files_of, files_up_to}
 use Rattle.ste_program.specs.Message.{cannot_write, message_of, out_of_memory}
 use Rattle.ste_program.specs.Order.{AllSilent, IsFirst, refusals, stages_before}
-use Rattle.ste_program.specs.Outside.{FilesState, SinkState, Store, WriteFailed, took, with_names}
+use Rattle.ste_io.specs.Outside.{FilesState, SinkState, Store, WriteFailed, took, with_names}
 use Rattle.ste_program.specs.Report.{IsReport}
 use Rattle.ste_program.specs.declared.refusal.File.{File}
 use Rattle.ste_program.specs.declared.refusal.Refusal.{Refusal}

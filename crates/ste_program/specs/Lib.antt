@@ -1,12 +1,10 @@
-pub mod Causes
-pub mod Outside
-pub mod InMemory
 pub mod Command
 pub mod Refused
 pub mod Message
 pub mod Netlist
-pub mod Words
-pub mod Task
+pub mod TaskFile
+pub mod Reading
+pub mod Holds
 pub mod Report
 pub mod Order
 pub mod Answer

@@ -3,12 +3,17 @@
 use Rattle.std.specs.Prelude.{ℕ, List, codes, ◌++◌, Option}
 use Rattle.std.specs.Fmt.{decimal}
 use Rattle.blif_syntax.specs.declared.fault.BlifFault.{BlifFault}
-use Rattle.blif_syntax.specs.declared.fault.BlifFault.TheVariants.{BadLine, UnknownWord, LeftOut, NoModel}
-use Rattle.blif_syntax.specs.declared.fault.BlifFault.TheVariants as fault
+use Rattle.blif_syntax.specs.declared.fault.BlifFault.TheVariants as blif
+use Rattle.hierarchy.specs.declared.fault.NetFault.{NetFault}
+use Rattle.hierarchy.specs.declared.fault.NetFault.TheVariants as net
+use Rattle.assert_syntax.specs.declared.fault.TaskFault.{TaskFault}
+use Rattle.assert_syntax.specs.declared.fault.TaskFault.TheVariants as task
+use Rattle.task_binding.specs.declared.fault.BindFault.{BindFault}
+use Rattle.task_binding.specs.declared.fault.BindFault.TheVariants as bind
 use Rattle.ste_program.specs.Command.{Command, file_name}
 use Rattle.ste_program.specs.declared.refusal.File.TheVariants as file
 use Rattle.ste_program.specs.declared.refusal.Refusal.{Refusal}
-use Rattle.ste_program.specs.declared.refusal.Refusal.TheVariants.{NotYet, CannotRead, Netlist, OutOfMemory}
+use Rattle.ste_program.specs.declared.refusal.Refusal.TheVariants.{NotYet, CannotRead, Netlist, Tasks, Hierarchy, Loop, Binding, OutOfMemory}
 
 -- want of memory
 abbrev pub out_of_memory : List ℕ
@@ -28,15 +33,49 @@ line_message name line text = codes "stework: " ++ name ++ codes ":" ++ decimal 
 
 -- the message on a netlist's text that is refused
 abbrev pub netlist_message : List ℕ → BlifFault → List ℕ
-netlist_message name (BadLine line) = line_message name line (codes "bad line")
-netlist_message name (UnknownWord line word) = line_message name line (codes "unknown word " ++ word)
-netlist_message name (LeftOut line word) = line_message name line (codes "left out: " ++ word)
-netlist_message name NoModel = file_message name (codes "no model")
-netlist_message name fault.OutOfMemory = out_of_memory
+netlist_message name (blif.BadLine line) = line_message name line (codes "bad line")
+netlist_message name (blif.UnknownWord line word) = line_message name line (codes "unknown word " ++ word)
+netlist_message name (blif.LeftOut line word) = line_message name line (codes "left out: " ++ word)
+netlist_message name blif.NoModel = file_message name (codes "no model")
+netlist_message name blif.OutOfMemory = out_of_memory
+
+-- the message on a task file's text that is refused
+abbrev pub tasks_message : List ℕ → TaskFault → List ℕ
+tasks_message name (task.BadLine line) = line_message name line (codes "bad line")
+tasks_message name (task.TooDeep line) = line_message name line (codes "too deep")
+tasks_message name (task.DoubleName line word) = line_message name line (codes "double name " ++ word)
+tasks_message name (task.UnknownVar line word) = line_message name line (codes "unknown variable " ++ word)
+tasks_message name (task.TooMany line) = line_message name line (codes "too many")
+tasks_message name task.NoTask = file_message name (codes "no task")
+tasks_message name task.OutOfMemory = out_of_memory
+
+-- the message on a hierarchy that is refused
+abbrev pub hierarchy_message : List ℕ → NetFault → List ℕ
+hierarchy_message name (net.DoubleModel line word) = line_message name line (codes "double model " ++ word)
+hierarchy_message name (net.UnknownModel line word) = line_message name line (codes "unknown model " ++ word)
+hierarchy_message name (net.Recursive line word) = line_message name line (codes "recursive model " ++ word)
+hierarchy_message name (net.BadFormal line word) = line_message name line (codes "bad formal " ++ word)
+hierarchy_message name (net.MissingFormal line word) = line_message name line (codes "missing formal " ++ word)
+hierarchy_message name (net.GateTooWide line) = line_message name line (codes "cover too wide")
+hierarchy_message name net.TooDeep = file_message name (codes "hierarchy too deep")
+hierarchy_message name net.TooManyNodes = file_message name (codes "too many nodes")
+hierarchy_message name (net.DrivenTwice line word) = line_message name line (codes "driven twice: " ++ word)
+hierarchy_message name (net.MixedClocks line word) = line_message name line (codes "mixed clocks at " ++ word)
+hierarchy_message name net.OutOfMemory = out_of_memory
+
+-- the message on tasks that are not bound to a netlist
+abbrev pub binding_message : List ℕ → BindFault → List ℕ
+binding_message name (bind.UnknownNode line word) = line_message name line (codes "unknown node " ++ word)
+binding_message name (bind.TooLarge line) = line_message name line (codes "task too large")
+binding_message name bind.OutOfMemory = out_of_memory
 
 -- the message on a refusal
 abbrev pub message_of : Option Command → Refusal → List ℕ
 message_of command NotYet = codes "stework: not yet\n"
 message_of command (CannotRead which) = codes "stework: cannot read " ++ file_name command which ++ codes "\n"
 message_of command (Netlist found) = netlist_message (file_name command file.Net) found
+message_of command (Tasks found) = tasks_message (file_name command file.Tasks) found
+message_of command (Hierarchy found) = hierarchy_message (file_name command file.Net) found
+message_of command (Loop name) = file_message (file_name command file.Net) (codes "loop at " ++ name)
+message_of command (Binding found) = binding_message (file_name command file.Tasks) found
 message_of command OutOfMemory = out_of_memory

@@ -1,5 +1,5 @@
--- Meaning. What the text of a netlist spells, and why it spells nothing.
-use Rattle.std.specs.Prelude.{◌≡◌, ◌≢◌, ◌<◌, [], ℕ, List, length, None, Err}
+-- Meaning. What the text of a netlist spells, and why it spells nothing; and the loop for which a netlist is refused.
+use Rattle.std.specs.Prelude.{◌≡◌, ◌≢◌, ◌<◌, [], ℕ, List, length, map, None, Some, Err, slice_get}
 use Rattle.blif_lines.specs.Lines.{lines_of}
 use Rattle.blif_syntax.specs.Answer.{IsAnswer, entries_of}
 use Rattle.blif_syntax.specs.Places.{first_fault}
@@ -8,6 +8,11 @@ use Rattle.blif_syntax.specs.declared.fault.BlifFault.{BlifFault}
 use Rattle.blif_syntax.specs.declared.fault.BlifFault.TheVariants.{OutOfMemory}
 use Rattle.blif_syntax.specs.declared.form.Entry.{Entry}
 use Rattle.blif_syntax.specs.declared.models.Model.{Model}
+use Rattle.hierarchy.specs.Names.{own_name}
+use Rattle.hierarchy.specs.Nets.{nets}
+use Rattle.net_core.specs.Loop.{IsLeastUnsettled}
+use Rattle.net_core.specs.declared.raw.RawNet.{RawNet}
+use Rattle.flat_net.specs.Flat.{IsFlat}
 
 -- the logical lines of a netlist's text, with their forms
 abbrev pub net_lines : List ℕ → List Entry
@@ -22,3 +27,11 @@ pub record IsNetlist (text : List ℕ) (models : List Model) : Type 0 where
 -- the text is refused for this fault: that of its first faulty line, or that it has no model
 abbrev pub IsNetlistFault : List ℕ → BlifFault → Type 0
 IsNetlistFault text fault = (fault ≢ OutOfMemory) × IsAnswer (net_lines text) (Err fault)
+
+-- gates of the flat net drive one another in a loop: this is the own name of the least net that does not settle
+pub record IsLoop (models : List Model) (name : List ℕ) : Type 0 where
+  pub net : RawNet
+  pub flat : IsFlat models net
+  pub id : ℕ
+  pub stuck : IsLeastUnsettled net id
+  pub named : slice_get (map own_name (nets models)) id ≡ Some name

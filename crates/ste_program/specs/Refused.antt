@@ -1,10 +1,31 @@
 -- Meaning. The refusal that goes with a layer's own fault.
 use Rattle.blif_syntax.specs.declared.fault.BlifFault.{BlifFault}
-use Rattle.blif_syntax.specs.declared.fault.BlifFault.TheVariants as fault
+use Rattle.blif_syntax.specs.declared.fault.BlifFault.TheVariants as blif
+use Rattle.hierarchy.specs.declared.fault.NetFault.{NetFault}
+use Rattle.hierarchy.specs.declared.fault.NetFault.TheVariants as net
+use Rattle.assert_syntax.specs.declared.fault.TaskFault.{TaskFault}
+use Rattle.assert_syntax.specs.declared.fault.TaskFault.TheVariants as task
+use Rattle.task_binding.specs.declared.fault.BindFault.{BindFault}
+use Rattle.task_binding.specs.declared.fault.BindFault.TheVariants as bind
 use Rattle.ste_program.specs.declared.refusal.Refusal.{Refusal}
 use Rattle.ste_program.specs.declared.refusal.Refusal.TheVariants as refusal
 
 -- a fault of a netlist's text
-abbrev pub refusal_of : BlifFault → Refusal
-refusal_of fault.OutOfMemory = refusal.OutOfMemory
-refusal_of found = refusal.Netlist found
+abbrev pub netlist_refused : BlifFault → Refusal
+netlist_refused blif.OutOfMemory = refusal.OutOfMemory
+netlist_refused found = refusal.Netlist found
+
+-- a fault of a task file's text
+abbrev pub tasks_refused : TaskFault → Refusal
+tasks_refused task.OutOfMemory = refusal.OutOfMemory
+tasks_refused found = refusal.Tasks found
+
+-- a fault of a hierarchy
+abbrev pub hierarchy_refused : NetFault → Refusal
+hierarchy_refused net.OutOfMemory = refusal.OutOfMemory
+hierarchy_refused found = refusal.Hierarchy found
+
+-- a fault of nodes and sizes
+abbrev pub binding_refused : BindFault → Refusal
+binding_refused bind.OutOfMemory = refusal.OutOfMemory
+binding_refused found = refusal.Binding found

@@ -1,8 +1,9 @@
 //! Laws over the definitions alone, each the contract of a function that does nothing.
 ghost use Rattle.ste_program.specs.Order.{OneRefusal, PreparedIsNotRefused};
-ghost use Rattle.ste_program.specs.Report.{OneReading};
+ghost use Rattle.ste_program.specs.Reading.{OneReading};
+ghost use Rattle.ste_program.specs.Report.{OneReport};
 
-/// Two texts have one reading at most.
+/// Two texts have one reading at most, but for the numbers of covers and where expressions lie in memory.
 pub fn one_reading()
     ensures { OneReading }
 {}
@@ -15,4 +16,9 @@ pub fn one_refusal()
 /// What is prepared is not refused.
 pub fn prepared_is_not_refused()
     ensures { PreparedIsNotRefused }
+{}
+
+/// On what the files hold, where they tell it, a command has one report at most.
+pub fn one_report()
+    ensures { OneReport }
 {}

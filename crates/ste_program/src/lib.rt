@@ -3,13 +3,9 @@
 
 mod check;
 pub mod command;
-pub mod io;
 pub mod laws;
-mod lines;
 mod message;
 pub mod prepare;
 pub mod refusal;
 pub mod run;
-pub mod task;
 mod texts;
-mod words;

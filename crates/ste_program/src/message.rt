@@ -2,13 +2,16 @@
 ghost use Rattle.std.specs.Prelude.{◌≡◌, ◌++◌, codes, IfOk};
 ghost use Rattle.std.specs.Fmt.{decimal};
 ghost use Rattle.ste_program.specs.Command.{file_name};
-ghost use Rattle.ste_program.specs.Message.{file_message, line_message, message_of, netlist_message};
+ghost use Rattle.ste_program.specs.Message.{binding_message, file_message, hierarchy_message, line_message, message_of, netlist_message, out_of_memory, tasks_message};
 
 use crate::command::Command;
 use crate::refusal::{File, Refusal};
+use assert_syntax::TaskFault;
 use blif_syntax::BlifFault;
+use hierarchy::NetFault;
 use std::alloc::{AllocError, Global};
 use ste_base::Items;
+use task_binding::BindFault;
 
 /// A message on a file.
 fn on_file(alloc: Global, name: &str, text: &[u8]) -> Result<Items<u8>, AllocError>
@@ -52,6 +55,13 @@ fn on_word(
     on_line(alloc, name, line, &whole)
 }
 
+/// The message on want of memory.
+fn out_of_memory(alloc: Global) -> Result<Items<u8>, AllocError>
+    ensures { IfOk result (λ message. message ≡ out_of_memory) }
+{
+    Ok(Items::from(b"stework: out of memory\n".to_vec(alloc)?))
+}
+
 /// The message on a netlist's text that is refused.
 fn netlist_message(alloc: Global, name: &str, fault: &BlifFault) -> Result<Items<u8>, AllocError>
     ensures { IfOk result (λ message. message ≡ netlist_message name.now fault.now) }
@@ -65,7 +75,81 @@ fn netlist_message(alloc: Global, name: &str, fault: &BlifFault) -> Result<Items
             on_word(alloc, name, *line, b"left out: ", word.bytes())
         }
         BlifFault::NoModel => on_file(alloc, name, b"no model"),
-        BlifFault::OutOfMemory => Ok(Items::from(b"stework: out of memory\n".to_vec(alloc)?)),
+        BlifFault::OutOfMemory => out_of_memory(alloc),
+    }
+}
+
+/// The message on a task file's text that is refused.
+fn tasks_message(alloc: Global, name: &str, fault: &TaskFault) -> Result<Items<u8>, AllocError>
+    ensures { IfOk result (λ message. message ≡ tasks_message name.now fault.now) }
+{
+    match fault {
+        TaskFault::BadLine { line } => on_line(alloc, name, *line, b"bad line"),
+        TaskFault::TooDeep { line } => on_line(alloc, name, *line, b"too deep"),
+        TaskFault::DoubleName { line, name: word } => {
+            on_word(alloc, name, *line, b"double name ", word.bytes())
+        }
+        TaskFault::UnknownVar { line, name: word } => {
+            on_word(alloc, name, *line, b"unknown variable ", word.bytes())
+        }
+        TaskFault::TooMany { line } => on_line(alloc, name, *line, b"too many"),
+        TaskFault::NoTask => on_file(alloc, name, b"no task"),
+        TaskFault::OutOfMemory => out_of_memory(alloc),
+    }
+}
+
+/// The message on a hierarchy that is refused.
+fn hierarchy_message(alloc: Global, name: &str, fault: &NetFault) -> Result<Items<u8>, AllocError>
+    ensures { IfOk result (λ message. message ≡ hierarchy_message name.now fault.now) }
+{
+    match fault {
+        NetFault::DoubleModel { line, name: word } => {
+            on_word(alloc, name, *line, b"double model ", word.bytes())
+        }
+        NetFault::UnknownModel { line, name: word } => {
+            on_word(alloc, name, *line, b"unknown model ", word.bytes())
+        }
+        NetFault::Recursive { line, name: word } => {
+            on_word(alloc, name, *line, b"recursive model ", word.bytes())
+        }
+        NetFault::BadFormal { line, name: word } => {
+            on_word(alloc, name, *line, b"bad formal ", word.bytes())
+        }
+        NetFault::MissingFormal { line, name: word } => {
+            on_word(alloc, name, *line, b"missing formal ", word.bytes())
+        }
+        NetFault::GateTooWide { line } => on_line(alloc, name, *line, b"cover too wide"),
+        NetFault::TooDeep => on_file(alloc, name, b"hierarchy too deep"),
+        NetFault::TooManyNodes => on_file(alloc, name, b"too many nodes"),
+        NetFault::DrivenTwice { line, name: word } => {
+            on_word(alloc, name, *line, b"driven twice: ", word.bytes())
+        }
+        NetFault::MixedClocks { line, name: word } => {
+            on_word(alloc, name, *line, b"mixed clocks at ", word.bytes())
+        }
+        NetFault::OutOfMemory => out_of_memory(alloc),
+    }
+}
+
+/// The message on a loop of gates, which names this net.
+fn loop_message(alloc: Global, name: &str, net: &[u8]) -> Result<Items<u8>, AllocError>
+    ensures { IfOk result (λ message. message ≡ file_message name.now (codes "loop at " ++ net.now)) }
+{
+    let mut text = b"loop at ".to_vec(alloc)?;
+    text.extend_from_slice(net)?;
+    on_file(alloc, name, &text)
+}
+
+/// The message on tasks that are not bound to a netlist.
+fn binding_message(alloc: Global, name: &str, fault: &BindFault) -> Result<Items<u8>, AllocError>
+    ensures { IfOk result (λ message. message ≡ binding_message name.now fault.now) }
+{
+    match fault {
+        BindFault::UnknownNode { line, name: word } => {
+            on_word(alloc, name, *line, b"unknown node ", word.bytes())
+        }
+        BindFault::TooLarge { line } => on_line(alloc, name, *line, b"task too large"),
+        BindFault::OutOfMemory => out_of_memory(alloc),
     }
 }
 
@@ -105,6 +189,10 @@ pub fn message_of(
         Refusal::NotYet => Ok(Items::from(b"stework: not yet\n".to_vec(alloc)?)),
         Refusal::CannotRead(which) => cannot_read(alloc, file_name(command, *which)),
         Refusal::Netlist(fault) => netlist_message(alloc, file_name(command, File::Net), fault),
-        Refusal::OutOfMemory => Ok(Items::from(b"stework: out of memory\n".to_vec(alloc)?)),
+        Refusal::Tasks(fault) => tasks_message(alloc, file_name(command, File::Tasks), fault),
+        Refusal::Hierarchy(fault) => hierarchy_message(alloc, file_name(command, File::Net), fault),
+        Refusal::Loop(net) => loop_message(alloc, file_name(command, File::Net), net.bytes()),
+        Refusal::Binding(fault) => binding_message(alloc, file_name(command, File::Tasks), fault),
+        Refusal::OutOfMemory => out_of_memory(alloc),
     }
 }

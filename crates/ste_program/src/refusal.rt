@@ -1,10 +1,14 @@
 //! Why there is no report: `Refusal`, one variant for each cause.
 ghost use Rattle.std.specs.Prelude.{◌≡◌};
 ghost use Rattle.ste_program.specs.declared.refusal.Refusal.TheVariants as refusal;
-ghost use Rattle.ste_program.specs.Refused.{refusal_of};
+ghost use Rattle.ste_program.specs.Refused.{binding_refused, hierarchy_refused, netlist_refused, tasks_refused};
 
+use assert_syntax::TaskFault;
 use blif_syntax::BlifFault;
-use std::alloc::AllocError;
+use hierarchy::NetFault;
+use std::alloc::{AllocError, AllocFailed};
+use ste_base::Name;
+use task_binding::BindFault;
 
 /// Which file of a check.
 #[derive(Clone, Copy, Debug, PartialEq, Eq)]
@@ -15,25 +19,67 @@ pub enum File {
     Tasks,
 }
 
-/// Why there is no report. Each refusal has one line on the error sink.
+/// Why there is no report. Each refusal has one line on the error sink. The faults that are carried are never want of memory,
+/// which is `OutOfMemory`.
 #[derive(Debug, Drop)]
 pub enum Refusal {
     /// The words, or what the files hold, are not of the forms that are checked so far.
     NotYet,
     /// The file could not be read, or is not there.
     CannotRead(File),
-    /// The netlist's text has a faulty line, or no model; never want of memory, which is `OutOfMemory`.
+    /// The netlist's text has a faulty line, or no model.
     Netlist(BlifFault),
+    /// The tasks' text has a faulty line, or no task.
+    Tasks(TaskFault),
+    /// The netlist has no flat net.
+    Hierarchy(NetFault),
+    /// Gates drive one another in a loop: the own name of the least net that does not settle.
+    Loop(Name),
+    /// A node of the tasks names no net, or the tasks are too large.
+    Binding(BindFault),
     OutOfMemory,
 }
 
 impl From<BlifFault> for Refusal {
-    ghost from_gives = { λ fault found. found ≡ refusal_of fault };
+    ghost from_gives = { λ fault found. found ≡ netlist_refused fault };
 
     fn from(fault: BlifFault) -> Refusal {
         match fault {
             BlifFault::OutOfMemory => Refusal::OutOfMemory,
             fault => Refusal::Netlist(fault),
+        }
+    }
+}
+
+impl From<TaskFault> for Refusal {
+    ghost from_gives = { λ fault found. found ≡ tasks_refused fault };
+
+    fn from(fault: TaskFault) -> Refusal {
+        match fault {
+            TaskFault::OutOfMemory => Refusal::OutOfMemory,
+            fault => Refusal::Tasks(fault),
+        }
+    }
+}
+
+impl From<NetFault> for Refusal {
+    ghost from_gives = { λ fault found. found ≡ hierarchy_refused fault };
+
+    fn from(fault: NetFault) -> Refusal {
+        match fault {
+            NetFault::OutOfMemory => Refusal::OutOfMemory,
+            fault => Refusal::Hierarchy(fault),
+        }
+    }
+}
+
+impl From<BindFault> for Refusal {
+    ghost from_gives = { λ fault found. found ≡ binding_refused fault };
+
+    fn from(fault: BindFault) -> Refusal {
+        match fault {
+            BindFault::OutOfMemory => Refusal::OutOfMemory,
+            fault => Refusal::Binding(fault),
         }
     }
 }

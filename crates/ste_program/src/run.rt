@@ -4,12 +4,12 @@ ghost use Rattle.ste_program.specs.Answer.{BrokeOff, IsDecided, NoneFell, NoneMo
 ghost use Rattle.ste_program.specs.private.Endings.{IsEnded, IsTold};
 ghost use Rattle.ste_program.specs.Command.{command_of, files_of};
 ghost use Rattle.ste_program.specs.Message.{cannot_write};
-ghost use Rattle.ste_program.specs.Outside.{Store, with_names};
+ghost use Rattle.ste_io.specs.Outside.{Store, with_names};
 ghost use Rattle.ste_program.specs.Report.{PassHolds};
 
 use crate::check::{Report, check};
 use crate::command::{Command, command_of};
-use crate::io::{Files, Sink, write_whole};
+use ste_io::{Files, Sink, write_whole};
 use crate::message::message_of;
 use crate::prepare::prepare;
 use crate::refusal::Refusal;

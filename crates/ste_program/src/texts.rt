@@ -2,11 +2,11 @@
 ghost use Rattle.std.specs.Prelude.{◌≡◌, ◌≤◌, Some, length, MatchResult};
 ghost use Rattle.ste_program.specs.Answer.{WhyUnprepared};
 ghost use Rattle.ste_program.specs.Report.{greatest};
-ghost use Rattle.ste_program.specs.Outside.{IsFetched};
+ghost use Rattle.ste_io.specs.Outside.{IsFetched};
 ghost use Rattle.ste_program.specs.private.Texts.{AreTexts, WhyNoFile};
 
 use crate::command::Command;
-use crate::io::{FetchFault, Files};
+use ste_io::{FetchFault, Files};
 use crate::refusal::{File, Refusal};
 use std::alloc::Global;
 

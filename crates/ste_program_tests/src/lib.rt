@@ -3,4 +3,10 @@
 #![tactic(auto)]
 
 #[cfg(test)]
+mod hierarchies;
+#[cfg(test)]
+mod orders;
+#[cfg(test)]
+mod task_files;
+#[cfg(test)]
 mod tests;

@@ -4,14 +4,15 @@ use std::alloc::{AllocError, Global};
 use std::process::Abort;
 use std::test::Fail;
 use ste_base::{NumberFault, read_number};
-use ste_program::io::{MemoryFiles, MemorySink};
+use ste_io::{MemoryFiles, MemorySink};
 use ste_program::run::{Status, run};
 
-const INVERTER: &str = ".model inv\n.inputs a\n.outputs y\n.names a y\n0 1\n.end\n";
+pub const INVERTER: &str = ".model inv\n.inputs a\n.outputs y\n.names a y\n0 1\n.end\n";
 
-const INVERTS: &str = ".vars p\n.ste t1\n.ant a = p from 0 to 1\n.con y = !p from 0 to 1\n.end\n";
+pub const INVERTS: &str =
+    ".vars p\n.ste t1\n.ant a = p from 0 to 1\n.con y = !p from 0 to 1\n.end\n";
 
-const LATCH: &str = ".model l\n.inputs d\n.outputs q\n.latch d q\n.end\n";
+pub const LATCH: &str = ".model l\n.inputs d\n.outputs q\n.latch d q\n.end\n";
 
 const MUX: &str = ".model mux\n.inputs s a b\n.outputs y\n.names s a b y\n01- 1\n1-1 1\n.end\n";
 
@@ -26,7 +27,7 @@ const SHIFT: &str =
 
 const TOGGLE: &str = ".model toggle\n.inputs\n.outputs q\n.names q n\n0 1\n.latch n q\n.end\n";
 
-const NOT_YET: &str = "stework: not yet\n";
+pub const NOT_YET: &str = "stework: not yet\n";
 
 /// The words of a check of the files `n` and `t`.
 fn check_words(alloc: Global) -> Result<Vec<String>, AllocError> {
@@ -46,7 +47,7 @@ fn files(alloc: Global, net: &str, task: &str, failing: &[u64]) -> Result<Memory
 }
 
 /// Runs a check, and compares what it answers and writes.
-fn expect(
+pub fn expect(
     rt: &impl Abort,
     alloc: Global,
     net: &str,
@@ -168,76 +169,6 @@ fn examples_of_gates_and_latches(rt: HostRuntime) -> Result<(), Fail> {
     ] {
         expect(&rt, alloc, net, task, status, out, "")?;
     }
-    Ok(())
-}
-
-#[test]
-fn tasks_that_are_not_read_yet(rt: HostRuntime) -> Result<(), Fail> {
-    let alloc = rt.alloc();
-    for task in [
-        ".ste w\n.con y = 0 from 0 to 21\n.end\n",
-        ".ste w\n.con y = 0 from 2 to 1\n.end\n",
-        ".ste w\n.con z = 0 from 0 to 1\n.end\n",
-        ".ste w\n.con y = p from 0 to 1\n.end\n",
-        ".ste w\n.end",
-        "",
-    ] {
-        expect(&rt, alloc, INVERTER, task, Status::Refused, "", NOT_YET)?;
-    }
-    Ok(())
-}
-
-/// A netlist of so many nets, all of them outputs.
-fn wide_net(alloc: Global, nets: u32) -> Result<String, AllocError> {
-    let mut text = String::new(alloc);
-    text.push_str(".model wide\n.outputs")?;
-    for number in 0..nets {
-        text.push_str(format!(in alloc; " n{number}")?.as_str())?;
-    }
-    text.push_str("\n.end\n")?;
-    Ok(text)
-}
-
-#[test]
-fn netlists_that_are_not_checked_yet(rt: HostRuntime) -> Result<(), Fail> {
-    let alloc = rt.alloc();
-    for net in [
-        ".model m\n.inputs a\n.outputs y\n.names a y\n0 1\n.end\n.model n\n.end\n",
-        ".model m\n.inputs a\n.outputs y\n.names a y\n0 1\n.subckt m a=a\n.end\n",
-        ".model m\n.inputs a\n.outputs y\n.names a y\n0 1\n.names y\n.end\n",
-        ".model m\n.inputs a\n.outputs y\n.names a y\n0 1\n.latch a y\n.end\n",
-        ".model m\n.inputs a y\n.outputs y\n.names a y\n0 1\n.end\n",
-        ".model m\n.inputs a\n.clock y\n.names a y\n0 1\n.end\n",
-        ".model m\n.inputs a\n.latch a y re a 0\n.latch a z fe a 0\n.end\n",
-        ".model m\n.inputs a\n.latch a y re a 0\n.latch a z re y 0\n.end\n",
-        ".model nine\n.inputs a b c d e f g h i\n.outputs y\n.names a b c d e f g h i y\n111111111 1\n.end\n",
-        ".model loops\n.inputs a\n.outputs y\n.names y a y\n11 1\n.end\n",
-        ".model late\n.inputs a\n.outputs y\n.names n y\n1 1\n.names a n\n0 1\n.end\n",
-    ] {
-        let task = ".ste w\n.con y = 0 from 0 to 1\n.end\n";
-        expect(&rt, alloc, net, task, Status::Refused, "", NOT_YET)?;
-    }
-    let task = ".ste w\n.con n0 = 0 from 0 to 1\n.end\n";
-    let few = wide_net(alloc, 200)?;
-    expect(
-        &rt,
-        alloc,
-        few.as_str(),
-        task,
-        Status::NotPassed,
-        "w: weak failure\n",
-        "",
-    )?;
-    let many = wide_net(alloc, 201)?;
-    expect(
-        &rt,
-        alloc,
-        many.as_str(),
-        task,
-        Status::Refused,
-        "",
-        NOT_YET,
-    )?;
     Ok(())
 }
 

@@ -6,7 +6,7 @@ use std::alloc::AllocError;
 use std::env;
 use std::io::ErrorKind;
 use std::process::ExitCode;
-use ste_program::io::{HostFiles, HostSink};
+use ste_io::{HostFiles, HostSink};
 use ste_program::run::{Status, run};
 
 /// The words of the command line, from the program's name on; none where one of them is not UTF-8.

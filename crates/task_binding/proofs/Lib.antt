@@ -1,3 +1,4 @@
+pub mod Alike
 pub mod Bound
 pub mod Large
 pub mod Leading

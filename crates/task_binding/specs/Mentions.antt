@@ -1,6 +1,6 @@
 -- Meaning. The nodes that tasks name, and the first that names no net.
-use Rattle.std.specs.Prelude.{◌≡◌, ◌≤◌, ℕ, ◌++◌, List, map, All, Option, None, IsSome}
-use Rattle.std.specs.List.{Contains, flat_map}
+use Rattle.std.specs.Prelude.{◌≡◌, ◌<◌, ◌≤◌, ℕ, ◌++◌, List, map, take, All, Option, None, Some, IsSome, slice_get}
+use Rattle.std.specs.List.{flat_map}
 use Rattle.assert_syntax.specs.declared.tasks.RawBind.{RawBind}
 use Rattle.assert_syntax.specs.declared.tasks.RawEdge.{RawEdge}
 use Rattle.assert_syntax.specs.declared.tasks.RawQuint.{RawQuint}
@@ -32,8 +32,10 @@ mentions_of tasks = flat_map task_mentions tasks
 abbrev pub AllNamed : (List ℕ → Option ℕ) → List Mention → Type 0
 AllNamed net_of mentions = All (λ mention. IsSome (net_of mention.node)) mentions
 
--- the node on this line names no net, and no node on an earlier line names none
+-- The node on this line names no net, and no node on an earlier line names none; among nodes on one line it is the first.
 pub record IsFirstUnknown (net_of : List ℕ → Option ℕ) (mentions : List Mention) (mention : Mention) : Type 0 where
-  pub there : Contains mentions mention
+  pub place : ℕ
+  pub here : slice_get mentions place ≡ Some mention
   pub unknown : net_of mention.node ≡ None
   pub least : All (λ other. net_of other.node ≡ None → mention.line ≤ other.line) mentions
+  pub first : All (λ other. net_of other.node ≡ None → mention.line < other.line) (take place mentions)

@@ -2,7 +2,9 @@
 
 ghost use Rattle.std.specs.Prelude.{◌≡◌, ℕ, List, Option};
 ghost use Rattle.std.specs.Option.{option_map};
+ghost use Rattle.net_names.specs.Names.{named_by};
 
+use net_names::NetNames;
 use ste_base::NodeId;
 
 /// The names of the nets of a netlist: a text names one net, or none.
@@ -12,4 +14,12 @@ pub trait Resolve {
     /// The net that a text names; None where it names none. It takes no memory.
     fn resolve(&self, text: &[u8]) -> Option<NodeId>
         ensures { option_map (λ id. id.0) result ≡ net_of self.now text.now };
+}
+
+impl Resolve for NetNames {
+    ghost net_of = { named_by };
+
+    fn resolve(&self, text: &[u8]) -> Option<NodeId> {
+        NetNames::resolve(self, text)
+    }
 }

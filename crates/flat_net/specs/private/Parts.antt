@@ -1,7 +1,6 @@
 -- For private functions. What the passes over instances stand on.
 use Rattle.std.specs.Prelude.{◌≡◌, ◌≤◌, ℕ, All, List, length, map}
 use Rattle.std.specs.List.{AllZip}
-use Rattle.net_core.specs.Cover.{IsCover}
 use Rattle.net_core.specs.declared.cover.Cover.{Cover}
 use Rattle.blif_syntax.specs.declared.models.Model.{Model}
 use Rattle.hierarchy.specs.Instances.{instances}
@@ -10,7 +9,7 @@ use Rattle.hierarchy.specs.Names.{own_name}
 use Rattle.hierarchy.specs.Nets.{nets}
 use Rattle.instances.specs.declared.table.Row.{Row}
 use Rattle.instances.specs.Numbers.{AreRows, numbers_in}
-use Rattle.flat_net.specs.private.Passes.{IsFirstCover}
+use Rattle.flat_net.specs.private.Passes.{IsFirstCover, IsNarrow}
 
 -- the signals of each model, the rows of the instances, by row the numbers of signals and of the first cover, the nets' own
 -- names, and the covers
@@ -22,4 +21,4 @@ pub record ArePartsOf (models : List Model) (names : List (List (List ℕ))) (ro
   pub firsts_known : AllZip (IsFirstCover models covers) firsts rows
   pub few_nets : length (nets models) ≤ 200000
   pub few_covers : length covers ≤ 4294967295
-  pub sound : All IsCover covers
+  pub narrow : All IsNarrow covers

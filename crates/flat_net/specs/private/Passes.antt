@@ -2,11 +2,11 @@
 use Rattle.std.specs.Prelude.{◌≡◌, ◌≤◌, ℕ, suc, ◌+◌, ◌∷◌, [], All, List, Option, Some, length, map, slice_get}
 use Rattle.std.specs.List.{AllZip}
 use Rattle.ste_base.specs.declared.id.NodeId.{NodeId}
+use Rattle.net_core.specs.Cases.{cases_of}
 use Rattle.net_core.specs.Cover.{IsCover}
 use Rattle.net_core.specs.declared.cover.Cover.{Cover}
 use Rattle.net_core.specs.declared.raw.Gate.{Gate}
 use Rattle.net_core.specs.declared.raw.Latch.{Latch}
-use Rattle.blif_syntax.specs.Covered.{IsCovered}
 use Rattle.blif_syntax.specs.declared.models.Model.{Model}
 use Rattle.hierarchy.specs.Lines.{GateLine, LatchLine, gate_lines, latch_lines, signals}
 use Rattle.hierarchy.specs.Instances.{had_by, instances, model_at}
@@ -82,6 +82,16 @@ Extends before after = (k : ℕ) (cover : Cover) → slice_get before k ≡ Some
 abbrev pub lines_at : List Model → Row → List GateLine
 lines_at models row = had_by gate_lines (slice_get models row.model)
 
+-- the cover is sound, with at most 1,000 inputs and at most 65,536 cases
+pub record IsNarrow (cover : Cover) : Type 0 where
+  pub sound : IsCover cover
+  pub inputs : cover.inputs ≤ 1000
+  pub cases : cases_of cover.inputs cover.rows ≤ 65536
+
+-- so are the covers of these gates
+abbrev pub AreNarrow : List GateLine → Type 0
+AreNarrow lines = All (λ line. IsNarrow line.cover) lines
+
 -- the covers of one more model are there, and nothing else changed
 pub record IsFilled (models : List Model) (number : ℕ) (before after : List Cover) (seen : List (Option ℕ)) (first : ℕ) : Type 0 where
   pub known : AreSeen models after seen
@@ -90,8 +100,7 @@ pub record IsFilled (models : List Model) (number : ℕ) (before after : List Co
   pub longer : length before ≤ length after
   pub few : length after ≤ length before + length (had_by gate_lines (slice_get models number))
   pub is : (model : Model) → slice_get models number ≡ Some model → CoversOf after first model
-  pub sound : All IsCover before → (model : Model) → slice_get models number ≡ Some model →
-      All (λ item. IsCovered item.what) model.items → All IsCover after
+  pub narrow : All IsNarrow before → AreNarrow (had_by gate_lines (slice_get models number)) → All IsNarrow after
 
 -- these are all instances and the first of them, and these are the nets' own names
 pub record AreNumbered (models : List Model) (names : List (List ℕ)) (covers : List Cover) (all : List Instance) (first : Instance) : Type 0 where

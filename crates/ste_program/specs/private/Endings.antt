@@ -3,7 +3,7 @@ use Rattle.std.specs.Prelude.{◌≡◌, ◌⊎◌, ℕ, List, Option}
 use Rattle.ste_program.specs.Answer.{BrokeOff, WentOut, status_of}
 use Rattle.ste_program.specs.Command.{Command}
 use Rattle.ste_program.specs.Message.{message_of, out_of_memory}
-use Rattle.ste_program.specs.Outside.{SinkState}
+use Rattle.ste_io.specs.Outside.{SinkState}
 use Rattle.ste_program.specs.declared.refusal.Refusal.{Refusal}
 use Rattle.ste_program.specs.declared.run.Status.{Status}
 use Rattle.ste_program.specs.declared.run.Status.TheVariants as status

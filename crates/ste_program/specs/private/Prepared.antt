@@ -1,20 +1,28 @@
 -- For private functions. What the steps before a check know of the texts.
-use Rattle.std.specs.Prelude.{◌≡◌, ◌≢◌, ⊤, ℕ, List, IsTrue, Option, Some}
+use Rattle.std.specs.Prelude.{◌≡◌, ◌≢◌, ⊤, ℕ, ◌<◌, Bool, true, false, IsTrue, List, [], length, map, All, Option, Some, Err}
 use Rattle.blif_syntax.specs.declared.models.Model.{Model}
-use Rattle.flat_net.specs.Flat.{flat_of}
-use Rattle.hierarchy.specs.Lines.{signals, top}
-use Rattle.flat_net.specs.Supported.{is_supported}
+use Rattle.hierarchy.specs.Faults.{IsFree, IsRefusal}
+use Rattle.hierarchy.specs.Names.{net_named}
+use Rattle.hierarchy.specs.Nets.{nets}
+use Rattle.flat_net.specs.Flat.{IsFlat}
 use Rattle.net_core.specs.declared.raw.RawNet.{RawNet}
+use Rattle.net_names.specs.Names.{AreNamesOf}
+use Rattle.net_names.specs.declared.names.NetNames.{NetNames}
+use Rattle.assert_syntax.specs.declared.tasks.RawTasks.{RawTasks}
+use Rattle.ste_model.specs.declared.task.Task.{Task}
+use Rattle.ste_model.specs.declared.task.Task.TheVariants.{Ste, Gste}
+use Rattle.ste_model.specs.declared.task.Tasks.{Tasks}
+use Rattle.task_binding.specs.Answer.{IsAnswer}
+use Rattle.task_binding.specs.declared.fault.BindFault.TheVariants as bind
 use Rattle.ste_program.specs.Answer.{AskedAll}
 use Rattle.ste_program.specs.Command.{Command}
-use Rattle.ste_program.specs.Netlist.{IsNetlistFault}
-use Rattle.ste_program.specs.Outside.{FilesState}
+use Rattle.ste_program.specs.Netlist.{IsLoop, IsNetlistFault}
+use Rattle.ste_program.specs.Order.{IsFirst, text_stages}
+use Rattle.ste_io.specs.Outside.{FilesState}
 use Rattle.ste_program.specs.Report.{IsPrepared}
-use Rattle.ste_program.specs.Task.{is_task, task_lines}
-use Rattle.ste_program.specs.Words.{text_of}
+use Rattle.ste_program.specs.TaskFile.{IsTasksFault}
 use Rattle.ste_program.specs.declared.refusal.Refusal.{Refusal}
 use Rattle.ste_program.specs.declared.refusal.Refusal.TheVariants as refusal
-use Rattle.ste_program.specs.declared.task.TaskText.{TaskText}
 
 -- why a netlist's text gives no models
 abbrev pub WhyNoModels : List ℕ → Refusal → Type 0
@@ -22,33 +30,55 @@ WhyNoModels text (refusal.Netlist fault) = IsNetlistFault text fault
 WhyNoModels text refusal.OutOfMemory = ⊤
 WhyNoModels text found = ⊥
 
--- the flat net of a model, with the names of its nets
-pub record IsNetOf (model : Model) (net : RawNet) (names : List (List ℕ)) : Type 0 where
-  pub flat : net ≡ flat_of model
-  pub named : names ≡ signals model
+-- why a task file's text gives no tasks
+abbrev pub WhyNoTasks : List ℕ → Refusal → Type 0
+WhyNoTasks text (refusal.Tasks fault) = IsTasksFault text fault
+WhyNoTasks text refusal.OutOfMemory = ⊤
+WhyNoTasks text found = ⊥
 
--- what is bound of these models and this text: the net of the top, and the task that the text spells over its names
-pub record IsBound (models : List Model) (text : List ℕ) (net : RawNet) (names : List (List ℕ)) (task : TaskText) : Type 0 where
-  pub supported : IsTrue (is_supported models)
-  pub net_of : IsNetOf (top models) net names
-  pub sound : IsTrue (is_task (signals (top models)) task)
-  pub spelled : text ≡ text_of (task_lines task)
+-- the flat net of a netlist, with the names of its nets
+pub record IsNetOf (models : List Model) (net : RawNet) (names : NetNames) : Type 0 where
+  pub sound : IsFree (IsRefusal models)
+  pub flat : IsFlat models net
+  pub named : AreNamesOf models names
 
--- no task is spelled over a netlist that is flattened
-abbrev pub HasNoTask : List Model → List ℕ → Type 0
-HasNoTask models text = (task : TaskText) → IsTrue (is_supported models) → IsTrue (is_task (signals (top models)) task) → text ≢ text_of (task_lines task)
+-- why a netlist has no flat net in a settled order
+abbrev pub WhyNoNet : List Model → Refusal → Type 0
+WhyNoNet models (refusal.Hierarchy fault) = IsRefusal models fault
+WhyNoNet models (refusal.Loop name) = IsFree (IsRefusal models) × IsLoop models name
+WhyNoNet models refusal.OutOfMemory = ⊤
+WhyNoNet models found = ⊥
 
--- why nothing is bound of these models and this text
-abbrev pub WhyUnbound : List Model → List ℕ → Refusal → Type 0
-WhyUnbound models text refusal.NotYet = HasNoTask models text
-WhyUnbound models text refusal.OutOfMemory = ⊤
-WhyUnbound models text found = ⊥
+-- why tasks are not bound to a net
+abbrev pub WhyUnbound : List Model → RawTasks → Refusal → Type 0
+WhyUnbound models raw (refusal.Binding fault) = (fault ≢ bind.OutOfMemory) × IsAnswer (net_named models) (length (nets models)) raw (Err fault)
+WhyUnbound models raw refusal.OutOfMemory = ⊤
+WhyUnbound models raw found = ⊥
+
+-- why two texts have no reading that is checked
+abbrev pub WhyUnread : List ℕ → List ℕ → Refusal → Type 0
+WhyUnread net_text task_text refusal.OutOfMemory = ⊤
+WhyUnread net_text task_text (refusal.CannotRead which) = ⊥
+WhyUnread net_text task_text found = IsFirst (text_stages net_text task_text) found
+
+-- the task is an assertion
+abbrev pub is_ste : Task → Bool
+is_ste (Ste task) = true
+is_ste (Gste task) = false
+
+-- the nets of an antecedent
+abbrev pub given_nets : Task → List ℕ
+given_nets (Ste task) = map (λ quint. quint.node.0) task.ant
+given_nets (Gste task) = []
+
+-- the task is an assertion whose antecedent speaks of nets below this number
+abbrev pub IsCheckable : ℕ → Task → Type 0
+IsCheckable nets task = IsTrue (is_ste task) × All (λ net. net < nets) (given_nets task)
 
 -- all is read that a check needs
-pub record IsMade (command : Option Command) (files files' : FilesState) (net : RawNet) (names : List (List ℕ)) (task : TaskText) : Type 0 where
+pub record IsMade (command : Option Command) (files files' : FilesState) (net : RawNet) (tasks : Tasks) : Type 0 where
   pub asked : Command
   pub is : command ≡ Some asked
   pub models : List Model
-  pub net_of : IsNetOf (top models) net names
-  pub prepared : IsPrepared asked files models task
+  pub prepared : IsPrepared asked files models net tasks
   pub asking : AskedAll command files files'

@@ -2,7 +2,7 @@
 use Rattle.std.specs.Prelude.{◌≡◌, ◌≤◌, ◌⊎◌, ℕ, List, length, Some}
 use Rattle.ste_program.specs.Answer.{AskedAll}
 use Rattle.ste_program.specs.Command.{Command}
-use Rattle.ste_program.specs.Outside.{FilesState, IsTooLarge, ReadFailed, StandsAt, asked_for}
+use Rattle.ste_io.specs.Outside.{FilesState, IsTooLarge, ReadFailed, StandsAt, asked_for}
 use Rattle.ste_program.specs.Report.{greatest}
 use Rattle.ste_program.specs.declared.refusal.File.{File}
 use Rattle.ste_program.specs.declared.refusal.Refusal.{Refusal}
@@ -13,7 +13,7 @@ abbrev pub WhyNoFile : File → List ℕ → FilesState → FilesState → Refus
 WhyNoFile which name before after (refusal.CannotRead other) = (other ≡ which) × ReadFailed before after name
 WhyNoFile which name before after refusal.NotYet = IsTooLarge before.holds name greatest × (after ≡ asked_for before name)
 WhyNoFile which name before after refusal.OutOfMemory = (after ≡ asked_for before name) ⊎ (after ≡ before)
-WhyNoFile which name before after (refusal.Netlist fault) = ⊥
+WhyNoFile which name before after found = ⊥
 
 -- the texts that stand under the names of a command's files, neither of them too large
 pub record AreTexts (command : Command) (before after : FilesState) (net_text task_text : List ℕ) : Type 0 where

@@ -1,4 +1,4 @@
-use Rattle.flat_net.proofs.Covered.{more_firsts, room, still_few, still_sound}
+use Rattle.flat_net.proofs.Covered.{more_firsts, room, still_few, still_narrow}
 use Rattle.flat_net.proofs.covers.all_covers.Goals as goal
 
 pub first_cover-requires-clause-few : goal.first_cover-requires-clause-few
@@ -9,6 +9,6 @@ loop-row-preserved c = record {
   long = c.in_ok-first_cover.ensures.long;
   seen = c.in_ok-first_cover.ensures.known;
   firsts = more_firsts c.args.models.now c.args.rows.now c.loop-row.row-index _ c.loop-row-test.true c.loop-row.covers c.loop-row.invariant.few c.loop-row.firsts.items c.push.new.self.items c.first_cover.new.covers c.first_cover.new.seen.items c.in_ok-first_cover.field-0 c.in_ok-first_cover.ensures c.in_ok-push.ensures.items c.loop-row.invariant.firsts;
-  sound = still_sound c.args.models.now c.args.rows.now c.loop-row.row-index _ c.loop-row-test.true c.requires.rows c.requires.covered c.loop-row.covers c.first_cover.new.covers c.first_cover.new.seen.items c.in_ok-first_cover.field-0 c.in_ok-first_cover.ensures c.loop-row.invariant.sound;
+  narrow = still_narrow c.args.models.now c.args.rows.now c.loop-row.row-index _ c.loop-row-test.true c.requires.narrow c.loop-row.covers c.first_cover.new.covers c.first_cover.new.seen.items c.in_ok-first_cover.field-0 c.in_ok-first_cover.ensures c.loop-row.invariant.narrow;
   few = still_few c.args.models.now c.args.rows.now c.loop-row.row-index _ c.loop-row-test.true c.loop-row.covers c.loop-row.invariant.few c.first_cover.new.covers c.first_cover.new.seen.items c.in_ok-first_cover.field-0 c.in_ok-first_cover.ensures;
 }

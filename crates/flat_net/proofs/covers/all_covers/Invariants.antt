@@ -1,8 +1,7 @@
 use Rattle.std.proofs.Common.{◌≡◌, ◌≤◌, length, take}
 use Rattle.std.specs.Prelude.{All, flat_map}
-use Rattle.net_core.specs.Cover.{IsCover}
 use Rattle.std.specs.List.{AllZip}
-use Rattle.flat_net.specs.private.Passes.{AreSeen, IsFirstCover, lines_at}
+use Rattle.flat_net.specs.private.Passes.{AreSeen, IsFirstCover, IsNarrow, lines_at}
 use Rattle.flat_net.proofs.covers.all_covers.Given as goal
 
 abbrev pub invariant-loop-row : goal.invariant-loop-row
@@ -10,6 +9,6 @@ invariant-loop-row l = record {
   long : length l.seen.items ≡ length l.models;
   seen : AreSeen l.models l.covers l.seen.items;
   firsts : AllZip (IsFirstCover l.models l.covers) l.firsts.items (take l.row-index l.rows);
-  sound : All IsCover l.covers;
+  narrow : All IsNarrow l.covers;
   few : length l.covers ≤ length (flat_map (lines_at l.models) (take l.row-index l.rows));
 }

@@ -1,25 +1,36 @@
-use Rattle.std.proofs.Common.{◌≤◌, List, length, get_or, sym, ap, ◌∙◌, subst}
-use Rattle.std.specs.Prelude.{All}
-use Rattle.net_core.specs.Flat.{IsInRange, HasOneDriver, IsListedInOrder}
-use Rattle.blif_syntax.specs.declared.models.Model.{Model}
-use Rattle.blif_syntax.specs.Covered.{IsCovered}
-use Rattle.flat_net.proofs.Nets.{answered, in_range, one_driver, in_order, narrow}
+use Rattle.std.proofs.Common.{inl, inr, subst, sym}
+use Rattle.hierarchy.specs.Faults.{Else, HasDrivenTwice, HasFaultBeforeInstances, HasMixedClocks, IsFree}
+use Rattle.hierarchy.proofs.Refused.{before_is_refusal, free_first, later_is_refusal, refusal_free}
+use Rattle.flat_net.specs.Flat.{IsFlat}
+use Rattle.flat_net.proofs.OneDriver.{one_driver}
+use Rattle.flat_net.proofs.OneToOne.{corresponds}
+use Rattle.flat_net.proofs.Parting.{shallow}
 use Rattle.flat_net.proofs.flat.flatten.Goals as goal
 
-abbrev AllCovered : Model → Type 0
-AllCovered model = All (λ item. IsCovered item.what) model.items
+pub flat_behind-requires-clause-free : goal.flat_behind-requires-clause-free
+flat_behind-requires-clause-free c = subst (λ ms. IsFree (HasFaultBeforeInstances ms)) (sym c.as_slice.ensures) c.in-Ok.ensures.ok
 
-pub returns-in-len1-clause-in_range : goal.returns-in-len1-clause-in_range
-returns-in-len1-clause-in_range c =
-    let at = c.model-item.is ∙ ap (λ (models : List Model). get_or models 0 c.model-item.result) c.as_slice.ensures in
-    let covered : AllCovered c.model-item.result = subst AllCovered (sym at) (c.requires 0 c.model-item.result c.args.models.now.some) in
-    answered c.model-item.result IsInRange (λ _. in_range c.model-item.result covered) c.flatten_model.result c.flatten_model.ensures.some
+pub returns-in-Err-clause-err : goal.returns-in-Err-clause-err
+returns-in-Err-clause-err c = elim c.in-Err.ensures.err [
+  | inl wanting ↦ inl wanting
+  | inr found ↦ inr (before_is_refusal c.args.models.now.models c.in-Err.fault found)
+]
 
-pub returns-in-len1-clause-one_driver : goal.returns-in-len1-clause-one_driver
-returns-in-len1-clause-one_driver c = answered c.model-item.result HasOneDriver (one_driver c.model-item.result) c.flatten_model.result c.flatten_model.ensures.some
+pub returns-in-Err-flat_behind-clause-err : goal.returns-in-Err-flat_behind-clause-err
+returns-in-Err-flat_behind-clause-err c = elim c.in-Err-flat_behind.ensures.err [
+  | inl wanting ↦ inl wanting
+  | inr found ↦ inr (later_is_refusal c.args.models.now.models c.in-Ok.ensures.ok c.in-Err-flat_behind.fault (subst (λ ms. Else (HasDrivenTwice ms) (HasMixedClocks ms) c.in-Err-flat_behind.fault) c.as_slice.ensures found))
+]
 
-pub returns-in-len1-clause-in_order : goal.returns-in-len1-clause-in_order
-returns-in-len1-clause-in_order c = answered c.model-item.result IsListedInOrder (in_order c.model-item.result) c.flatten_model.result c.flatten_model.ensures.some
+pub returns-in-Ok-flat_behind-clause-flat : goal.returns-in-Ok-flat_behind-clause-flat
+returns-in-Ok-flat_behind-clause-flat c = subst (λ ms. IsFlat ms c.in-Ok-flat_behind.made.0) c.as_slice.ensures c.in-Ok-flat_behind.ensures.flat
 
-pub returns-in-len1-clause-narrow : goal.returns-in-len1-clause-narrow
-returns-in-len1-clause-narrow c = answered c.model-item.result (λ raw. All (λ gate. length gate.inputs ≤ 8) raw.gates) (narrow c.model-item.result) c.flatten_model.result c.flatten_model.ensures.some
+pub returns-in-Ok-flat_behind-clause-runs : goal.returns-in-Ok-flat_behind-clause-runs
+returns-in-Ok-flat_behind-clause-runs c = corresponds c.args.models.now.models c.in-Ok-flat_behind.made.0 (shallow c.args.models.now.models c.in-Ok.ensures.ok) (subst (λ ms. IsFlat ms c.in-Ok-flat_behind.made.0) c.as_slice.ensures c.in-Ok-flat_behind.ensures.flat)
+
+pub returns-in-Ok-flat_behind-clause-ok : goal.returns-in-Ok-flat_behind-clause-ok
+returns-in-Ok-flat_behind-clause-ok c = refusal_free c.args.models.now.models c.in-Ok.ensures.ok (subst (λ ms. IsFree (Else (HasDrivenTwice ms) (HasMixedClocks ms))) c.as_slice.ensures c.in-Ok-flat_behind.ensures.ok)
+
+pub returns-in-Ok-flat_behind-clause-one_driver : goal.returns-in-Ok-flat_behind-clause-one_driver
+returns-in-Ok-flat_behind-clause-one_driver c = one_driver c.args.models.now.models c.in-Ok-flat_behind.made.0 (subst (λ ms. IsFlat ms c.in-Ok-flat_behind.made.0) c.as_slice.ensures c.in-Ok-flat_behind.ensures.flat)
+    (free_first (HasDrivenTwice c.args.models.now.models) (HasMixedClocks c.args.models.now.models) (subst (λ ms. IsFree (Else (HasDrivenTwice ms) (HasMixedClocks ms))) c.as_slice.ensures c.in-Ok-flat_behind.ensures.ok))

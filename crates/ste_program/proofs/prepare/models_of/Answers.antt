@@ -1,6 +1,6 @@
 use Rattle.std.proofs.Common.{◌∙◌, arith}
 use Rattle.blif_syntax.proofs.Fit.{words_fit}
-use Rattle.ste_program.proofs.Refusals.{models_read}
+use Rattle.ste_program.proofs.NetlistText.{models_read}
 use Rattle.ste_program.proofs.prepare.models_of.Goals as goal
 
 pub read_models-requires : goal.read_models-requires

@@ -1,0 +1,3 @@
+pub mod Causes
+pub mod Outside
+pub mod InMemory

@@ -1,0 +1,28 @@
+//! Files that are fetched by name: the trait `Files`.
+ghost use Rattle.std.specs.Prelude.{◌≤◌, MatchResult};
+ghost use Rattle.ste_io.specs.Outside.{FilesState, IsFetched, WhyNotFetched};
+
+use std::alloc::Global;
+
+/// Why a file was not fetched.
+#[derive(Clone, Copy, Debug, PartialEq, Eq)]
+pub enum FetchFault {
+    /// Reading failed; a name that is not there is such a fault.
+    Failed,
+    /// More bytes than wanted were there; this many, and maybe more, were seen.
+    TooLarge { seen: u64 },
+    OutOfMemory,
+}
+
+/// Files, by name.
+pub trait Files {
+    /// What they hold and were asked for, told or not, and how often reading has failed.
+    ghost state: { Self → FilesState };
+
+    /// All the bytes of a file, at most `max`. With want of memory the name may not count as asked for.
+    fn fetch(&mut self, alloc: Global, name: &str, max: u64) -> Result<Vec<u8>, FetchFault>
+        requires { max ≤ 67108864 }
+        ensures { MatchResult result
+            (λ bytes. IsFetched (state self.old) (state self.new) name.now max bytes.items)
+            (λ fault. WhyNotFetched (state self.old) (state self.new) name.now max fault) };
+}

@@ -1,0 +1,23 @@
+-- Stages in a row: each gives one refusal at most, and so does their order.
+use Rattle.std.proofs.Common.{◌≡◌, List, [], ◌∷◌, inl, inr}
+use Rattle.std.specs.Prelude.{⊤}
+use Rattle.ste_program.specs.Order.{AllSilent, IsFirst}
+use Rattle.ste_program.specs.declared.refusal.Refusal.{Refusal}
+
+-- each stage gives one refusal at most
+abbrev pub AllOnce : List (Refusal → Type 0) → Type 0
+AllOnce [] = ⊤
+AllOnce (stage ∷ stages) = ((one other : Refusal) → stage one → stage other → one ≡ other) × AllOnce stages
+
+pub one_first : (stages : List (Refusal → Type 0)) (one other : Refusal) → AllOnce stages → IsFirst stages one → IsFirst stages other → one ≡ other
+one_first [] one other once f g = absurd f
+one_first (stage ∷ stages) one other once (inl f) (inl g) = once.0 one other f g
+one_first (stage ∷ stages) one other once (inl f) (inr g) = absurd (g.0 one f)
+one_first (stage ∷ stages) one other once (inr f) (inl g) = absurd (f.0 other g)
+one_first (stage ∷ stages) one other once (inr f) (inr g) = one_first stages one other once.1 f.1 g.1
+
+-- where no stage gives anything, none is the first
+pub none_first : (stages : List (Refusal → Type 0)) (found : Refusal) → AllSilent stages → IsFirst stages found → ⊥
+none_first [] found silent first = first
+none_first (stage ∷ stages) found silent (inl h) = silent.0 found h
+none_first (stage ∷ stages) found silent (inr h) = none_first stages found silent.1 h.1

@@ -1,0 +1,53 @@
+-- Meaning, and a law. The reading of two texts: the netlist that the one spells, its flat net, and over this net the tasks that
+-- the other spells.
+use Rattle.std.specs.Prelude.{◌≡◌, ℕ, ◌&&◌, Bool, true, false, List, length, map, nat_le, IsTrue, Ok}
+use Rattle.std.specs.List.{list_all}
+use Rattle.blif_syntax.specs.declared.models.Model.{Model}
+use Rattle.hierarchy.specs.Faults.{IsFree, IsRefusal}
+use Rattle.hierarchy.specs.Lines.{GateLine}
+use Rattle.hierarchy.specs.Names.{net_named}
+use Rattle.hierarchy.specs.Nets.{gates, nets}
+use Rattle.net_core.specs.Run.{IsSettled}
+use Rattle.net_core.specs.declared.raw.RawNet.{RawNet}
+use Rattle.flat_net.specs.Flat.{IsFlat}
+use Rattle.assert_syntax.specs.declared.tasks.RawTask.{RawTask}
+use Rattle.assert_syntax.specs.declared.tasks.RawTask.TheVariants.{Ste, Gste}
+use Rattle.assert_syntax.specs.declared.tasks.RawTasks.{RawTasks}
+use Rattle.ste_model.specs.declared.task.Tasks.{Tasks}
+use Rattle.ste_model.specs.Trees.{task_tree}
+use Rattle.task_binding.specs.Answer.{IsAnswer}
+use Rattle.ste_program.specs.Netlist.{IsNetlist}
+use Rattle.ste_program.specs.TaskFile.{AreTasks}
+
+-- the task is an assertion, not a graph
+abbrev pub is_assertion : RawTask → Bool
+is_assertion (Ste line name reset ant con) = true
+is_assertion (Gste line name reset vertices edges) = false
+
+-- the gate has at most eight inputs
+abbrev pub is_narrow : List ℕ × GateLine → Bool
+is_narrow at = nat_le (length at.1.inputs) 8
+
+-- what is checked so far: assertions over at most eight variables, and gates of at most eight inputs
+abbrev pub is_checked_so_far : List Model → RawTasks → Bool
+is_checked_so_far models raw = nat_le (length raw.vars) 8 && (list_all is_assertion raw.tasks && list_all is_narrow (gates models))
+
+-- The reading of two texts: the models that the one spells, whose hierarchy has no fault, and their flat net, in which no gates
+-- form a loop; and the tasks that the other spells, over this net: each of their nodes names one of its nets. The net's covers are
+-- numbered freely, and an expression is known by its tree.
+pub record IsReading (net_text task_text : List ℕ) (models : List Model) (net : RawNet) (tasks : Tasks) : Type 0 where
+  pub netlist : IsNetlist net_text models
+  pub raw : RawTasks
+  pub spelled : AreTasks task_text raw
+  pub sound : IsFree (IsRefusal models)
+  pub flat : IsFlat models net
+  pub settled : IsSettled net
+  pub bound : IsAnswer (net_named models) (length (nets models)) raw (Ok tasks)
+  pub checked : IsTrue (is_checked_so_far models raw)
+
+-- Law: two texts have one reading at most: one netlist, the same variables, and tasks that say the same.
+abbrev pub OneReading : Type 0
+OneReading =
+    (net_text task_text : List ℕ) (models others : List Model) (net other : RawNet) (tasks others_tasks : Tasks) →
+    IsReading net_text task_text models net tasks → IsReading net_text task_text others other others_tasks →
+    (models ≡ others) × (tasks.vars ≡ others_tasks.vars) × (map task_tree tasks.tasks ≡ map task_tree others_tasks.tasks)
