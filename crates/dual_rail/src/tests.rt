@@ -1,4 +1,5 @@
-//! Gates of up to four inputs over every list of constant sets, against all choices of bits.
+//! Gates of up to four inputs over every list of constant sets, against all choices of bits; cuts, unions and the test for an
+//! empty set, over constant sets.
 
 ghost use Rattle.std.specs.Prelude.{◌≡◌, ◌≤◌, ◌<◌, List, All, IfOk, IsTrue, length};
 ghost use Rattle.dd_nodes.specs.Stores.{Store};
@@ -7,6 +8,7 @@ ghost use Rattle.dual_rail.specs.Rail.{AreRefs};
 
 use crate::gates::gate;
 use crate::rails::Rails;
+use crate::sets::{cut, empty, free, join, one, zero};
 use dd_nodes::{Nodes, PlainNodes, Ref};
 use dd_ops::Ops;
 use net_core::{Cover, Lit, Row, cases, eval, other_rows};
@@ -220,5 +222,63 @@ fn a_gate_of_a_thousand_inputs_is_0_where_one_is(rt: HostRuntime) -> Result<(), 
     let sets = unknowns(rt.alloc(), 1000)?;
     let made = gate_of(rt.alloc(), &ops, &mut nodes, &cover, &sets)?;
     assert!(rt; made.can0 == Ref::TRUE && made.can1 == Ref::FALSE);
+    Ok(())
+}
+
+/// Whether a cut of this set leaves out just what the guard and the value refuse.
+fn is_cut<N: Nodes>(
+    ops: &Ops,
+    nodes: &mut N,
+    number: usize,
+    guard: bool,
+    value: bool,
+) -> Result<bool, Fail> {
+    let zero = number % 2 == 1 && !(guard && value);
+    let one = (number / 2) % 2 == 1 && (!guard || value);
+    let set = constant_set(number);
+    match cut(ops, nodes, set, constant(guard), constant(value)) {
+        Ok(left) => Ok(left.can0 == constant(zero) && left.can1 == constant(one)),
+        Err(_) => Err("no cut".into()),
+    }
+}
+
+/// Whether the union of these sets has the bits of both.
+fn is_union<N: Nodes>(ops: &Ops, nodes: &mut N, first: usize, second: usize) -> Result<bool, Fail> {
+    let zero = first % 2 == 1 || second % 2 == 1;
+    let one = (first / 2) % 2 == 1 || (second / 2) % 2 == 1;
+    match join(ops, nodes, constant_set(first), constant_set(second)) {
+        Ok(all) => Ok(all.can0 == constant(zero) && all.can1 == constant(one)),
+        Err(_) => Err("no union".into()),
+    }
+}
+
+/// Whether it is told of this set that it is empty, or not.
+fn is_told<N: Nodes>(ops: &Ops, nodes: &mut N, number: usize) -> Result<bool, Fail> {
+    match empty(ops, nodes, constant_set(number)) {
+        Ok(none) => Ok(none == constant(number % 4 == 0)),
+        Err(_) => Err("no answer".into()),
+    }
+}
+
+#[test]
+fn cuts_unions_and_empty_sets_of_constants(rt: HostRuntime) -> Result<(), Fail> {
+    let ops = Ops::new(rt.alloc());
+    let mut nodes = PlainNodes::new(rt.alloc(), 0, 1)?;
+    for number in 0..4usize {
+        for (guard, value) in [(false, false), (false, true), (true, false), (true, true)] {
+            assert!(rt;
+                is_cut(&ops, &mut nodes, number, guard, value)?,
+                "{number} {guard} {value}"
+            );
+        }
+        for other in 0..4usize {
+            assert!(rt;
+                is_union(&ops, &mut nodes, number, other)?,
+                "{number} {other}"
+            );
+        }
+        assert!(rt; is_told(&ops, &mut nodes, number)?, "{number}");
+    }
+    assert!(rt; constant_set(1) == zero() && constant_set(2) == one() && constant_set(3) == free());
     Ok(())
 }

@@ -5,6 +5,8 @@ pub mod Sourced
 pub mod Emptied
 pub mod Compressing
 pub mod NetRefs
+pub mod OtherRail
+pub mod Pairs
 pub mod Summing
 pub mod RowSums
 pub mod Whole

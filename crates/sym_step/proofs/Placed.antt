@@ -3,7 +3,7 @@ use Rattle.std.proofs.Common.{refl, ◌≡◌, ℕ, ◌<◌, List, length, map, 
 use Rattle.std.specs.Prelude.{slice_get, Option}
 use Rattle.std.proofs.lemmas.Option.{get_or_from_slice_get}
 use Rattle.std.proofs.lemmas.List.{get_or-map}
-use Rattle.std.specs.Prelude.{Bool, true, All}
+use Rattle.std.specs.Prelude.{Bool, true, not, All}
 use Rattle.std.proofs.Common.{[], ◌∷◌}
 use Rattle.std.proofs.lemmas.List.{length-map}
 use Rattle.std.proofs.lemmas.List.Elements.{All-nil, All-cons, All-head, All-tail}
@@ -12,8 +12,9 @@ use Rattle.dd_nodes.specs.declared.node.Ref.{Ref}
 use Rattle.dd_nodes.specs.Stores.{Store, function}
 use Rattle.dd_nodes.proofs.Stores.{IsGood}
 use Rattle.dd_ops.proofs.Terminal.{one_bit}
-use Rattle.net_core.specs.Cover.{IsCover}
-use Rattle.net_core.specs.Work.{some_bit}
+use Rattle.net_core.specs.Cover.{IsCover, some_matches}
+use Rattle.net_core.specs.Work.{AreWide, some_bit}
+use Rattle.net_core.proofs.Complement.{rows_tell_the_bit}
 use Rattle.net_core.proofs.GateSets.{full_gate}
 use Rattle.sym_step.specs.declared.net_rails.NetRails.{NetRails}
 use Rattle.sym_step.specs.private.NetSets.{HaveInputs, net_at, sets_at}
@@ -66,3 +67,21 @@ full_output covers k lists sets nets inputs s d at sound lt width full have bits
     go : (ids : List NodeId) → All (λ input. some_bit (sets input.0) bits ≡ true) ids → All (λ w. some_bit w bits ≡ true) (sets_at sets ids)
     go [] h = All-nil (λ w. some_bit w bits ≡ true)
     go (id ∷ ids) h = All-cons (λ w. some_bit w bits ≡ true) (sets id.0) (sets_at sets ids) (All-head (λ input. some_bit (sets input.0) bits ≡ true) id ids h) (go ids (All-tail (λ input. some_bit (sets input.0) bits ≡ true) id ids h))
+
+-- both lists of rows of a gate's cover have a literal for each input, and exactly one of them matches
+pub record BothLists (lists : CoverRows) (n : ℕ) : Type 0 where
+  pub wide_on : AreWide lists.on.list n
+  pub wide_off : AreWide lists.off.list n
+  pub apart : (bits : List Bool) → length bits ≡ n → some_matches lists.off.list bits ≡ not (some_matches lists.on.list bits)
+
+pub both_lists : (covers : List Cover) (k : ℕ) (lists : CoverRows) (n : ℕ) (at : RowsAt covers k lists) → All IsCover covers → k < length covers → at.cover.inputs ≡ n → BothLists lists n
+both_lists covers k lists n at sound lt width =
+    let cover : Cover = at.cover in
+    let is_sound : IsCover cover = subst IsCover (get_or_from_slice_get covers k cover cover at.is) (sound k cover lt) in
+    let tells = rows_tell_the_bit in
+    let own : BothLists (rows_of cover) cover.inputs = record {
+      wide_on = tells.on_wide cover is_sound;
+      wide_off = tells.off_wide cover is_sound;
+      apart = λ bits l. tells.off cover bits l ∙ ap not (sym (tells.on cover bits l));
+    } in
+    subst (λ (r : CoverRows). BothLists r n) (sym at.lists_are) (subst (BothLists (rows_of cover)) width own)

@@ -1,21 +1,111 @@
 //! The set that a gate gives; begin with `gate_at`.
 
-ghost use Rattle.std.specs.Prelude.{◌≡◌, ◌<◌, ℕ, List, All, IsTrue, length};
-ghost use Rattle.net_core.specs.Work.{SymbolicSet, gate_set, gate_work};
+ghost use Rattle.std.specs.Prelude.{◌≡◌, ◌≢◌, ◌<◌, ◌∷◌, [], ℕ, Bool, List, All, IfSome, IsTrue, length, not};
+ghost use Rattle.net_core.specs.declared.cover.Lit.TheVariants.{Any};
+ghost use Rattle.net_core.specs.Cover.{some_matches};
+ghost use Rattle.net_core.specs.Work.{AreWide, SymbolicSet, conjunction, disjunction, factor, gate_set, gate_work};
 ghost use Rattle.dual_rail.specs.Rail.{Built, HasSet};
-ghost use Rattle.sym_step.specs.private.NetSets.{AreNetRefs, HaveInputs, net_at, sets_at};
+ghost use Rattle.sym_step.specs.private.Known.{other_factor};
+ghost use Rattle.sym_step.specs.private.NetSets.{AreNetRails, AreNetRefs, HaveInputs, net_at, sets_at};
 
 use crate::net_rails::NetRails;
+use crate::piece::Piece;
+use crate::row_list::RowList;
 use crate::rows::CoverRows;
 use crate::sums::rows_sum;
 use dd_nodes::{Nodes, Ref};
 use dd_ops::{OpFault, Ops};
-use dual_rail::Rails;
+use dual_rail::{Rails, both, either};
+use net_core::Lit;
 use ste_base::NodeId;
 
-/// The set that a gate gives, by the rows of its cover, where its inputs are nets by number. `products` lends room for
+/// The literals of the only row of a list over two inputs; none where there are more rows, or the second literal is `-`.
+fn only_pair(rows: &RowList) -> Option<(Lit, Lit)>
+    requires { rows.now.width ≡ 2 }
+    ensures row { IfSome result (λ p. rows.now.list ≡ (p.0 ∷ p.1 ∷ []) ∷ []) }
+    ensures some { IfSome result (λ p. p.1 ≢ Any) }
+{
+    match rows.pieces() {
+        [Piece::Put(x), Piece::Put(y), Piece::Close(_)] if *y != Lit::Any => Some((*x, *y)),
+        _ => None,
+    }
+}
+
+/// From a row of two literals: where both admit some bit of their inputs, and where one of them refuses some bit.
+fn pair<N: Nodes>(
+    ops: &Ops,
+    nodes: &mut N,
+    x: Lit,
+    y: Lit,
+    a: NetRails,
+    b: NetRails,
+) -> Result<Rails, OpFault>
+    requires first { AreNetRefs (N.store nodes.old) a }
+    requires second { AreNetRefs (N.store nodes.old) b }
+    ensures { (v w : SymbolicSet)
+        → AreNetRails (N.store nodes.old) v a → AreNetRails (N.store nodes.old) w b
+        → Built (conjunction (factor x v) (factor y w)
+        ∷ disjunction (other_factor x v) (other_factor y w) ∷ [])
+        (HasSet (record {
+          zero = disjunction (other_factor x v) (other_factor y w);
+          one = conjunction (factor x v) (factor y w);
+        }))
+        (N.store nodes.old) (N.store nodes.new) result }
+{
+    let can1 = both(ops, nodes, a.factor(x), b.factor(y))?;
+    let can0 = either(ops, nodes, a.other(x), b.other(y))?;
+    Ok(Rails { can0, can1 })
+}
+
+/// The set that a gate gives, by the rows of its cover, where its inputs are nets by number, and none is empty anywhere
+/// where `full` says so. A gate of two inputs with one row then takes one product and one sum. `products` lends room for
 /// the products of the first literals of a row.
 pub fn gate_at<N: Nodes>(
+    ops: &Ops,
+    nodes: &mut N,
+    rows: &CoverRows,
+    products: &mut [Ref],
+    nets: &[NetRails],
+    inputs: &[NodeId],
+    full: bool,
+) -> Result<Rails, OpFault>
+    requires on { rows.now.on.width ≡ length inputs.now }
+    requires off { rows.now.off.width ≡ length inputs.now }
+    requires wide_on { AreWide rows.now.on.list (length inputs.now) }
+    requires wide_off { AreWide rows.now.off.list (length inputs.now) }
+    requires apart { (bits : List Bool) → length bits ≡ length inputs.now
+        → some_matches rows.now.off.list bits ≡ not (some_matches rows.now.on.list bits) }
+    requires full { IsTrue full
+        → All (λ input. (net_at nets.now input.0).some ≡ Ref.TRUE) inputs.now }
+    requires room { length inputs.now < length products.old }
+    requires inside { All (λ input. input.0 < length nets.now) inputs.now }
+    requires refs { All (AreNetRefs (N.store nodes.old)) nets.now }
+    ensures room { length products.new ≡ length products.old }
+    ensures built { (sets : ℕ → SymbolicSet)
+        → HaveInputs (N.store nodes.old) sets nets.now inputs.now
+        → Built (gate_work rows.now.on.list rows.now.off.list (sets_at sets inputs.now))
+        (HasSet (gate_set rows.now.on.list rows.now.off.list (sets_at sets inputs.now)))
+        (N.store nodes.old) (N.store nodes.new) result }
+{
+    if full && inputs.len() == 2 {
+        let a = nets[inputs[0].0 as usize];
+        let b = nets[inputs[1].0 as usize];
+        if let Some((x, y)) = only_pair(&rows.on) {
+            return pair(ops, nodes, x, y, a, b);
+        }
+        if let Some((x, y)) = only_pair(&rows.off) {
+            let swapped = pair(ops, nodes, x, y, a, b)?;
+            return Ok(Rails {
+                can0: swapped.can1,
+                can1: swapped.can0,
+            });
+        }
+    }
+    by_rows(ops, nodes, rows, products, nets, inputs)
+}
+
+/// The same by the products and sums of all rows.
+fn by_rows<N: Nodes>(
     ops: &Ops,
     nodes: &mut N,
     rows: &CoverRows,

@@ -1,8 +1,10 @@
 //! The sets of nets with where they have a bit; begin with `NetRails`.
 
 ghost use Rattle.std.specs.Prelude.{◌≡◌};
+ghost use Rattle.dd_nodes.specs.Diagram.{IsDiagram};
 ghost use Rattle.dd_nodes.specs.Stores.{Store, IsRef, Means};
 ghost use Rattle.net_core.specs.Work.{SymbolicSet, factor};
+ghost use Rattle.sym_step.specs.private.Known.{other_factor};
 ghost use Rattle.sym_step.specs.private.NetSets.{AreNetRails, AreNetRefs};
 
 use dd_nodes::Ref;
@@ -50,6 +52,19 @@ impl NetRails {
             Lit::Zero => self.can0,
             Lit::One => self.can1,
             Lit::Any => self.some,
+        }
+    }
+
+    /// What a literal refuses of the set.
+    pub fn other(self, lit: Lit) -> Ref
+        ensures ref_of { (s : Store) → IsDiagram s.held s.vars → AreNetRefs s self → IsRef s result }
+        ensures means { (s : Store) (w : SymbolicSet) → IsDiagram s.held s.vars → AreNetRails s w self
+            → Means s (other_factor lit w) result }
+    {
+        match lit {
+            Lit::Zero => self.can1,
+            Lit::One => self.can0,
+            Lit::Any => Ref::FALSE,
         }
     }
 }

@@ -56,7 +56,7 @@ fn place<N: Nodes>(
     let lists = &rows.covers.as_slice()[g.cover as usize];
     let inputs = g.inputs.as_slice();
     let full = are_full(nets, inputs);
-    let given = gate_at(ops, nodes, lists, products, nets, inputs)?;
+    let given = gate_at(ops, nodes, lists, products, nets, inputs, full)?;
     cut_full(ops, nodes, cuts, marks, g.output.0, given, full)
 }
 

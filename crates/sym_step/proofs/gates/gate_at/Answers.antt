@@ -1,74 +1,100 @@
-use Rattle.std.proofs.Common.{List, Ok, Err}
-use Rattle.std.proofs.lemmas.List.Elements.{Contains-append_left, Contains-append_right}
+use Rattle.std.proofs.Common.{◌≡◌, ◌≢◌, ◌<◌, ℕ, Bool, not, List, [], ◌∷◌, All, length, get_or, sym, ◌∙◌, ap, subst, arith, Ok, Err}
+use Rattle.std.proofs.lemmas.List.{get_or_default}
+use Rattle.std.proofs.Math.Bool.{not-not}
+use Rattle.ste_base.specs.declared.id.NodeId.{NodeId}
 use Rattle.dd_nodes.specs.Diagram.{Function}
 use Rattle.dd_nodes.specs.Stores.{Store}
-use Rattle.dd_nodes.proofs.Stores.{Means-keeps}
-use Rattle.net_core.specs.Work.{SymbolicSet, gate_set, gate_work, row_products, rows_work, sum}
+use Rattle.dd_nodes.proofs.Stores.{IsGood}
+use Rattle.net_core.specs.declared.cover.Lit.{Lit}
+use Rattle.net_core.specs.declared.cover.Lit.TheVariants.{Any}
+use Rattle.net_core.specs.Cover.{some_matches}
+use Rattle.net_core.specs.Work.{AreWide, SymbolicSet, gate_set, gate_work}
 use Rattle.dual_rail.specs.declared.rails.Rails.{Rails}
-use Rattle.dual_rail.specs.Rail.{Built, HasFunction, HasSet}
-use Rattle.dual_rail.proofs.Works.{So-start, Built-made, Built-wider, first, more, pass}
-use Rattle.sym_step.specs.private.NetSets.{net_at, sets_at}
-use Rattle.sym_step.proofs.NetRefs.{own_where, own_inputs, Inputs-keep, All-net-refs-keep}
+use Rattle.dual_rail.specs.Rail.{Built, HasSet}
+use Rattle.dual_rail.proofs.Works.{So-start, Built-made, first, pass}
+use Rattle.sym_step.specs.declared.net_rails.NetRails.{NetRails}
+use Rattle.sym_step.specs.private.NetSets.{HaveInputs, net_at, sets_at}
+use Rattle.sym_step.proofs.Pairs.{SwappedSet, TwoInputs, pair_row, pair_on, pair_off, two_known}
 use Rattle.sym_step.proofs.gates.gate_at.Goals as goal
 
-pub rows_sum-requires-2-clause-refs : goal.rows_sum-requires-2-clause-refs
-rows_sum-requires-2-clause-refs g c =
-    let s : Store = g.N.Nodes.store c.args.nodes.now in
-    let t : Store = g.N.Nodes.store c.rows_sum.new.nodes in
-    All-net-refs-keep s t c.args.nets.now (g.met.N.Nodes.diagram c.args.nodes.now) (g.met.N.Nodes.diagram c.rows_sum.new.nodes)
-    (c.in_ok-can1.ensures.built (λ id. own_where s (net_at c.args.nets.now id)) (own_inputs s c.args.nets.now c.args.inputs.now c.requires.inside c.requires.refs)).spends.keeps c.requires.refs
+abbrev no_net : NodeId
+no_net = record { 0 = 0 }
 
-pub returns-in_err-can1-clause-built : goal.returns-in_err-can1-clause-built
-returns-in_err-can1-clause-built g c = λ sets have.
+abbrev no_rails : NetRails
+no_rails = record { can0 = record { 0 = 0 }; can1 = record { 0 = 0 }; some = record { 0 = 0 } }
+
+-- what is known of the two inputs, as they were read
+known : (x y : Lit) (rows others : List (List Lit)) (nets : List NetRails) (inputs : List NodeId) (s : Store) → IsGood s → length inputs ≡ 2
+    → All (λ input. input.0 < length nets) inputs → All (λ input. (net_at nets input.0).some ≡ record { 0 = 1 }) inputs
+    → rows ≡ pair_row x y → y ≢ Any → AreWide others (length inputs) → ((bs : List Bool) → length bs ≡ length inputs → some_matches others bs ≡ not (some_matches rows bs))
+    → (sets : ℕ → SymbolicSet) → HaveInputs s sets nets inputs
+    → TwoInputs x y others nets inputs (get_or inputs 0 no_net) (get_or inputs 1 no_net) (get_or nets (get_or inputs 0 no_net).0 no_rails) (get_or nets (get_or inputs 1 no_net).0 no_rails) s sets
+known x y rows others nets inputs s d two inside full =
+    let first : 0 < length inputs = omega (arith, two) in
+    let second : 1 < length inputs = omega (arith, two) in
+    two_known x y rows others nets inputs _ _ _ _ s d two (get_or_default inputs 0 _ no_net first) (get_or_default inputs 1 _ no_net second)
+    (get_or_default nets _ _ no_rails (inside 0 no_net first)) (get_or_default nets _ _ no_rails (inside 1 no_net second)) inside full
+
+pub returns-in-Some-clause-built : goal.returns-in-Some-clause-built
+returns-in-Some-clause-built g c = λ sets have.
     let s : Store = g.N.Nodes.store c.args.nodes.now in
-    let t : Store = g.N.Nodes.store c.rows_sum.new.nodes in
+    let t : Store = g.N.Nodes.store c.pair.new.nodes in
+    let inputs : List NodeId = c.args.inputs.now in
     let on = c.args.rows.now.on.list in
     let off = c.args.rows.now.off.list in
-    let ws : List SymbolicSet = sets_at sets c.args.inputs.now in
-    let work : List Function = gate_work on off ws in
-    let one : Function = sum (row_products on ws) in
-    let fault = c.in_err-can1.field-0.0 in
-    pass work (HasFunction one) (HasSet (gate_set on off ws)) s s t fault c.from_residual.result (g.met.N.Nodes.diagram c.args.nodes.now) (g.met.N.Nodes.diagram c.rows_sum.new.nodes) (So-start work s)
-    (Built-wider work (rows_work on ws) (HasFunction one) s t (Err fault) (Contains-append_left (rows_work on ws) (rows_work off ws)) (c.in_err-can1.ensures.built sets have)) c.from_residual.ensures.1
+    let x = c.in-Some.x in
+    let y = c.in-Some.y in
+    let v : SymbolicSet = sets (get_or inputs 0 no_net).0 in
+    let w : SymbolicSet = sets (get_or inputs 1 no_net).0 in
+    let k = known x y on off c.args.nets.now inputs s (g.met.N.Nodes.diagram c.args.nodes.now) c.if-inputs-eq2.true c.requires.inside (c.requires.full c.if-full.true)
+    c.in-Some.ensures.row c.in-Some.ensures.some c.requires.wide_off c.requires.apart sets have in
+    subst (λ (ids : List NodeId). Built (gate_work on off (sets_at sets ids)) (HasSet (gate_set on off (sets_at sets ids))) s t c.pair.result) (sym k.are)
+    (subst (λ (rows : List (List Lit)). Built (gate_work rows off (v ∷ w ∷ [])) (HasSet (gate_set rows off (v ∷ w ∷ []))) s t c.pair.result) (sym c.in-Some.ensures.row)
+    (pair_on x y off v w s t c.pair.result k.against (c.pair.ensures v w k.left k.right)))
 
-pub returns-in_err-can0-clause-built : goal.returns-in_err-can0-clause-built
-returns-in_err-can0-clause-built g c = λ sets have.
+-- the rows that stand against the off-rows
+against_off : (on off : List (List Lit)) (n : ℕ) → ((bs : List Bool) → length bs ≡ n → some_matches off bs ≡ not (some_matches on bs)) → (bs : List Bool) → length bs ≡ n → some_matches on bs ≡ not (some_matches off bs)
+against_off on off n apart bs l = sym (ap not (apart bs l) ∙ not-not (some_matches on bs))
+
+pub returns-in_err-swapped-clause-built : goal.returns-in_err-swapped-clause-built
+returns-in_err-swapped-clause-built g c = λ sets have.
     let s : Store = g.N.Nodes.store c.args.nodes.now in
-    let t : Store = g.N.Nodes.store c.rows_sum.new.nodes in
-    let u : Store = g.N.Nodes.store c.rows_sum-2.new.nodes in
+    let t : Store = g.N.Nodes.store c.pair-in-Some-only_pair.new.nodes in
     let ds = g.met.N.Nodes.diagram c.args.nodes.now in
-    let dt = g.met.N.Nodes.diagram c.rows_sum.new.nodes in
+    let dt = g.met.N.Nodes.diagram c.pair-in-Some-only_pair.new.nodes in
+    let inputs : List NodeId = c.args.inputs.now in
     let on = c.args.rows.now.on.list in
     let off = c.args.rows.now.off.list in
-    let ws : List SymbolicSet = sets_at sets c.args.inputs.now in
-    let work : List Function = gate_work on off ws in
-    let one : Function = sum (row_products on ws) in
-    let zero : Function = sum (row_products off ws) in
-    let fault = c.in_err-can0.field-0.0 in
-    let made : Built work (HasFunction one) s t (Ok c.in_ok-can1.can1) = Built-wider work (rows_work on ws) (HasFunction one) s t (Ok c.in_ok-can1.can1) (Contains-append_left (rows_work on ws) (rows_work off ws)) (c.in_ok-can1.ensures.built sets have) in
-    pass work (HasFunction zero) (HasSet (gate_set on off ws)) s t u fault c.from_residual-in_err-can0.result dt (g.met.N.Nodes.diagram c.rows_sum-2.new.nodes) (first work (HasFunction one) s t (Ok c.in_ok-can1.can1) made)
-    (Built-wider work (rows_work off ws) (HasFunction zero) t u (Err fault) (Contains-append_right (rows_work on ws) (rows_work off ws))
-    (c.in_err-can0.ensures.built sets (Inputs-keep s t sets c.args.nets.now c.args.inputs.now ds dt made.spends.keeps have))) c.from_residual-in_err-can0.ensures.1
+    let x = c.in-Some-only_pair.x in
+    let y = c.in-Some-only_pair.y in
+    let v : SymbolicSet = sets (get_or inputs 0 no_net).0 in
+    let w : SymbolicSet = sets (get_or inputs 1 no_net).0 in
+    let fault = c.in_err-swapped.field-0.0 in
+    let k = known x y off on c.args.nets.now inputs s ds c.if-inputs-eq2.true c.requires.inside (c.requires.full c.if-full.true)
+    c.in-Some-only_pair.ensures.row c.in-Some-only_pair.ensures.some c.requires.wide_on (against_off on off (length inputs) c.requires.apart) sets have in
+    let work : List Function = gate_work on off (v ∷ w ∷ []) in
+    subst (λ (ids : List NodeId). Built (gate_work on off (sets_at sets ids)) (HasSet (gate_set on off (sets_at sets ids))) s t c.from_residual.result) (sym k.are)
+    (pass work (SwappedSet x y on v w) (HasSet (gate_set on off (v ∷ w ∷ []))) s s t fault c.from_residual.result ds dt (So-start work s)
+    (subst (λ (rows : List (List Lit)). Built (gate_work on rows (v ∷ w ∷ [])) (SwappedSet x y on v w) s t (Err fault)) (sym c.in-Some-only_pair.ensures.row)
+    (pair_off x y on v w s t (Err fault) k.against (c.in_err-swapped.ensures v w k.left k.right))) c.from_residual.ensures.1)
 
-pub returns-clause-built : goal.returns-clause-built
-returns-clause-built g c = λ sets have.
+pub returns-in-Some-only_pair-clause-built : goal.returns-in-Some-only_pair-clause-built
+returns-in-Some-only_pair-clause-built g c = λ sets have.
     let s : Store = g.N.Nodes.store c.args.nodes.now in
-    let t : Store = g.N.Nodes.store c.rows_sum.new.nodes in
-    let u : Store = g.N.Nodes.store c.rows_sum-2.new.nodes in
+    let t : Store = g.N.Nodes.store c.pair-in-Some-only_pair.new.nodes in
     let ds = g.met.N.Nodes.diagram c.args.nodes.now in
-    let dt = g.met.N.Nodes.diagram c.rows_sum.new.nodes in
-    let du = g.met.N.Nodes.diagram c.rows_sum-2.new.nodes in
+    let inputs : List NodeId = c.args.inputs.now in
     let on = c.args.rows.now.on.list in
     let off = c.args.rows.now.off.list in
-    let ws : List SymbolicSet = sets_at sets c.args.inputs.now in
-    let work : List Function = gate_work on off ws in
-    let one : Function = sum (row_products on ws) in
-    let zero : Function = sum (row_products off ws) in
-    let can1 = c.in_ok-can1.can1 in
-    let can0 = c.in_ok-can0.can0 in
-    let rails : Rails = record { can0 = can0; can1 = can1 } in
-    let a : Built work (HasFunction one) s t (Ok can1) = Built-wider work (rows_work on ws) (HasFunction one) s t (Ok can1) (Contains-append_left (rows_work on ws) (rows_work off ws)) (c.in_ok-can1.ensures.built sets have) in
-    let b : Built work (HasFunction zero) t u (Ok can0) = Built-wider work (rows_work off ws) (HasFunction zero) t u (Ok can0) (Contains-append_right (rows_work on ws) (rows_work off ws))
-    (c.in_ok-can0.ensures.built sets (Inputs-keep s t sets c.args.nets.now c.args.inputs.now ds dt a.spends.keeps have)) in
-    Built-made work (HasSet (gate_set on off ws)) s u rails (more work (HasFunction zero) s t u (Ok can0) dt du (first work (HasFunction one) s t (Ok can1) a) b)
-    (record { zero = b.ok; one = Means-keeps t u one can1 dt du b.spends.keeps a.ok })
+    let x = c.in-Some-only_pair.x in
+    let y = c.in-Some-only_pair.y in
+    let v : SymbolicSet = sets (get_or inputs 0 no_net).0 in
+    let w : SymbolicSet = sets (get_or inputs 1 no_net).0 in
+    let swapped = c.in_ok-swapped.swapped in
+    let rails : Rails = record { can0 = swapped.can1; can1 = swapped.can0 } in
+    let k = known x y off on c.args.nets.now inputs s ds c.if-inputs-eq2.true c.requires.inside (c.requires.full c.if-full.true)
+    c.in-Some-only_pair.ensures.row c.in-Some-only_pair.ensures.some c.requires.wide_on (against_off on off (length inputs) c.requires.apart) sets have in
+    let b = pair_off x y on v w s t (Ok swapped) k.against (c.in_ok-swapped.ensures v w k.left k.right) in
+    subst (λ (ids : List NodeId). Built (gate_work on off (sets_at sets ids)) (HasSet (gate_set on off (sets_at sets ids))) s t (Ok rails)) (sym k.are)
+    (subst (λ (rows : List (List Lit)). Built (gate_work on rows (v ∷ w ∷ [])) (HasSet (gate_set on rows (v ∷ w ∷ []))) s t (Ok rails)) (sym c.in-Some-only_pair.ensures.row)
+    (Built-made (gate_work on (pair_row x y) (v ∷ w ∷ [])) (HasSet (gate_set on (pair_row x y) (v ∷ w ∷ []))) s t rails (first (gate_work on (pair_row x y) (v ∷ w ∷ [])) (SwappedSet x y on v w) s t (Ok swapped) b) b.ok))

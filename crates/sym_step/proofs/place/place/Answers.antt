@@ -12,7 +12,7 @@ use Rattle.sym_step.specs.declared.rows.CoverRows.{CoverRows}
 use Rattle.sym_step.specs.private.NetSets.{HasNetSet}
 use Rattle.sym_step.proofs.Cutting.{Demands-keep}
 use Rattle.sym_step.proofs.NetRefs.{own_inputs}
-use Rattle.sym_step.proofs.Placed.{RowsAt, rows_at, by_rows, full_output}
+use Rattle.sym_step.proofs.Placed.{RowsAt, rows_at, by_rows, both_lists, full_output}
 use Rattle.ste_base.specs.declared.id.NodeId.{NodeId}
 use Rattle.net_core.specs.declared.cover.Cover.{Cover}
 use Rattle.net_core.specs.declared.raw.Gate.{Gate}
@@ -42,6 +42,33 @@ gate_at-requires-clause-off g c =
     let at : RowsAt covers k lists = subst (RowsAt covers k) (sym lists_is) (rows_at covers c.args.rows.now.covers k lists c.requires.rows c.requires.cover) in
     let inputs_is : c.as_slice-inputs.result.now ≡ gate.inputs = c.as_slice-inputs.ensures in
     ap (λ (r : CoverRows). r.off.width) at.lists_are ∙ c.requires.width at.cover at.is ∙ ap length (sym inputs_is)
+
+pub gate_at-requires-clause-wide_on : goal.gate_at-requires-clause-wide_on
+gate_at-requires-clause-wide_on g c =
+    let covers : List Cover = c.args.net.now.raw.covers in
+    let k = c.args.g.now.cover in
+    let lists : CoverRows = c.index-as_slice-g.result in
+    let lists_is : lists ≡ get_or c.args.rows.now.covers k lists = c.index-as_slice-g.is ∙ ap (λ (xs : List CoverRows). get_or xs k lists) c.as_slice.ensures in
+    let at : RowsAt covers k lists = subst (RowsAt covers k) (sym lists_is) (rows_at covers c.args.rows.now.covers k lists c.requires.rows c.requires.cover) in
+    (both_lists covers k lists (length c.as_slice-inputs.result.now) at c.args.net.now.in_range.sound c.requires.cover (c.requires.width at.cover at.is ∙ ap length (sym c.as_slice-inputs.ensures))).wide_on
+
+pub gate_at-requires-clause-wide_off : goal.gate_at-requires-clause-wide_off
+gate_at-requires-clause-wide_off g c =
+    let covers : List Cover = c.args.net.now.raw.covers in
+    let k = c.args.g.now.cover in
+    let lists : CoverRows = c.index-as_slice-g.result in
+    let lists_is : lists ≡ get_or c.args.rows.now.covers k lists = c.index-as_slice-g.is ∙ ap (λ (xs : List CoverRows). get_or xs k lists) c.as_slice.ensures in
+    let at : RowsAt covers k lists = subst (RowsAt covers k) (sym lists_is) (rows_at covers c.args.rows.now.covers k lists c.requires.rows c.requires.cover) in
+    (both_lists covers k lists (length c.as_slice-inputs.result.now) at c.args.net.now.in_range.sound c.requires.cover (c.requires.width at.cover at.is ∙ ap length (sym c.as_slice-inputs.ensures))).wide_off
+
+pub gate_at-requires-clause-apart : goal.gate_at-requires-clause-apart
+gate_at-requires-clause-apart g c =
+    let covers : List Cover = c.args.net.now.raw.covers in
+    let k = c.args.g.now.cover in
+    let lists : CoverRows = c.index-as_slice-g.result in
+    let lists_is : lists ≡ get_or c.args.rows.now.covers k lists = c.index-as_slice-g.is ∙ ap (λ (xs : List CoverRows). get_or xs k lists) c.as_slice.ensures in
+    let at : RowsAt covers k lists = subst (RowsAt covers k) (sym lists_is) (rows_at covers c.args.rows.now.covers k lists c.requires.rows c.requires.cover) in
+    (both_lists covers k lists (length c.as_slice-inputs.result.now) at c.args.net.now.in_range.sound c.requires.cover (c.requires.width at.cover at.is ∙ ap length (sym c.as_slice-inputs.ensures))).apart
 
 pub cut_full-requires-clause-rails : goal.cut_full-requires-clause-rails
 cut_full-requires-clause-rails g c =

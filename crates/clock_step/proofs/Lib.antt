@@ -1,0 +1,10 @@
+pub mod Named
+pub mod Placed
+pub mod Widths
+pub mod Reading
+pub mod Settling
+pub mod Simulated
+pub mod OneAnswer
+pub mod WrittenOut
+pub mod GivenBits
+pub mod Doubles

@@ -1,0 +1,20 @@
+//! Plain simulation: the bits that an input file gives to nets, and the outputs of the one run on
+//! them.
+#![tactic(auto)]
+
+pub mod fault;
+pub mod inputs;
+pub mod laws;
+mod order;
+pub mod read;
+mod rows;
+mod settle;
+pub mod simulation;
+
+pub use fault::InputFault;
+pub use inputs::Inputs;
+pub use read::read_inputs;
+pub use simulation::simulate;
+
+#[cfg(test)]
+mod tests;

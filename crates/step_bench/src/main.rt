@@ -1,0 +1,164 @@
+//! The program `step_bench`: times the step of a net of two-input gates, over the plain store.
+//! `step_bench MIX GATES VARS STEPS`, where MIX is `and` or `mixed`, prints the nets and the nodes made, and to
+//! the error output the time of a first step, and that of a step among so many more. VARS, at most 8, is how many
+//! of the free nets have a variable.
+#![tactic(auto)]
+
+mod nets;
+
+ghost use Rattle.std.specs.Prelude.{◌≡◌, ◌≤◌, [], ℕ, length, map, All, IfOk};
+ghost use Rattle.sym_step.specs.Step.{IsCutOf, rows_of};
+
+use crate::nets::{Mix, net};
+use dd_nodes::{Nodes, PlainNodes, Ref};
+use dd_ops::{OpFault, Ops};
+use net_core::Net;
+use std::alloc::Global;
+use std::time::Instant;
+use std::{env, io};
+use ste_base::NodeId;
+use sym_step::{Cut, GateRows, step};
+
+/// What is asked: a variable on each of the first nets.
+fn cuts<N: Nodes>(
+    alloc: Global,
+    ops: &Ops,
+    nodes: &mut N,
+    net: &Net,
+    vars: u32,
+) -> Result<Vec<Cut>, OpFault>
+    requires inside { 8 ≤ net.now.raw.nets }
+    requires vars { vars ≤ 8 }
+    requires store { 8 ≤ (N.store nodes.old).vars }
+    ensures { IfOk result (λ cuts. All (IsCutOf (N.store nodes.new) net.now.raw) cuts.items) }
+{
+    let _ = net;
+    let blank = Cut {
+        node: NodeId(0),
+        guard: Ref::TRUE,
+        value: Ref::TRUE,
+    };
+    let Ok(mut cuts) = vec![in alloc; blank; vars as usize] else {
+        return Err(OpFault::OutOfMemory);
+    };
+    for v in 0..vars {
+        let value = ops.var(nodes, v)?;
+        cuts[v as usize] = Cut {
+            node: NodeId(v),
+            guard: Ref::TRUE,
+            value,
+        };
+    }
+    Ok(cuts)
+}
+
+/// So many steps; what is made is dropped.
+fn steps<N: Nodes>(
+    alloc: Global,
+    ops: &Ops,
+    nodes: &mut N,
+    net: &Net,
+    rows: &GateRows,
+    cuts: &[Cut],
+    count: u32,
+) -> Result<(), OpFault>
+    requires rows { rows.now.covers ≡ map rows_of net.now.raw.covers }
+    requires latches { net.now.raw.latches ≡ [] }
+    requires cuts { All (IsCutOf (N.store nodes.old) net.now.raw) cuts.now }
+    ensures { All (IsCutOf (N.store nodes.new) net.now.raw) cuts.now }
+{
+    for _ in 0..count {
+        step(alloc, ops, nodes, net, rows, &[], cuts)?;
+    }
+    Ok(())
+}
+
+/// What was measured: nodes made, and nanoseconds of the first step and of the others.
+#[derive(Clone, Copy, Drop)]
+struct Figures {
+    used: u32,
+    first: u64,
+    others: u64,
+}
+
+fn nanos(rt: &HostRuntime, start: Instant) -> io::Result<u64> {
+    Ok(u64::try_from(start.elapsed(rt)?.as_nanos()).unwrap_or(u64::MAX))
+}
+
+/// Steps of a net; none where memory or nodes were wanting.
+fn measure(
+    rt: &HostRuntime,
+    alloc: Global,
+    mix: Mix,
+    gates: u32,
+    vars: u32,
+    count: u32,
+) -> io::Result<Option<Figures>>
+    requires gates { gates ≤ 100000 }
+    requires vars { vars ≤ 8 }
+{
+    let Ok(net) = net(alloc, gates, mix) else {
+        return Ok(None);
+    };
+    let Ok(rows) = GateRows::of(alloc, &net) else {
+        return Ok(None);
+    };
+    let ops = Ops::new(alloc);
+    let Ok(mut nodes) = PlainNodes::new(alloc, 8, 32000000) else {
+        return Ok(None);
+    };
+    let Ok(cuts) = cuts(alloc, &ops, &mut nodes, &net, vars) else {
+        return Ok(None);
+    };
+    let start = Instant::now(rt)?;
+    if steps(alloc, &ops, &mut nodes, &net, &rows, &cuts, 1).is_err() {
+        return Ok(None);
+    }
+    let first = nanos(rt, start)?;
+    let start = Instant::now(rt)?;
+    if steps(alloc, &ops, &mut nodes, &net, &rows, &cuts, count).is_err() {
+        return Ok(None);
+    }
+    let others = nanos(rt, start)?;
+    Ok(Some(Figures {
+        used: nodes.used(),
+        first,
+        others,
+    }))
+}
+
+fn number(word: &str, greatest: u32) -> u32
+    ensures { result ≤ greatest }
+{
+    match word.parse::<u32>() {
+        Ok(n) => n.min(greatest),
+        Err(_) => 0,
+    }
+}
+
+fn mix(word: &str) -> Mix {
+    match word {
+        "mixed" => Mix::Mixed,
+        _ => Mix::And,
+    }
+}
+
+fn main(rt: HostRuntime) -> io::Result<()> {
+    let alloc = rt.alloc();
+    let words = env::args(&rt)?.skip(1).collect::<Vec<String>>(alloc)?;
+    let [form, gates, vars, count] = words.as_slice() else {
+        return println!(rt; "step_bench MIX GATES VARS STEPS");
+    };
+    let gates = number(gates, 100000);
+    let count = number(count, 100000);
+    let Some(found) = measure(&rt, alloc, mix(form), gates, number(vars, 8), count)? else {
+        return println!(rt; "no result");
+    };
+    let nets = gates.saturating_add(8);
+    let used = found.used;
+    println!(rt; "{form}: {nets} nets, {used} nodes")?;
+    let first = found.first;
+    let each = found.others.checked_div(count as u64).unwrap_or(0);
+    let net = each.checked_div(nets as u64).unwrap_or(0);
+    eprintln!(rt; "{form}: first step {first} ns, then {each} ns a step, {net} ns a net")
+}

@@ -1,0 +1,502 @@
+//! The sets of two time steps of small nets, under each assignment of two variables, against the verdicts of the plain
+//! checker on the claim that a net has 1.
+
+ghost use Rattle.std.specs.Prelude.{◌≡◌, ◌≤◌, ◌<◌, ℕ, All, IfOk, IsTrue, length, map, nat_le};
+ghost use Rattle.std.specs.List.{list_all};
+ghost use Rattle.dd_nodes.specs.Stores.{Store, IsRef, Keeps};
+ghost use Rattle.net_core.specs.Cases.{cases_of};
+ghost use Rattle.dual_rail.specs.Rail.{AreRefs};
+ghost use Rattle.sym_step.specs.Step.{IsCutOf, rows_of};
+
+use blif_lines::logical_lines;
+use blif_syntax::read_models;
+use bool_expr::Expr;
+use dd_nodes::{Nodes, PlainNodes, Ref};
+use dd_ops::Ops;
+use dual_rail::{Rails, free};
+use flat_net::flatten;
+use net_core::{BitSet, Cover, Gate, Net, cases, order};
+use net_names::NetNames;
+use plain_check::verdict;
+use std::alloc::{AllocError, Global};
+use std::test::Fail;
+use ste_base::{Items, Name, NodeId, Time};
+use ste_model::{Assertion, Quint, Verdict};
+use sym_step::{Cut, GateRows, Step, step};
+
+/// A bit, or one of two variables.
+#[derive(Clone, Copy, Debug, Drop)]
+enum Bit {
+    Zero,
+    One,
+    P,
+    Q,
+}
+
+/// What is asked of a net at time 0.
+#[derive(Clone, Copy, Debug, Drop)]
+struct Asked {
+    node: NodeId,
+    guard: Bit,
+    value: Bit,
+}
+
+/// A net with the names of its nets.
+#[derive(Drop)]
+struct Named {
+    net: Net,
+    names: NetNames,
+    ghost narrow: { All (λ gate. length gate.inputs ≤ 8) net.raw.gates },
+}
+
+impl Bit {
+    /// Its reference, where the variables have these.
+    fn reference(self, p: Ref, q: Ref) -> Ref
+        ensures { (s : Store) → IsRef s p → IsRef s q → IsRef s result }
+    {
+        match self {
+            Bit::Zero => Ref::FALSE,
+            Bit::One => Ref::TRUE,
+            Bit::P => p,
+            Bit::Q => q,
+        }
+    }
+
+    /// Its value under an assignment.
+    fn value(self, p: bool, q: bool) -> bool {
+        match self {
+            Bit::Zero => false,
+            Bit::One => true,
+            Bit::P => p,
+            Bit::Q => q,
+        }
+    }
+}
+
+/// Whether each gate has at most eight inputs.
+fn all_narrow(gates: &[Gate]) -> bool
+    ensures { result ≡ list_all (λ gate. nat_le (length gate.inputs) 8) gates.now }
+{
+    gates.iter().all(|gate| gate.inputs.len() <= 8)
+}
+
+/// The net of a text.
+fn net_of(alloc: Global, text: &[u8]) -> Result<Named, Fail>
+    requires { length text.now ≤ 10000 }
+{
+    let lines = logical_lines(alloc, text)?;
+    let Ok(models) = read_models(alloc, lines.as_slice()) else {
+        return Err("no models".into());
+    };
+    let (raw, names) = match flatten(alloc, &models) {
+        Ok(made) => made,
+        Err(_) => return Err("no flat net".into()),
+    };
+    match order(alloc, raw) {
+        Ok(net) => {
+            if all_narrow(net.gates()) {
+                Ok(Named { net, names })
+            } else {
+                Err("a wide gate".into())
+            }
+        }
+        Err(_) => Err("no order".into()),
+    }
+}
+
+/// Whether each cover is narrow enough for its rows to be made.
+fn are_few(alloc: Global, covers: &[Cover]) -> Result<bool, AllocError>
+    ensures inputs { IfOk result (λ few. IsTrue few → All (λ cover. cover.inputs ≤ 1000) covers.now) }
+    ensures cases { IfOk result (λ few. IsTrue few
+        → All (λ cover. cases_of cover.inputs cover.rows ≤ 65536) covers.now) }
+{
+    for cover in covers {
+        if cover.inputs > 1000 || cases(alloc, cover)? > 65536 {
+            return Ok(false);
+        }
+    }
+    Ok(true)
+}
+
+/// What is asked, by number.
+fn asked_of(
+    alloc: Global,
+    names: &NetNames,
+    nets: u32,
+    asked: &[(&str, Bit, Bit)],
+) -> Result<Vec<Asked>, Fail>
+    ensures { IfOk result (λ found. All (λ a. a.node.0 < nets) found.items) }
+{
+    let mut found = Vec::new(alloc);
+    for (name, guard, value) in asked {
+        let Some(node) = names.resolve(name.as_bytes()) else {
+            return Err("no such net".into());
+        };
+        if node.0 >= nets {
+            return Err("no such number".into());
+        }
+        found.push(Asked {
+            node,
+            guard: *guard,
+            value: *value,
+        })?;
+    }
+    Ok(found)
+}
+
+/// The cuts for what is asked.
+fn cuts_of<N: Nodes>(
+    alloc: Global,
+    nodes: &N,
+    net: &Net,
+    asked: &[Asked],
+    p: Ref,
+    q: Ref,
+) -> Result<Vec<Cut>, AllocError>
+    requires p { IsRef (N.store nodes.now) p }
+    requires q { IsRef (N.store nodes.now) q }
+    requires asked { All (λ a. a.node.0 < net.now.raw.nets) asked.now }
+    ensures { IfOk result (λ cuts. All (IsCutOf (N.store nodes.now) net.now.raw) cuts.items) }
+{
+    let _ = nodes;
+    let _ = net;
+    let mut cuts = Vec::new(alloc);
+    for a in asked {
+        cuts.push(Cut {
+            node: a.node,
+            guard: a.guard.reference(p, q),
+            value: a.value.reference(p, q),
+        })?;
+    }
+    Ok(cuts)
+}
+
+/// The bit of a diagram under an assignment.
+fn bit_of<N: Nodes>(nodes: &mut N, r: Ref, bits: &[bool]) -> bool
+    requires { IsRef (N.store nodes.old) r }
+    ensures { N.store nodes.new ≡ N.store nodes.old }
+{
+    let mut at = r;
+    for _ in 0..3 {
+        if at.0 < 2 {
+            return at == Ref::TRUE;
+        }
+        let node = nodes.node(at);
+        at = if bits.get(node.var as usize).copied().unwrap_or(false) {
+            node.hi
+        } else {
+            node.lo
+        };
+    }
+    false
+}
+
+/// The sets of nets under an assignment.
+fn sets_under<N: Nodes>(
+    alloc: Global,
+    nodes: &mut N,
+    rails: &[Rails],
+    bits: &[bool],
+) -> Result<Vec<BitSet>, AllocError>
+    requires { All (AreRefs (N.store nodes.old)) rails.now }
+    ensures { N.store nodes.new ≡ N.store nodes.old }
+{
+    let mut sets = Vec::new(alloc);
+    for r in rails {
+        let zero = bit_of(nodes, r.can0, bits);
+        let one = bit_of(nodes, r.can1, bits);
+        sets.push(BitSet { zero, one })?;
+    }
+    Ok(sets)
+}
+
+/// The bits of p and q under each assignment.
+const ASSIGNMENTS: &[(bool, bool)] = &[(false, false), (false, true), (true, false), (true, true)];
+
+/// The sets of nets under each assignment.
+fn table_of<N: Nodes>(
+    alloc: Global,
+    nodes: &mut N,
+    rails: &[Rails],
+) -> Result<Vec<Vec<BitSet>>, AllocError>
+    requires { All (AreRefs (N.store nodes.old)) rails.now }
+    ensures { N.store nodes.new ≡ N.store nodes.old }
+{
+    let mut table = Vec::new(alloc);
+    for (p, q) in ASSIGNMENTS {
+        table.push(sets_under(alloc, nodes, rails, &[*p, *q])?)?;
+    }
+    Ok(table)
+}
+
+/// A latch set for each latch: both bits.
+fn unknowns(alloc: Global, latches: usize) -> Result<Vec<Rails>, AllocError>
+    ensures long { IfOk result (λ sets. length sets.items ≡ latches) }
+    ensures refs { (s : Store) → IfOk result (λ sets. All (AreRefs s) sets.items) }
+{
+    let mut sets = Vec::new(alloc);
+    for _ in 0..latches {
+        sets.push(free())?;
+    }
+    Ok(sets)
+}
+
+/// One step; an error where nodes are wanting.
+fn step_of<N: Nodes>(
+    alloc: Global,
+    ops: &Ops,
+    nodes: &mut N,
+    net: &Net,
+    rows: &GateRows,
+    latches: &[Rails],
+    cuts: &[Cut],
+) -> Result<Step, Fail>
+    requires rows { rows.now.covers ≡ map rows_of net.now.raw.covers }
+    requires long { length latches.now ≡ length net.now.raw.latches }
+    requires latches { All (AreRefs (N.store nodes.old)) latches.now }
+    requires cuts { All (IsCutOf (N.store nodes.old) net.now.raw) cuts.now }
+    ensures refs { IfOk result (λ r. All (AreRefs (N.store nodes.new)) r.nets) }
+    ensures next { IfOk result (λ r. All (AreRefs (N.store nodes.new)) r.next) }
+{
+    match step(alloc, ops, nodes, net, rows, latches, cuts) {
+        Ok(made) => Ok(made),
+        Err(_) => Err("no step".into()),
+    }
+}
+
+/// The sets of the nets at time 0 under each assignment, and those at time 1, where nothing is asked.
+fn tables_of<N: Nodes>(
+    alloc: Global,
+    ops: &Ops,
+    nodes: &mut N,
+    net: &Net,
+    rows: &GateRows,
+    asked: &[Asked],
+) -> Result<(Vec<Vec<BitSet>>, Vec<Vec<BitSet>>), Fail>
+    requires vars { 2 ≤ (N.store nodes.old).vars }
+    requires rows { rows.now.covers ≡ map rows_of net.now.raw.covers }
+    requires asked { All (λ a. a.node.0 < net.now.raw.nets) asked.now }
+{
+    let Ok(p) = ops.var(nodes, 0) else {
+        return Err("no variable".into());
+    };
+    let Ok(q) = ops.var(nodes, 1) else {
+        return Err("no variable".into());
+    };
+    let cuts = cuts_of(alloc, &*nodes, net, asked, p, q)?;
+    let latches = unknowns(alloc, net.latches().len())?;
+    let made = step_of(alloc, ops, nodes, net, rows, &latches, &cuts)?;
+    let now = table_of(alloc, nodes, made.nets.as_slice())?;
+    if made.next.len() != net.latches().len() {
+        return Err("not a set for each latch".into());
+    }
+    let then = step_of(alloc, ops, nodes, net, rows, made.next.as_slice(), &[])?;
+    let later = table_of(alloc, nodes, then.nets.as_slice())?;
+    Ok((now, later))
+}
+
+/// What is asked under an assignment, as the antecedent of a task.
+fn given_of(
+    alloc: Global,
+    net: &Net,
+    asked: &[Asked],
+    p: bool,
+    q: bool,
+) -> Result<Items<Quint>, AllocError>
+    requires { All (λ a. a.node.0 < net.now.raw.nets) asked.now }
+    ensures { IfOk result (λ quints. All (λ quint. quint.node.0 < net.now.raw.nets) quints) }
+{
+    let _ = net;
+    let mut quints = Items::new(alloc);
+    for a in asked {
+        quints.push(Quint {
+            guard: Expr::Const(a.guard.value(p, q)),
+            node: a.node,
+            value: Expr::Const(a.value.value(p, q)),
+            from: 0,
+            to: 1,
+        })?;
+    }
+    Ok(quints)
+}
+
+/// The plain checker's verdict on the claim that the net has 1 at the time.
+fn plain_verdict(
+    alloc: Global,
+    net: &Net,
+    given: Items<Quint>,
+    id: u32,
+    time: Time,
+) -> Result<Verdict, AllocError>
+    requires widths { All (λ gate. length gate.inputs ≤ 8) net.now.raw.gates }
+    requires given { All (λ quint. quint.node.0 < net.now.raw.nets) given }
+{
+    let claim = Quint {
+        guard: Expr::Const(true),
+        node: NodeId(id),
+        value: Expr::Const(true),
+        from: time,
+        to: time.saturating_add(1),
+    };
+    let task = Assertion {
+        name: Name::from_bytes(alloc, b"t")?,
+        reset: false,
+        ant: given,
+        con: Items::from(Vec::from_array(alloc, [claim])?),
+    };
+    verdict(alloc, net, 0, &task)
+}
+
+/// The verdict that these sets of all nets up to the time give on the same claim.
+fn wanted(sets: &[BitSet], before: &[BitSet], id: usize) -> Verdict {
+    let empty = |set: &BitSet| !set.zero && !set.one;
+    if sets.iter().any(empty) || before.iter().any(empty) {
+        return Verdict::Vacuous;
+    }
+    match sets.get(id) {
+        Some(set) if set.zero && set.one => Verdict::Weak,
+        Some(set) if set.zero => Verdict::Strong,
+        _ => Verdict::Pass,
+    }
+}
+
+/// Whether the tables of a net agree with the plain checker.
+fn agrees(
+    alloc: Global,
+    named: &Named,
+    asked: &[Asked],
+    now: &[Vec<BitSet>],
+    later: &[Vec<BitSet>],
+) -> Result<bool, AllocError>
+    requires asked { All (λ a. a.node.0 < named.now.net.raw.nets) asked.now }
+{
+    let net = &named.net;
+    for ((p, q), (first, second)) in ASSIGNMENTS.iter().zip(now.iter().zip(later)) {
+        for id in 0..net.nets() {
+            let given = given_of(alloc, net, asked, *p, *q)?;
+            if plain_verdict(alloc, net, given, id, 0)? != wanted(first, first, id as usize) {
+                return Ok(false);
+            }
+            let given = given_of(alloc, net, asked, *p, *q)?;
+            if plain_verdict(alloc, net, given, id, 1)? != wanted(second, first, id as usize) {
+                return Ok(false);
+            }
+        }
+    }
+    Ok(true)
+}
+
+const INVERTER: &str = ".model inv\n.inputs a\n.outputs y\n.names a y\n0 1\n.end\n";
+
+const MUX: &str = ".model mux\n.inputs s a b\n.outputs y\n.names s a b y\n01- 1\n1-1 1\n.end\n";
+
+const AND_NOT: &str =
+    ".model an\n.inputs a b\n.outputs y\n.names b n\n0 1\n.names a n y\n11 1\n.end\n";
+
+const NEITHER: &str =
+    ".model no\n.inputs a b\n.outputs y z\n.names a b y\n00 1\n.names a y z\n01 0\n.end\n";
+
+const DIFFER: &str =
+    ".model xo\n.inputs a b\n.outputs y z\n.names a b y\n10 1\n01 1\n.names a y z\n1- 0\n-1 0\n.end\n";
+
+const THREE: &str =
+    ".model th\n.inputs a b c\n.outputs y z\n.names a b c y\n011 1\n.names a b c y z\n1-10 1\n0--1 1\n.end\n";
+
+const BOTH: &str =
+    ".model both\n.inputs a\n.outputs y\n.names a n\n0 1\n.names a n y\n11 1\n.end\n";
+
+const TOGGLE: &str =
+    ".model toggle\n.inputs a\n.outputs q y\n.names q n\n0 1\n.names q a y\n11 1\n.latch n q\n.end\n";
+
+const SHIFT: &str =
+    ".model shift\n.inputs d e\n.outputs c\n.names d e n\n1- 1\n-1 1\n.latch n a\n.latch a b\n.latch b c\n.end\n";
+
+/// A net by its text, and what is asked at time 0: for a net, guard and value.
+const CASES: &[(&str, &[(&str, Bit, Bit)])] = &[
+    (INVERTER, &[("a", Bit::One, Bit::P)]),
+    (INVERTER, &[("a", Bit::P, Bit::Q), ("y", Bit::Q, Bit::P)]),
+    (
+        INVERTER,
+        &[("a", Bit::One, Bit::P), ("a", Bit::One, Bit::Q)],
+    ),
+    (
+        MUX,
+        &[
+            ("s", Bit::One, Bit::P),
+            ("a", Bit::One, Bit::Q),
+            ("b", Bit::One, Bit::Zero),
+        ],
+    ),
+    (MUX, &[("a", Bit::One, Bit::P), ("b", Bit::One, Bit::P)]),
+    (MUX, &[("s", Bit::P, Bit::Q), ("a", Bit::Q, Bit::P)]),
+    (AND_NOT, &[("a", Bit::One, Bit::P), ("b", Bit::One, Bit::Q)]),
+    (
+        AND_NOT,
+        &[
+            ("a", Bit::P, Bit::One),
+            ("b", Bit::Q, Bit::P),
+            ("n", Bit::P, Bit::Q),
+        ],
+    ),
+    (NEITHER, &[("a", Bit::One, Bit::P), ("b", Bit::One, Bit::Q)]),
+    (NEITHER, &[("a", Bit::P, Bit::Q)]),
+    (
+        NEITHER,
+        &[
+            ("a", Bit::One, Bit::P),
+            ("a", Bit::Q, Bit::Zero),
+            ("b", Bit::P, Bit::One),
+        ],
+    ),
+    (DIFFER, &[("a", Bit::One, Bit::P), ("b", Bit::One, Bit::Q)]),
+    (DIFFER, &[("a", Bit::One, Bit::P), ("b", Bit::P, Bit::Q)]),
+    (DIFFER, &[("a", Bit::One, Bit::P), ("y", Bit::One, Bit::Q)]),
+    (THREE, &[("a", Bit::One, Bit::P), ("b", Bit::One, Bit::Q)]),
+    (
+        THREE,
+        &[
+            ("a", Bit::P, Bit::Q),
+            ("b", Bit::Q, Bit::P),
+            ("c", Bit::One, Bit::P),
+        ],
+    ),
+    (BOTH, &[("a", Bit::One, Bit::P)]),
+    (BOTH, &[]),
+    (TOGGLE, &[("q", Bit::One, Bit::P), ("a", Bit::P, Bit::Q)]),
+    (TOGGLE, &[("q", Bit::Q, Bit::P), ("a", Bit::One, Bit::Q)]),
+    (
+        SHIFT,
+        &[
+            ("d", Bit::One, Bit::P),
+            ("e", Bit::Q, Bit::P),
+            ("a", Bit::P, Bit::Q),
+        ],
+    ),
+];
+
+/// Whether both steps of a net of a text agree with the plain checker.
+fn case_agrees(alloc: Global, text: &[u8], asked: &[(&str, Bit, Bit)]) -> Result<bool, Fail>
+    requires { length text.now ≤ 10000 }
+{
+    let named = net_of(alloc, text)?;
+    let asked = asked_of(alloc, &named.names, named.net.nets(), asked)?;
+    if !are_few(alloc, named.net.covers())? {
+        return Err("too many cases".into());
+    }
+    let rows = GateRows::of(alloc, &named.net)?;
+    let ops = Ops::new(alloc);
+    let mut nodes = PlainNodes::new(alloc, 2, 100)?;
+    let (now, later) = tables_of(alloc, &ops, &mut nodes, &named.net, &rows, &asked)?;
+    Ok(agrees(alloc, &named, &asked, &now, &later)?)
+}
+
+#[test]
+fn steps_agree_with_the_plain_checker(rt: HostRuntime) -> Result<(), Fail> {
+    let alloc = rt.alloc();
+    for (text, asked) in CASES {
+        let bytes = text.as_bytes();
+        assert!(rt; bytes.len() <= 10000);
+        assert!(rt; case_agrees(alloc, bytes, asked)?, "{text}");
+    }
+    Ok(())
+}
