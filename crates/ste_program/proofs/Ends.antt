@@ -124,12 +124,12 @@ ended_faulted command files files' out err err' found result why (inr (inr broke
 pub ended_refused : (command : Option Command) (files files' : FilesState) (out err err' : SinkState) (found : Refusal) (result : Status) → WhyUnprepared command files files' found → IsEnded command found result err err' → result ≡ Refused → WasRefused command files files' out out err err'
 ended_refused command files files' out err err' (refusal.CannotRead which) result why (inl (inl told)) e = absurd (cc (told.0, e))
 ended_refused command files files' out err err' refusal.OutOfMemory result why (inl (inl told)) e = absurd (cc (told.0, e))
-ended_refused command files files' out err err' refusal.NotYet result why (inl (inl told)) e = record { found = refusal.NotYet; kind = refl; first = why.1; asking = why.0; untouched = refl; told = told.1 }
-ended_refused command files files' out err err' (refusal.Netlist fault) result why (inl (inl told)) e = record { found = refusal.Netlist fault; kind = refl; first = why.1; asking = why.0; untouched = refl; told = told.1 }
-ended_refused command files files' out err err' (refusal.Tasks fault) result why (inl (inl told)) e = record { found = refusal.Tasks fault; kind = refl; first = why.1; asking = why.0; untouched = refl; told = told.1 }
-ended_refused command files files' out err err' (refusal.Hierarchy fault) result why (inl (inl told)) e = record { found = refusal.Hierarchy fault; kind = refl; first = why.1; asking = why.0; untouched = refl; told = told.1 }
-ended_refused command files files' out err err' (refusal.Loop name) result why (inl (inl told)) e = record { found = refusal.Loop name; kind = refl; first = why.1; asking = why.0; untouched = refl; told = told.1 }
-ended_refused command files files' out err err' (refusal.Binding fault) result why (inl (inl told)) e = record { found = refusal.Binding fault; kind = refl; first = why.1; asking = why.0; untouched = refl; told = told.1 }
+ended_refused command files files' out err err' refusal.NotYet result why (inl (inl told)) e = record { found = refusal.NotYet; kind = refl; first = why.1; grounded = why.2; asking = why.0; untouched = refl; told = told.1 }
+ended_refused command files files' out err err' (refusal.Netlist fault) result why (inl (inl told)) e = record { found = refusal.Netlist fault; kind = refl; first = why.1; grounded = why.2; asking = why.0; untouched = refl; told = told.1 }
+ended_refused command files files' out err err' (refusal.Tasks fault) result why (inl (inl told)) e = record { found = refusal.Tasks fault; kind = refl; first = why.1; grounded = why.2; asking = why.0; untouched = refl; told = told.1 }
+ended_refused command files files' out err err' (refusal.Hierarchy fault) result why (inl (inl told)) e = record { found = refusal.Hierarchy fault; kind = refl; first = why.1; grounded = why.2; asking = why.0; untouched = refl; told = told.1 }
+ended_refused command files files' out err err' (refusal.Loop name) result why (inl (inl told)) e = record { found = refusal.Loop name; kind = refl; first = why.1; grounded = why.2; asking = why.0; untouched = refl; told = told.1 }
+ended_refused command files files' out err err' (refusal.Binding fault) result why (inl (inl told)) e = record { found = refusal.Binding fault; kind = refl; first = why.1; grounded = why.2; asking = why.0; untouched = refl; told = told.1 }
 ended_refused command files files' out err err' found result why (inl (inr broke)) e = absurd (cc (broke.0, e))
 ended_refused command files files' out err err' found result why (inr (inl told)) e = absurd (cc (told.0, e))
 ended_refused command files files' out err err' found result why (inr (inr broke)) e = absurd (cc (broke.0, e))

@@ -80,6 +80,7 @@ second_of_two command before between after text refusal.NotYet (stands, small, f
       let silent = held_silent command store text (held_where_told command.net before.holds text stands store told) small in
       let large = large_where_told command.tasks between.holds why.0 store (ap (λ (s : FilesState). s.holds) first ∙ told) in
       inr (silent.0, inr (silent.1.0, inr ((λ other h. not_missing (get store command.tasks) (λ bytes. greatest < length bytes) large h.1), inl (refl, large))))),
+  inl (refl, inr (subst (λ (s : FilesState). IsTooLarge s.holds command.tasks greatest) first why.0)),
 )
 second_of_two command before between after text refusal.OutOfMemory (stands, small, first) (inl why) =
     (2, why ∙ (ap (λ (s : FilesState). asked_for s command.tasks) first ∙ asked_two before command.net command.tasks))

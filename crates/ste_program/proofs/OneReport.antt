@@ -276,11 +276,11 @@ verdicts_same net other vars (Ste t ∷ tasks) (Ste u ∷ twins) (v ∷ verdicts
         ap (λ (n : List ℕ). n ++ codes ": " ++ verdict_words v ++ codes "\n") name ∙ ap (λ x. u.name ++ codes ": " ++ verdict_words x ++ codes "\n") verdict
 
 pub reports_same : (models : List Model) (net other : RawNet) (tasks twins : Tasks) (passes others : Bool) (bytes others_bytes : List ℕ) → IsFlat models net → IsFlat models other → tasks.vars ≡ twins.vars → map task_tree tasks.tasks ≡ map task_tree twins.tasks →
-    IsReportOn net tasks passes bytes → IsReportOn other twins others others_bytes → (passes ≡ others) × (bytes ≡ others_bytes)
+    (one : IsReportOn net tasks passes bytes) (two : IsReportOn other twins others others_bytes) → (passes ≡ others) × (bytes ≡ others_bytes) × (one.verdicts ≡ two.verdicts)
 reports_same models net other tasks twins passes others bytes others_bytes f g vars trees one two =
     let judged = subst (λ (names : List (List ℕ)). AllZip (IsVerdictOn net (length names)) tasks.tasks one.verdicts) vars one.judged in
     let both = verdicts_same net other (length twins.vars) tasks.tasks twins.tasks one.verdicts two.verdicts (flats_same models net other f g) (flats_same models other net g f) trees judged two.judged in
-    (one.passing ∙ (ap (list_all is_pass) both.0 ∙ sym two.passing), one.written ∙ (both.1 ∙ sym two.written))
+    (one.passing ∙ (ap (list_all is_pass) both.0 ∙ sym two.passing), one.written ∙ (both.1 ∙ sym two.written), both.0)
 
 -- what stands under a name is one text
 one_text : (held : Option (List ℕ)) (one other : List ℕ) → held ≡ Some one → held ≡ Some other → one ≡ other

@@ -24,7 +24,7 @@ use Rattle.task_binding.specs.Answer.{IsAnswer}
 use Rattle.task_binding.specs.declared.fault.BindFault.{BindFault}
 use Rattle.task_binding.specs.declared.fault.BindFault.TheVariants as bind
 use Rattle.task_binding.proofs.Alike as binding
-use Rattle.ste_program.specs.Answer.{AskedSome, WhyUnprepared}
+use Rattle.ste_program.specs.Answer.{AskedSome, IsGrounded, WhyUnprepared}
 use Rattle.ste_program.specs.Command.{Command}
 use Rattle.ste_program.specs.Netlist.{IsLoop, IsNetlist}
 use Rattle.ste_program.specs.Order.{AllSilent, CannotBind, IsFirst, IsUnchecked, OneRefusal, PreparedIsNotRefused, has_faulty_hierarchy, has_faulty_tasks, has_loop, is_faulty, is_in_texts, is_unbound, refusals, text_stages}
@@ -246,7 +246,8 @@ one_refusal command store one other f g = one_first (refusals command store) one
 
 -- the first refusal of both texts is the first
 behind_files : (command : Command) (before after : FilesState) (net_text task_text : List ℕ) → AreTexts command before after net_text task_text →
-    (found : Refusal) → IsFirst (text_stages net_text task_text) found → AskedSome (Some command) before after × ((store : Store) → before.holds ≡ Some store → IsFirst (refusals (Some command) store) found)
+    (found : Refusal) → IsFirst (text_stages net_text task_text) found →
+    AskedSome (Some command) before after × ((store : Store) → before.holds ≡ Some store → IsFirst (refusals (Some command) store) found) × IsGrounded (Some command) before found
 behind_files command before after net_text task_text texts found first = (
   (2, texts.asking),
   (λ store told.
@@ -268,6 +269,7 @@ behind_files command before after net_text task_text texts found first = (
           ),
         ),
       )),
+  inr (net_text, task_text, texts.net, texts.tasks, first),
 )
 
 -- the texts that were fetched are not checked

@@ -1,12 +1,12 @@
 -- Meaning. How a run of the program ends, from the states of the files (`files`), the output (`out`) and the error sink (`err`)
--- before it, and after it (`files'`, `out'`, `err'`). Meaning.
-use Rattle.std.specs.Prelude.{◌≡◌, ◌<◌, ◌≤◌, ◌⊎◌, ℕ, Bool, List, length, take, Option, Some}
+-- before it, and after it (`files'`, `out'`, `err'`). Source: this project's own choice.
+use Rattle.std.specs.Prelude.{◌≡◌, ◌<◌, ◌≤◌, ◌⊎◌, ℕ, Bool, List, length, take, Option, Some, None}
 use Rattle.ste_io.specs.Causes.{Rose}
 use Rattle.ste_program.specs.Command.{Command, files_of, files_up_to}
 use Rattle.ste_program.specs.Message.{cannot_write, message_of, out_of_memory}
-use Rattle.ste_program.specs.Order.{AllSilent, IsFirst, refusals, stages_before}
-use Rattle.ste_io.specs.Outside.{FilesState, SinkState, Store, WriteFailed, took, with_names}
-use Rattle.ste_program.specs.Report.{IsReport}
+use Rattle.ste_program.specs.Order.{AllSilent, IsFirst, refusals, stages_before, text_stages}
+use Rattle.ste_io.specs.Outside.{FilesState, IsTooLarge, SinkState, StandsAt, Store, WriteFailed, took, with_names}
+use Rattle.ste_program.specs.Report.{IsReport, greatest}
 use Rattle.ste_program.specs.declared.refusal.File.{File}
 use Rattle.ste_program.specs.declared.refusal.Refusal.{Refusal}
 use Rattle.ste_program.specs.declared.refusal.Refusal.TheVariants as refusal
@@ -43,11 +43,21 @@ status_of (refusal.CannotRead which) = status.Faulted
 status_of refusal.OutOfMemory = status.NoMemory
 status_of found = status.Refused
 
+-- What a refusal stands on, whether or not the files tell what they hold: the words; a file that is too large; or two texts,
+-- which stand under the names of the command's files where it is told, and whose first refusal it is.
+abbrev pub IsGrounded : Option Command → FilesState → Refusal → Type 0
+IsGrounded None files found = found ≡ refusal.NotYet
+IsGrounded (Some command) files found =
+    ((found ≡ refusal.NotYet) × (IsTooLarge files.holds command.net greatest ⊎ IsTooLarge files.holds command.tasks greatest))
+    ⊎ ((net_text : List ℕ) × (task_text : List ℕ) × StandsAt files.holds command.net net_text
+    × StandsAt files.holds command.tasks task_text × IsFirst (text_stages net_text task_text) found)
+
 -- Status 2: the first refusal was told, and no more happened.
 pub record WasRefused (command : Option Command) (files files' : FilesState) (out out' err err' : SinkState) : Type 0 where
   pub found : Refusal
   pub kind : status_of found ≡ status.Refused
   pub first : (store : Store) → files.holds ≡ Some store → IsFirst (refusals command store) found
+  pub grounded : IsGrounded command files found
   pub asking : AskedSome command files files'
   pub untouched : out' ≡ out
   pub told : WentOut (message_of command found) err err'
@@ -67,6 +77,7 @@ WhyUnprepared command files files' (refusal.CannotRead which) = (asked : Command
 WhyUnprepared command files files' refusal.OutOfMemory = AskedSome command files files'
 WhyUnprepared command files files' found =
     AskedSome command files files' × ((store : Store) → files.holds ≡ Some store → IsFirst (refusals command store) found)
+    × IsGrounded command files found
 
 -- Status 3, a file could not be read: the message says so, or the error sink failed within it.
 pub record ReadFault (command : Option Command) (files files' : FilesState) (out out' err err' : SinkState) : Type 0 where

@@ -1,4 +1,4 @@
--- Meaning. What the words of the command line ask for.
+-- Meaning. What the words of the command line ask for. Source: this project's own choice.
 use Rattle.std.specs.Prelude.{ℕ, List, [], ◌∷◌, length, codes, Option, Some, None, String, string_bytes, nat_eq, slice_get, cond}
 use Rattle.std.specs.Str.{bytes_eq}
 use Rattle.std.specs.declared.alloc.Global.{Global}

@@ -1,4 +1,5 @@
 -- Meaning. What the text of a netlist spells, and why it spells nothing; and the loop for which a netlist is refused.
+-- Source: this project's own choice.
 use Rattle.std.specs.Prelude.{◌≡◌, ◌≢◌, ◌<◌, [], ℕ, List, length, map, None, Some, Err, slice_get}
 use Rattle.blif_lines.specs.Lines.{lines_of}
 use Rattle.blif_syntax.specs.Answer.{IsAnswer, entries_of}

@@ -1,5 +1,5 @@
 -- Meaning, and a law. The reading of two texts: the netlist that the one spells, its flat net, and over this net the tasks that
--- the other spells.
+-- the other spells. Source: this project's own choice.
 use Rattle.std.specs.Prelude.{◌≡◌, ℕ, ◌&&◌, Bool, true, false, List, length, map, nat_le, IsTrue, Ok}
 use Rattle.std.specs.List.{list_all}
 use Rattle.blif_syntax.specs.declared.models.Model.{Model}

@@ -1,4 +1,4 @@
--- Meaning. The refusal that goes with a layer's own fault.
+-- Meaning. The refusal that goes with a layer's own fault. Source: this project's own choice.
 use Rattle.blif_syntax.specs.declared.fault.BlifFault.{BlifFault}
 use Rattle.blif_syntax.specs.declared.fault.BlifFault.TheVariants as blif
 use Rattle.hierarchy.specs.declared.fault.NetFault.{NetFault}

@@ -1,4 +1,5 @@
 -- Meaning, and two laws. The report on the texts of a netlist and of a task file: what is prepared, and what is written.
+-- Source: this project's own choice.
 use Rattle.std.specs.Prelude.{◌≡◌, ◌≤◌, ◌⊎◌, ◌++◌, ℕ, Bool, true, false, List, length, codes, Option, Some, slice_get, zip}
 use Rattle.std.specs.List.{AllZip, flat_map, list_all}
 use Rattle.blif_syntax.specs.declared.models.Model.{Model}
@@ -83,9 +84,9 @@ PassHolds command files =
     slice_get report.tasks.tasks place ≡ Some (Ste task) → slice_get report.report.verdicts place ≡ Some verdict →
     (verdict ≡ Pass) ⊎ (verdict ≡ Vacuous) → HoldsOf report.models (length report.tasks.vars) task
 
--- Law: on what the files hold, where they tell it, a command has one report at most.
+-- Law: on what the files hold, where they tell it, a command has one report at most, with one list of verdicts.
 abbrev pub OneReport : Type 0
 OneReport =
     (command : Option Command) (files : FilesState) (store : Store) → files.holds ≡ Some store →
-    (passes others : Bool) (bytes others_bytes : List ℕ) → IsReport command files passes bytes → IsReport command files others others_bytes →
-    (passes ≡ others) × (bytes ≡ others_bytes)
+    (passes others : Bool) (bytes others_bytes : List ℕ) (one : IsReport command files passes bytes) (other : IsReport command files others others_bytes) →
+    (passes ≡ others) × (bytes ≡ others_bytes) × (one.report.verdicts ≡ other.report.verdicts)

@@ -1,4 +1,4 @@
--- Meaning. What the text of a task file spells, and why it spells nothing.
+-- Meaning. What the text of a task file spells, and why it spells nothing. Source: this project's own choice.
 use Rattle.std.specs.Prelude.{◌≢◌, ℕ, List, Ok, Err}
 use Rattle.blif_lines.specs.Lines.{lines_of}
 use Rattle.assert_syntax.specs.Answer.{IsAnswer, entries_of}
