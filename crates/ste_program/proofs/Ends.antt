@@ -161,7 +161,7 @@ pub passes_hold : (command : Option Command) (files : FilesState) → PassHolds 
 passes_hold command files passes bytes report place task verdict here there says =
     let reading = report.prepared.reading in
     let judged : IsVerdictOf report.net (length report.tasks.vars) task verdict =
-        at_place (IsVerdictOn report.net (length report.tasks.vars)) report.tasks.tasks report.report.verdicts place (Ste task) verdict report.report.judged here there in
+    at_place (IsVerdictOn report.net (length report.tasks.vars)) report.tasks.tasks report.report.verdicts place (Ste task) verdict report.report.judged here there in
     held report.models report.net (length report.tasks.vars) task reading.sound reading.flat
     (pass_holds report.net (length report.tasks.vars) task verdict reading.settled says judged)
 

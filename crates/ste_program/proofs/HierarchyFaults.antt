@@ -29,7 +29,7 @@ same_line models kind one other once f g numbers places =
     let b = g.line.found in
     let model : f.line.model ≡ g.line.model = let both : Some f.line.model ≡ Some g.line.model = sym a ∙ (ap (slice_get models) numbers ∙ b) in cc in
     let item : f.item ≡ g.item =
-        let both : Some f.item ≡ Some g.item = sym f.line.at ∙ (ap (λ (m : Model). slice_get m.items f.place) model ∙ (ap (slice_get g.line.model.items) places ∙ g.line.at)) in cc in
+    let both : Some f.item ≡ Some g.item = sym f.line.at ∙ (ap (λ (m : Model). slice_get m.items f.place) model ∙ (ap (slice_get g.line.model.items) places ∙ g.line.at)) in cc in
     once g.number g.item one other (subst (λ n. kind n g.item one) numbers (subst (λ i. kind f.number i one) item f.faulty)) g.faulty
 
 by_place : (models : List Model) (kind : ℕ → Item → NetFault → Type 0) (one other : NetFault) → OnceALine kind → (f : IsFirst models kind one) → (g : IsFirst models kind other) → f.number ≡ g.number →

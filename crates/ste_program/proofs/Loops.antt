@@ -51,9 +51,9 @@ settled_alike net other same (suc level) id h = λ k d l drives.
     let at = gate_alike net.gates other.gates k d same l in
     let before = h k d at.0 (at.1.0 ∙ drives) in
     λ j e m.
-        let input = inputs_alike (get_or net.gates k d).inputs (get_or other.gates k d).inputs at.1.1 j e m in
-        settled_alike net other same level (get_or (get_or other.gates k d).inputs j e).0
-        (subst (λ n. IsSettledAt net level n) input.1 (before j e input.0))
+    let input = inputs_alike (get_or net.gates k d).inputs (get_or other.gates k d).inputs at.1.1 j e m in
+    settled_alike net other same level (get_or (get_or other.gates k d).inputs j e).0
+    (subst (λ n. IsSettledAt net level n) input.1 (before j e input.0))
 
 -- what settles in one of the flat nets settles in the other
 settles_alike : (models : List Model) (net other : RawNet) → IsFlat models net → IsFlat models other → (id : ℕ) → Settles net id → Settles other id

@@ -116,8 +116,8 @@ possible_moved : (net other : RawNet) (held : List BitSet) (asked : Asked) (sets
 possible_moved net other held asked sets same back h = record {
   long = h.long ∙ ap length same.latches;
   each = λ id bit. (
-      (λ inside. let may = (h.each id bit).0 inside in record { source = source_moved net other held sets id bit same may.source; left = may.left }),
-      (λ may. (h.each id bit).1 (record { source = source_moved other net held sets id bit back may.source; left = may.left })),
+    (λ inside. let may = (h.each id bit).0 inside in record { source = source_moved net other held sets id bit same may.source; left = may.left }),
+    (λ may. (h.each id bit).1 (record { source = source_moved other net held sets id bit back may.source; left = may.left })),
   );
 }
 
@@ -293,11 +293,11 @@ one_report command files store told passes others bytes others_bytes one two =
     let p = one.prepared in
     let q = two.prepared in
     let net_text = one_text (get store one.asked.net) p.net_text q.net_text (held_where_told one.asked.net files.holds p.net_text p.net_held store told)
-        (ap (λ (c : Command). get store c.net) asked ∙ held_where_told two.asked.net files.holds q.net_text q.net_held store told) in
+    (ap (λ (c : Command). get store c.net) asked ∙ held_where_told two.asked.net files.holds q.net_text q.net_held store told) in
     let task_text = one_text (get store one.asked.tasks) p.task_text q.task_text (held_where_told one.asked.tasks files.holds p.task_text p.tasks_held store told)
-        (ap (λ (c : Command). get store c.tasks) asked ∙ held_where_told two.asked.tasks files.holds q.task_text q.tasks_held store told) in
+    (ap (λ (c : Command). get store c.tasks) asked ∙ held_where_told two.asked.tasks files.holds q.task_text q.tasks_held store told) in
     let reading = subst (λ (text : List ℕ). IsReading text q.task_text one.models one.net one.tasks) net_text
-        (subst (λ (text : List ℕ). IsReading p.net_text text one.models one.net one.tasks) task_text p.reading) in
+    (subst (λ (text : List ℕ). IsReading p.net_text text one.models one.net one.tasks) task_text p.reading) in
     let readings = one_reading q.net_text q.task_text one.models two.models one.net two.net one.tasks two.tasks reading q.reading in
     reports_same two.models one.net two.net one.tasks two.tasks passes others bytes others_bytes
     (subst (λ (ms : List Model). IsFlat ms one.net) readings.0 p.reading.flat) q.reading.flat readings.1 readings.2 one.report two.report

@@ -151,7 +151,7 @@ one_reading net_text task_text models others net other bound others_tasks f g =
     let trees = tasks.same_tasks task_text f.raw g.raw f.spelled g.spelled in
     let there = binding.answered_alike (net_named models) (length (nets models)) f.raw g.raw (Ok bound) trees.0 trees.1 f.bound in
     let here : IsAnswer (net_named models) (length (nets models)) g.raw (Ok others_tasks) =
-        subst (λ (ms : List Model). IsAnswer (net_named ms) (length (nets ms)) g.raw (Ok others_tasks)) (sym same) g.bound in
+    subst (λ (ms : List Model). IsAnswer (net_named ms) (length (nets ms)) g.raw (Ok others_tasks)) (sym same) g.bound in
     (same, there.2.0 ∙ sym here.2.0, there.2.1 ∙ sym here.2.1)
 
 -- the exits of the reading of two texts, in their order

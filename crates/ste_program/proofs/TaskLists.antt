@@ -50,7 +50,7 @@ narrow_lines models net [] (line ∷ lines) h = absurd h
 narrow_lines models net (gate ∷ ones) [] h = absurd h
 narrow_lines models net (gate ∷ ones) (line ∷ lines) h =
     let same : length gate.inputs ≡ length line.1.inputs =
-        sym (length-map gate.inputs (λ (input : NodeId). input.0)) ∙ (ap length h.0.inputs ∙ length-map line.1.inputs _) in
+    sym (length-map gate.inputs (λ (input : NodeId). input.0)) ∙ (ap length h.0.inputs ∙ length-map line.1.inputs _) in
     ap (λ n. nat_le n 8 && list_all (λ gate. nat_le (length gate.inputs) 8) ones) same ∙ ap (λ b. is_narrow line && b) (narrow_lines models net ones lines h.1)
 
 pub narrow_alike : (models : List Model) (net : RawNet) → IsFlat models net → list_all (λ gate. nat_le (length gate.inputs) 8) net.gates ≡ list_all is_narrow (gates models)
@@ -73,9 +73,9 @@ judged_more net vars tasks verdicts after lines line longer i task verdict l is 
     let grown : take (i + 1) tasks ≡ take i tasks ++ task ∷ [] = ap (λ k. take k tasks) (add-one i) ∙ take-suc tasks i task l ∙ ap (λ x. take i tasks ++ x ∷ []) (sym is) in
     let both = zip_end net vars (take i tasks) verdicts task verdict before.0 one in
     let flat : flat_map report_line (zip (take i tasks) verdicts ++ (task, verdict) ∷ []) ≡ lines ++ line =
-        flat_map-append report_line (zip (take i tasks) verdicts) ((task, verdict) ∷ [])
-        ∙ (ap (λ k. flat_map report_line (zip (take i tasks) verdicts) ++ k) (append-nil (report_line (task, verdict)))
-        ∙ (ap (λ k. k ++ report_line (task, verdict)) (sym before.1) ∙ ap (λ k. lines ++ k) (sym its_line))) in
+    flat_map-append report_line (zip (take i tasks) verdicts) ((task, verdict) ∷ [])
+    ∙ (ap (λ k. flat_map report_line (zip (take i tasks) verdicts) ++ k) (append-nil (report_line (task, verdict)))
+    ∙ (ap (λ k. k ++ report_line (task, verdict)) (sym before.1) ∙ ap (λ k. lines ++ k) (sym its_line))) in
     subst (λ ts. AreJudged net vars ts after longer) (sym grown)
     (subst (λ vs. AreJudged net vars (take i tasks ++ task ∷ []) vs longer) (sym pushed)
     (both.0, more ∙ sym (ap (flat_map report_line) both.1 ∙ flat)))

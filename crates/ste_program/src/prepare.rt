@@ -15,7 +15,6 @@ ghost use Rattle.ste_program.specs.Report.{greatest};
 ghost use Rattle.ste_program.specs.TaskFile.{AreTasks};
 
 use crate::command::Command;
-use ste_io::Files;
 use crate::refusal::Refusal;
 use crate::texts::texts_of;
 use assert_syntax::{RawTask, RawTasks, read_tasks};
@@ -25,6 +24,7 @@ use flat_net::flatten;
 use net_core::{Gate, Net, OrderFault, order};
 use net_names::NetNames;
 use std::alloc::Global;
+use ste_io::Files;
 use ste_model::Tasks;
 use task_binding::bind_tasks;
 
@@ -86,12 +86,7 @@ fn net_of(alloc: Global, models: &Models) -> Result<FlatNet, Refusal>
 }
 
 /// The tasks over a netlist's net.
-fn bound(
-    alloc: Global,
-    models: &Models,
-    flat: &FlatNet,
-    raw: &RawTasks,
-) -> Result<Tasks, Refusal>
+fn bound(alloc: Global, models: &Models, flat: &FlatNet, raw: &RawTasks) -> Result<Tasks, Refusal>
     requires { IsNetOf models.now.models flat.now.net.raw flat.now.names }
     ensures { MatchResult result
         (λ tasks. IsAnswer (net_named models.now.models) (length (nets models.now.models)) raw.now (Ok tasks))

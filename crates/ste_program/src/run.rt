@@ -9,11 +9,11 @@ ghost use Rattle.ste_program.specs.Report.{PassHolds};
 
 use crate::check::{Report, check};
 use crate::command::{Command, command_of};
-use ste_io::{Files, Sink, write_whole};
 use crate::message::message_of;
 use crate::prepare::prepare;
 use crate::refusal::Refusal;
 use std::alloc::Global;
+use ste_io::{Files, Sink, write_whole};
 
 /// How the program ended; its number is the exit status.
 #[derive(Clone, Copy, Debug, PartialEq, Eq)]

@@ -6,9 +6,9 @@ ghost use Rattle.ste_io.specs.Outside.{IsFetched};
 ghost use Rattle.ste_program.specs.private.Texts.{AreTexts, WhyNoFile};
 
 use crate::command::Command;
-use ste_io::{FetchFault, Files};
 use crate::refusal::{File, Refusal};
 use std::alloc::Global;
+use ste_io::{FetchFault, Files};
 
 /// The greatest size of a file that is read so far, in bytes.
 const GREATEST: u64 = 65536;

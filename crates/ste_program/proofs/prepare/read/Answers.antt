@@ -23,7 +23,7 @@ pub invariant_of-result : goal.invariant_of-result
 invariant_of-result c =
     let net = c.in-Ok-net_of.flat.net in
     let kept = promised c.in-Ok.models.models c.in-Ok-tasks_of.raw net.raw c.in-Ok-bound.tasks c.in-Ok-net_of.ensures.flat c.in-Ok-bound.ensures
-        (sym (c.is_checked_so_far.ensures c.in-Ok.models.models c.in-Ok-net_of.ensures.flat) ∙ c.if-is_checked_so_far.true) in
+    (sym (c.is_checked_so_far.ensures c.in-Ok.models.models c.in-Ok-net_of.ensures.flat) ∙ c.if-is_checked_so_far.true) in
     record { narrow = kept.narrow; checkable = kept.checkable; few = kept.few }
 
 pub returns-then-is_checked_so_far : goal.returns-then-is_checked_so_far

@@ -22,5 +22,5 @@ flatten-requires c =
 pub invariant_of-result : goal.invariant_of-result
 invariant_of-result c =
     let test : list_all (λ gate. nat_le (length gate.inputs) 8) c.in-Ok-order.net.raw.gates ≡ true =
-        ap (list_all (λ (gate : Gate). nat_le (length gate.inputs) 8)) (sym c.gates.ensures) ∙ (sym c.all_narrow.ensures ∙ c.if-all_narrow.true) in
+    ap (list_all (λ (gate : Gate). nat_le (length gate.inputs) 8)) (sym c.gates.ensures) ∙ (sym c.all_narrow.ensures ∙ c.if-all_narrow.true) in
     record { narrow = narrow_gates c.in-Ok-order.net.raw.gates test }
