@@ -1,59 +1,14 @@
--- The second rail of a gate from what is known of its inputs: from their other rails where a row of two literals is all
--- that the first rail's rows are, and from the first rail where each input has exactly one bit.
-use Rattle.std.proofs.Common.{All, ◌≡◌, ◌⊎◌, Bool, true, false, not, List, [], ◌∷◌, length, map, refl, sym, ◌∙◌, ap, inl, inr}
+-- The second rail of a gate of two inputs that are nowhere empty, where the first rail's rows are one row of two literals.
+use Rattle.std.proofs.Common.{◌≡◌, ◌⊎◌, Bool, true, false, not, List, [], ◌∷◌, length, refl, sym, ◌∙◌, inl, inr}
 use Rattle.std.specs.Prelude.{◌&&◌, ◌||◌}
 use Rattle.std.proofs.lemmas.Bool.{or_cases, or_left, or_right}
-use Rattle.std.proofs.lemmas.List.{length-map}
-use Rattle.std.proofs.lemmas.List.Elements.{All-head, All-tail}
 use Rattle.net_core.specs.declared.cover.Lit.{Lit}
 use Rattle.net_core.specs.declared.cover.Lit.TheVariants.{Zero, One, Any}
-use Rattle.net_core.specs.Cover.{admits, matches, some_matches}
+use Rattle.net_core.specs.Cover.{admits, some_matches}
 use Rattle.net_core.specs.Sets.{IsIn}
-use Rattle.net_core.specs.Work.{AreWide, SymbolicSet, set_at, product, sum, factor, factors, row_products, some_bit}
-use Rattle.net_core.proofs.GateSets.{Choice, product_cons, sum_cons, rows_choice, choice_rows}
-use Rattle.sym_step.specs.private.Known.{IsSingleAt, other_factor}
-
--- ---- each input has exactly one bit
-
-single_factor : (lit : Lit) (w : SymbolicSet) (bits : List Bool) → IsSingleAt bits w → factor lit w bits ≡ admits lit (w.one bits)
-single_factor Zero w bits e = e
-single_factor One w bits e = refl
-single_factor Any w bits e = ap (λ b. b || w.one bits) e ∙ by (w.one bits)
-  where
-    by : (b : Bool) → not b || b ≡ true
-    by true = refl
-    by false = refl
-
--- the bits that the inputs have
-abbrev pub bits_of : List Bool → List SymbolicSet → List Bool
-bits_of bits ws = map (λ w. w.one bits) ws
-
-single_row : (row : List Lit) (ws : List SymbolicSet) (bits : List Bool) → All (IsSingleAt bits) ws → product (factors row ws) bits ≡ matches row (bits_of bits ws)
-single_row [] ws bits h = refl
-single_row (lit ∷ row) [] bits h = refl
-single_row (lit ∷ row) (w ∷ ws) bits h =
-    product_cons (factor lit w) (factors row ws) bits
-    ∙ ap (λ b. b && product (factors row ws) bits) (single_factor lit w bits (All-head (IsSingleAt bits) w ws h))
-    ∙ ap (λ b. admits lit (w.one bits) && b) (single_row row ws bits (All-tail (IsSingleAt bits) w ws h))
-
-single_rows : (rows : List (List Lit)) (ws : List SymbolicSet) (bits : List Bool) → All (IsSingleAt bits) ws → sum (row_products rows ws) bits ≡ some_matches rows (bits_of bits ws)
-single_rows [] ws bits h = refl
-single_rows (row ∷ rows) ws bits h =
-    sum_cons (product (factors row ws)) (row_products rows ws) bits
-    ∙ ap (λ b. b || sum (row_products rows ws) bits) (single_row row ws bits h)
-    ∙ ap (λ b. matches row (bits_of bits ws) || b) (single_rows rows ws bits h)
-
-length_bits : (bits : List Bool) (ws : List SymbolicSet) → length (bits_of bits ws) ≡ length ws
-length_bits bits ws = length-map ws (λ (w : SymbolicSet). w.one bits)
-
--- one rail is the opposite of the other
-pub single_gate : (rows others : List (List Lit)) (ws : List SymbolicSet) (bits : List Bool)
-    → ((bs : List Bool) → length bs ≡ length ws → some_matches others bs ≡ not (some_matches rows bs))
-    → All (IsSingleAt bits) ws → sum (row_products others ws) bits ≡ not (sum (row_products rows ws) bits)
-single_gate rows others ws bits apart h =
-    single_rows others ws bits h ∙ apart (bits_of bits ws) (length_bits bits ws) ∙ ap not (sym (single_rows rows ws bits h))
-
--- ---- a row of two literals
+use Rattle.net_core.specs.Work.{AreWide, SymbolicSet, set_at, sum, row_products, some_bit}
+use Rattle.net_core.proofs.GateSets.{Choice, rows_choice, choice_rows}
+use Rattle.sym_step.specs.private.Refused.{other_factor}
 
 -- a bit that a literal does not admit
 refused : (lit : Lit) (w : SymbolicSet) (bits : List Bool) (b : Bool) → IsIn b (set_at bits w) → admits lit b ≡ false → other_factor lit w bits ≡ true

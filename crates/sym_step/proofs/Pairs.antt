@@ -21,7 +21,7 @@ use Rattle.dual_rail.specs.declared.rails.Rails.{Rails}
 use Rattle.dual_rail.specs.Rail.{AreRails, Built, HasSet}
 use Rattle.dual_rail.proofs.Works.{here, behind, Built-covers, Built-good}
 use Rattle.sym_step.specs.declared.net_rails.NetRails.{NetRails}
-use Rattle.sym_step.specs.private.Known.{other_factor}
+use Rattle.sym_step.specs.private.Refused.{other_factor}
 use Rattle.sym_step.specs.private.NetSets.{AreNetRails, HaveInputs, net_at}
 use Rattle.sym_step.proofs.NetRefs.{input_here}
 use Rattle.sym_step.proofs.OtherRail.{pair_others}

@@ -5,7 +5,7 @@ ghost use Rattle.net_core.specs.declared.cover.Lit.TheVariants.{Any};
 ghost use Rattle.net_core.specs.Cover.{some_matches};
 ghost use Rattle.net_core.specs.Work.{AreWide, SymbolicSet, conjunction, disjunction, factor, gate_set, gate_work};
 ghost use Rattle.dual_rail.specs.Rail.{Built, HasSet};
-ghost use Rattle.sym_step.specs.private.Known.{other_factor};
+ghost use Rattle.sym_step.specs.private.Refused.{other_factor};
 ghost use Rattle.sym_step.specs.private.NetSets.{AreNetRails, AreNetRefs, HaveInputs, net_at, sets_at};
 
 use crate::net_rails::NetRails;

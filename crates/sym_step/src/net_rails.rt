@@ -4,7 +4,7 @@ ghost use Rattle.std.specs.Prelude.{◌≡◌};
 ghost use Rattle.dd_nodes.specs.Diagram.{IsDiagram};
 ghost use Rattle.dd_nodes.specs.Stores.{Store, IsRef, Means};
 ghost use Rattle.net_core.specs.Work.{SymbolicSet, factor};
-ghost use Rattle.sym_step.specs.private.Known.{other_factor};
+ghost use Rattle.sym_step.specs.private.Refused.{other_factor};
 ghost use Rattle.sym_step.specs.private.NetSets.{AreNetRails, AreNetRefs};
 
 use dd_nodes::Ref;

@@ -6,7 +6,7 @@ use Rattle.net_core.specs.Work.{conjunction, disjunction, factor}
 use Rattle.dual_rail.specs.declared.rails.Rails.{Rails}
 use Rattle.dual_rail.specs.Rail.{Built, HasFunction, HasSet}
 use Rattle.dual_rail.proofs.Works.{So-start, Built-made, and_built, or_built, first, more, pass}
-use Rattle.sym_step.specs.private.Known.{other_factor}
+use Rattle.sym_step.specs.private.Refused.{other_factor}
 use Rattle.sym_step.proofs.gates.pair.Goals as goal
 
 pub returns-in_err-can1 : goal.returns-in_err-can1

@@ -2,7 +2,7 @@ use Rattle.std.proofs.Common.{sym, subst}
 use Rattle.dd_nodes.specs.Stores.{Means}
 use Rattle.dd_nodes.proofs.Spending.{zero_means}
 use Rattle.net_core.specs.declared.cover.Lit.{Lit}
-use Rattle.sym_step.specs.private.Known.{other_factor}
+use Rattle.sym_step.specs.private.Refused.{other_factor}
 use Rattle.sym_step.proofs.net_rails.NetRails.other.Goals as goal
 
 pub returns-in-Any-clause-means : goal.returns-in-Any-clause-means
