@@ -1,6 +1,6 @@
 //! The set that a gate gives; begin with `gate_at`.
 
-ghost use Rattle.std.specs.Prelude.{◌≡◌, ◌≢◌, ◌<◌, ◌∷◌, [], ℕ, Bool, List, All, IfSome, IsTrue, length, not};
+ghost use Rattle.std.specs.Prelude.{◌≡◌, ◌↔◌, ◌≢◌, ◌<◌, ◌∷◌, [], ℕ, Bool, List, All, IfSome, IsTrue, length, not};
 ghost use Rattle.net_core.specs.declared.cover.Lit.TheVariants.{Any};
 ghost use Rattle.net_core.specs.Cover.{some_matches};
 ghost use Rattle.net_core.specs.Work.{AreWide, SymbolicSet, conjunction, disjunction, factor, gate_set, gate_work};
@@ -133,7 +133,8 @@ fn by_rows<N: Nodes>(
 /// Whether each of these nets has some bit everywhere.
 pub fn are_full(nets: &[NetRails], inputs: &[NodeId]) -> bool
     requires { All (λ input. input.0 < length nets.now) inputs.now }
-    ensures { IsTrue result → All (λ input. (net_at nets.now input.0).some ≡ Ref.TRUE) inputs.now }
+    ensures { IsTrue result
+        ↔ All (λ input. (net_at nets.now input.0).some ≡ Ref.TRUE) inputs.now }
 {
     for input in inputs {
         if nets[input.0 as usize].some != Ref::TRUE {
