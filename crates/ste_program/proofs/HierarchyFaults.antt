@@ -1,12 +1,12 @@
 -- A hierarchy has one fault at most.
-use Rattle.std.proofs.Common.{◌≡◌, ◌<◌, ℕ, List, Some, refl, ap, sym, ◌∙◌, subst, inl, inr}
+use Rattle.std.proofs.Common.{◌≡◌, ◌<◌, ℕ, List, Some, ap, sym, ◌∙◌, subst, inl, inr}
 use Rattle.std.specs.Prelude.{◌⊎◌, slice_get}
 use Rattle.std.proofs.lemmas.Bool.{cases_order}
 use Rattle.blif_syntax.specs.declared.models.Item.{Item}
 use Rattle.blif_syntax.specs.declared.models.Model.{Model}
 use Rattle.hierarchy.specs.declared.fault.NetFault.{NetFault}
-use Rattle.hierarchy.specs.declared.fault.NetFault.TheVariants.{OutOfMemory, Recursive}
-use Rattle.hierarchy.specs.Faults.{Else, HasBadFormal, HasDoubleModel, HasDrivenTwice, HasGateTooWide, HasMissingFormal, HasMixedClocks, HasRecursive, HasTooDeep, HasTooManyNodes, HasUnknownModel, IsFirst, IsFree, IsRecursive, IsRefusal}
+use Rattle.hierarchy.specs.declared.fault.NetFault.TheVariants.{Recursive}
+use Rattle.hierarchy.specs.Faults.{Else, HasBadFormal, HasDoubleModel, HasDrivenTwice, HasGateTooWide, HasMissingFormal, HasMixedClocks, HasRecursive, HasTooDeep, HasTooManyNodes, HasUnknownModel, IsFirst, IsRecursive, IsRefusal}
 use Rattle.hierarchy.specs.Lines.{UseLine}
 
 -- there is one fault of the kind at most

@@ -1,6 +1,6 @@
 -- Flat nets of one hierarchy differ in the numbers of their covers alone, so the same nets settle in them.
-use Rattle.std.proofs.Common.{◌≡◌, ◌<◌, ℕ, zero, suc, List, [], ◌∷◌, length, map, get_or, Some, refl, ap, sym, ◌∙◌, subst, arith, inl, inr}
-use Rattle.std.specs.Prelude.{◌⊎◌, All, slice_get}
+use Rattle.std.proofs.Common.{◌≡◌, ◌<◌, ℕ, zero, suc, List, [], ◌∷◌, length, map, get_or, Some, ap, sym, ◌∙◌, subst, arith, inl, inr}
+use Rattle.std.specs.Prelude.{◌⊎◌, slice_get}
 use Rattle.std.specs.List.{AllZip}
 use Rattle.std.proofs.lemmas.Bool.{cases_order}
 use Rattle.std.proofs.lemmas.List.{get_or-map, length-map}
@@ -9,7 +9,6 @@ use Rattle.blif_syntax.specs.declared.models.Model.{Model}
 use Rattle.hierarchy.specs.Lines.{GateLine}
 use Rattle.hierarchy.specs.Names.{own_name}
 use Rattle.hierarchy.specs.Nets.{gates, nets}
-use Rattle.net_core.specs.Loop.{IsLeastUnsettled}
 use Rattle.net_core.specs.Run.{IsSettled, IsSettledAt, Settles}
 use Rattle.net_core.specs.declared.raw.Gate.{Gate}
 use Rattle.net_core.specs.declared.raw.RawNet.{RawNet}

@@ -1,6 +1,6 @@
 -- A report is one: flat nets of one hierarchy have the same possible sets, and tasks that say the same ask the same.
-use Rattle.std.proofs.Common.{◌≡◌, ◌<◌, ℕ, zero, suc, Bool, List, [], ◌∷◌, ◌++◌, length, map, get_or, Option, None, Some, refl, ap, sym, ◌∙◌, subst, arith, inl, inr, max, fold}
-use Rattle.std.specs.Prelude.{Any, codes, slice_get, zip, ◌&&◌, nat_le, nat_lt}
+use Rattle.std.proofs.Common.{◌≡◌, ◌<◌, ℕ, zero, suc, Bool, List, [], ◌∷◌, ◌++◌, length, map, get_or, Option, Some, refl, ap, sym, ◌∙◌, subst, arith, max, fold}
+use Rattle.std.specs.Prelude.{Any, codes, zip, ◌&&◌, nat_le, nat_lt}
 use Rattle.std.specs.List.{AllZip, flat_map, list_all}
 use Rattle.ste_base.specs.declared.id.NodeId.{NodeId}
 use Rattle.bool_expr.specs.Value.{value_of}
@@ -14,8 +14,8 @@ use Rattle.net_core.specs.declared.raw.Init.{Init}
 use Rattle.net_core.specs.declared.raw.Latch.{Latch}
 use Rattle.net_core.specs.declared.raw.RawNet.{RawNet}
 use Rattle.net_core.specs.Run.{Cut, bit_of, gate_bit}
-use Rattle.net_core.specs.Sets.{IsEmptyAt, IsIn, first_set, neither}
-use Rattle.net_core.specs.Possible.{ArePossible, Asked, IsInSource, MayGive, MayHave}
+use Rattle.net_core.specs.Sets.{IsIn, first_set}
+use Rattle.net_core.specs.Possible.{ArePossible, Asked, IsInSource, MayGive}
 use Rattle.flat_net.specs.Flat.{IsFlat, IsGateOf, IsLatchOf}
 use Rattle.ste_model.specs.declared.task.Assertion.{Assertion}
 use Rattle.ste_model.specs.declared.task.Quint.{Quint}
@@ -24,7 +24,6 @@ use Rattle.ste_model.specs.declared.task.Task.TheVariants.{Ste, Gste}
 use Rattle.ste_model.specs.declared.verdict.Verdict.{Verdict}
 use Rattle.ste_model.specs.declared.verdict.Verdict.TheVariants.{Pass, Weak, Strong, Vacuous, Budget}
 use Rattle.ste_model.specs.Asked.{asked_at, cuts_at, depth, latest, quint_at}
-use Rattle.ste_model.specs.Assignments.{EachAssignment, SomeAssignment}
 use Rattle.ste_model.specs.Found.{FailsStrongly, FailsWeakly, IsContradictory, IsEmptySomewhere, IsFound, IsStrong, IsTableOf, IsVerdict, IsVerdictOf, IsWeak}
 use Rattle.ste_model.specs.Table.{IsPossible, latch_sets}
 use Rattle.ste_model.specs.Trees.{QuintTree, quint_tree, task_tree}

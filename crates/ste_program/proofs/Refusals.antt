@@ -1,7 +1,7 @@
 -- The order of refusals: each stage of the texts gives one refusal at most, and a reading silences them all; behind both files the
 -- first refusal of the texts is the first.
-use Rattle.std.proofs.Common.{◌≡◌, ◌<◌, ℕ, List, [], ◌∷◌, length, map, Option, None, Some, Result, Ok, Err, Bool, true, false, refl, ap, sym, ◌∙◌, arith, inl, inr, subst}
-use Rattle.std.specs.Prelude.{◌≢◌, ◌&&◌, IsSomeAnd, MatchResult, nat_le}
+use Rattle.std.proofs.Common.{◌≡◌, ℕ, List, [], ◌∷◌, length, map, Option, None, Some, Result, Ok, Err, Bool, true, false, refl, ap, sym, ◌∙◌, inl, inr, subst}
+use Rattle.std.specs.Prelude.{◌&&◌, IsSomeAnd, MatchResult, nat_le}
 use Rattle.std.specs.FinMap.{get}
 use Rattle.std.specs.List.{list_all}
 use Rattle.blif_syntax.specs.declared.fault.BlifFault.{BlifFault}
@@ -18,16 +18,14 @@ use Rattle.assert_syntax.specs.declared.fault.TaskFault.{TaskFault}
 use Rattle.assert_syntax.specs.declared.tasks.RawTask.{RawTask}
 use Rattle.assert_syntax.specs.declared.tasks.RawTask.TheVariants.{Ste, Gste}
 use Rattle.assert_syntax.specs.declared.tasks.RawTasks.{RawTasks}
-use Rattle.ste_model.specs.Trees as model
 use Rattle.ste_model.specs.declared.task.Tasks.{Tasks}
 use Rattle.task_binding.specs.Answer.{IsAnswer}
 use Rattle.task_binding.specs.declared.fault.BindFault.{BindFault}
-use Rattle.task_binding.specs.declared.fault.BindFault.TheVariants as bind
 use Rattle.task_binding.proofs.Alike as binding
 use Rattle.ste_program.specs.Answer.{AskedSome, IsGrounded, WhyUnprepared}
 use Rattle.ste_program.specs.Command.{Command}
 use Rattle.ste_program.specs.Netlist.{IsLoop, IsNetlist}
-use Rattle.ste_program.specs.Order.{AllSilent, CannotBind, IsFirst, IsUnchecked, OneRefusal, PreparedIsNotRefused, has_faulty_hierarchy, has_faulty_tasks, has_loop, is_faulty, is_in_texts, is_unbound, refusals, text_stages}
+use Rattle.ste_program.specs.Order.{AllSilent, CannotBind, IsFirst, IsUnchecked, OneRefusal, PreparedIsNotRefused, has_faulty_hierarchy, has_faulty_tasks, has_loop, is_faulty, is_unbound, refusals, text_stages}
 use Rattle.ste_io.specs.Outside.{FilesState, Store}
 use Rattle.ste_program.specs.private.Prepared.{IsMade, WhyNoModels, WhyNoNet, WhyNoTasks, WhyUnbound, WhyUnread}
 use Rattle.ste_program.specs.private.Texts.{AreTexts}

@@ -1,6 +1,6 @@
 -- Tasks, their verdicts and their nets, as the loops over them see them.
-use Rattle.std.proofs.Common.{◌≡◌, ◌≤◌, ◌<◌, ℕ, zero, suc, ◌+◌, List, [], ◌∷◌, ◌++◌, length, map, take, get_or, Bool, true, false, Option, None, Some, Ok, refl, ap, sym, ◌∙◌, subst, arith, add-one, append-nil}
-use Rattle.std.specs.Prelude.{◌≢◌, ◌&&◌, All, IsTrue, IsSome, slice_get, unwrap_or, nat_le, zip}
+use Rattle.std.proofs.Common.{◌≡◌, ◌≤◌, ◌<◌, ℕ, suc, ◌+◌, List, [], ◌∷◌, ◌++◌, length, map, take, get_or, Bool, true, Option, None, Some, Ok, refl, ap, sym, ◌∙◌, subst, arith, add-one, append-nil}
+use Rattle.std.specs.Prelude.{◌&&◌, All, IsSome, unwrap_or, nat_le, zip}
 use Rattle.std.specs.List.{AllZip, flat_map, list_all}
 use Rattle.std.proofs.lemmas.Bool.{and_parts}
 use Rattle.std.proofs.lemmas.Grind.{flat_map-append}
@@ -33,7 +33,7 @@ use Rattle.task_binding.specs.declared.unknown.Mention.{Mention}
 use Rattle.ste_model.specs.declared.verdict.Verdict.{Verdict}
 use Rattle.ste_program.specs.private.Judged.{AreJudged}
 use Rattle.ste_program.specs.Report.{IsVerdictOn, report_line}
-use Rattle.ste_program.specs.private.Prepared.{IsCheckable, given_nets, is_ste}
+use Rattle.ste_program.specs.private.Prepared.{IsCheckable}
 use Rattle.ste_program.specs.Reading.{is_assertion, is_checked_so_far, is_narrow}
 
 -- an antecedent that may be checked

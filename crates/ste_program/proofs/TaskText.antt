@@ -6,7 +6,7 @@ use Rattle.blif_lines.specs.Lines.{lines_of}
 use Rattle.assert_syntax.specs.Answer.{IsAnswer, entries_of}
 use Rattle.assert_syntax.specs.Parses.{IsParse, Parse}
 use Rattle.assert_syntax.specs.Places.{first_fault}
-use Rattle.assert_syntax.specs.Spelled.{task_tree, tasks_of}
+use Rattle.assert_syntax.specs.Spelled.{task_tree}
 use Rattle.assert_syntax.specs.declared.fault.TaskFault.{TaskFault}
 use Rattle.assert_syntax.specs.declared.fault.TaskFault.TheVariants.{BadLine, TooDeep, DoubleName, UnknownVar, TooMany, NoTask, OutOfMemory}
 use Rattle.assert_syntax.specs.declared.form.Entry.{Entry}

@@ -1,9 +1,9 @@
 -- What the layers' own answers tell of two texts.
-use Rattle.std.proofs.Common.{◌≡◌, ◌∙◌, ℕ, List, length, map, Option, Some, Result, Ok, Err, refl, ap, sym, subst, inl, inr}
-use Rattle.std.specs.Prelude.{◌≢◌, ◌⊎◌, IsErrAnd, MatchResult, slice_get}
+use Rattle.std.proofs.Common.{◌≡◌, ◌∙◌, ℕ, List, length, Option, Some, Result, Ok, Err, ap, sym, subst, inl, inr}
+use Rattle.std.specs.Prelude.{◌⊎◌, IsErrAnd, MatchResult, slice_get}
 use Rattle.blif_syntax.specs.declared.models.Model.{Model}
-use Rattle.hierarchy.specs.Faults.{IsFree, IsRefusal}
-use Rattle.hierarchy.specs.Names.{net_named, own_name}
+use Rattle.hierarchy.specs.Faults.{IsRefusal}
+use Rattle.hierarchy.specs.Names.{net_named}
 use Rattle.hierarchy.specs.Nets.{nets}
 use Rattle.hierarchy.specs.declared.fault.NetFault.{NetFault}
 use Rattle.hierarchy.specs.declared.fault.NetFault.TheVariants as net

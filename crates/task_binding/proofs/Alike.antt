@@ -16,7 +16,7 @@ use Rattle.assert_syntax.specs.Spelled.{BindTree, EdgeTree, QuintTree, TaskTree,
 use Rattle.task_binding.specs.declared.fault.BindFault.{BindFault}
 use Rattle.task_binding.specs.declared.fault.BindFault.TheVariants.{UnknownNode, TooLarge, OutOfMemory}
 use Rattle.task_binding.specs.declared.unknown.Mention.{Mention}
-use Rattle.task_binding.specs.Answer.{IsAnswer, IsBound}
+use Rattle.task_binding.specs.Answer.{IsAnswer}
 use Rattle.task_binding.specs.Bound.{bind_bound, edge_bound, net_by, quint_bound, task_bound}
 use Rattle.task_binding.specs.Mentions.{AllNamed, IsFirstUnknown, bind_mention, edge_mentions, mentions_of, quint_mention, task_mentions}
 use Rattle.task_binding.specs.Sizes.{AllFit, IsFirstLarge, cells, head_line, latest, most_cells}

@@ -1,4 +1,4 @@
-use Rattle.std.proofs.Common.{◌∙◌, ap, length, List, ℕ}
+use Rattle.std.proofs.Common.{◌∙◌, ap, length, List}
 use Rattle.std.specs.Prelude.{nat_le}
 use Rattle.std.specs.List.{list_all}
 use Rattle.assert_syntax.specs.declared.tasks.RawTask.{RawTask}
