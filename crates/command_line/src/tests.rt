@@ -90,6 +90,7 @@ const REFUSED: &[&[&str]] = &[
     &["check", "n.blif", "--wave", "t.ste", "u.ste"],
     &["info"],
     &["info", "n", "t"],
+    &["info", "n", "--workers", "0"],
     &["sim", "n"],
     &["sim", "n", "i", "j"],
     &["bench"],
