@@ -1,0 +1,11 @@
+//! The words of the command line, cut by `clap`: what they ask for. Begin with `command_of`.
+#![tactic(auto)]
+
+pub mod command;
+pub mod number;
+mod reader;
+#[cfg(test)]
+mod tests;
+
+pub use command::{Action, Command};
+pub use reader::command_of;
