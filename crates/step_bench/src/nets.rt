@@ -94,7 +94,8 @@ fn gates(alloc: Global, count: u32, mix: Mix) -> Result<Items<Gate>, AllocError>
 /// A net of so many gates behind 8 free nets.
 pub fn net(alloc: Global, count: u32, mix: Mix) -> Result<Net, OrderFault>
     requires { count ≤ 100000 }
-    ensures { IfOk result (λ net. (net.raw.covers ≡ covers_of) × (net.raw.latches ≡ []) × (net.raw.nets ≡ count + 8)) }
+    ensures { IfOk result (λ net. (net.raw.covers ≡ covers_of)
+        × (net.raw.latches ≡ []) × (net.raw.nets ≡ count + 8)) }
 {
     let raw = RawNet {
         nets: count + 8,
