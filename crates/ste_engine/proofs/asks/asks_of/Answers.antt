@@ -32,7 +32,7 @@ loop-k-preserved g c =
     record {
       reads = λ i d l. subst (λ vars. DoesRead vars (get_or quints i d)) (sym a.spends.keeps.vars) (p.reads i d l);
       so = more (quints_work quints) (λ t a. IsAsk t k q a) s t u (Ok ask) gt gu p.so b;
-      fit = subst (λ (xs : List Quint). AreAsks u 0 xs c.push.new.self.items) (sym quints_are) (subst (λ (ys : List Ask). AreAsks u 0 (take k quints ++ q ∷ []) ys) (sym c.in-Ok.ensures.items)
+      fit = subst (λ (xs : List Quint). AreAsks u 0 xs c.push.new.self.items) (sym {A = List Quint} quints_are) (subst (λ (ys : List Ask). AreAsks u 0 (take k quints ++ q ∷ []) ys) (sym {A = List Ask} c.in-Ok.ensures.items)
           (asks_push u 0 (take k quints) c.loop-k.asks.items q ask (Asks-keep t u 0 (take k quints) c.loop-k.asks.items gt gu a.spends.keeps p.fit) (subst (λ n. IsAsk u n q ask) (sym long) a.ok)));
     }
 
