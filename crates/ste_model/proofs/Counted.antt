@@ -1,6 +1,6 @@
 -- The samples: expressions give way to their functions, and then the numbers are counted.
-use Rattle.std.proofs.Common.{◌≡◌, ℕ, zero, suc, Bool, true, false, List, [], ◌∷◌, ◌++◌, refl, sym, ◌∙◌, ap, subst}
-use Rattle.bool_expr.specs.declared.expr.Expr.{Expr, roll-Expr}
+use Rattle.std.proofs.Common.{◌≡◌, ℕ, zero, suc, Bool, true, false, List, [], ◌∷◌, ◌++◌, refl, ◌∙◌, ap}
+use Rattle.bool_expr.specs.declared.expr.Expr.{Expr}
 use Rattle.bool_expr.specs.declared.expr.Expr.TheOpen.{Expr-F, Const, Var}
 use Rattle.bool_expr.specs.declared.expr.Expr.TheFolds.{fold-roll-Expr}
 use Rattle.bool_expr.specs.Value.{value_of, value_step}
@@ -8,8 +8,8 @@ use Rattle.dd_nodes.specs.Functions.{node_count}
 use Rattle.net_core.specs.declared.raw.RawNet.{RawNet}
 use Rattle.net_core.specs.Work.{Function, SymbolicCut, SymbolicSet, always, conjunction, everything, negation, some_empty, sum, sums, time_work}
 use Rattle.ste_model.specs.Expressions.{SymbolicValue, symbolic_step, symbolic_value}
-use Rattle.ste_model.specs.Samples.{SamplesAreCounted, and_gate, guarded_set, guarded_table, guarded_task, one, p, plain_table, plain_task, q, variable}
-use Rattle.ste_model.specs.Work.{consequents_work, strong_findings, task_work, weak_findings}
+use Rattle.ste_model.specs.Samples.{SamplesAreCounted, and_gate, guarded_set, guarded_table, one, p, plain_table, q, variable}
+use Rattle.ste_model.specs.Work.{consequents_work, strong_findings, weak_findings}
 
 -- the work functions, from those of the quintuples, of all times, and what is found
 abbrev written : List Function → List Function → List Function → List Function → List Function → List Function → List Function

@@ -1,10 +1,9 @@
 -- There is exactly one need: work functions have the same values on two tables that have the same values.
-use Rattle.std.proofs.Common.{◌≡◌, ℕ, zero, suc, ◌+◌, ◌≤◌, ◌<◌, Bool, true, false, not, List, [], ◌∷◌, ◌++◌, map, drop, length, filter, Option, None, Some, arith, refl, sym, ◌∙◌, ap, subst}
+use Rattle.std.proofs.Common.{◌≡◌, ℕ, zero, suc, ◌≤◌, ◌<◌, Bool, true, false, not, List, [], ◌∷◌, ◌++◌, map, drop, length, filter, Option, None, Some, arith, refl, sym, ◌∙◌, ap}
 use Rattle.std.specs.Prelude.{◌==◌, ◌&&◌, ◌||◌, if◌then◌else◌, slice_get, slice_index_or}
 use Rattle.std.specs.Set.{unique_keys}
 use Rattle.std.proofs.lemmas.List.{length-append, length-drop, map-append}
-use Rattle.bool_expr.specs.Value.{value_of}
-use Rattle.dd_nodes.specs.Functions.{bits_of, prefixes, cofactor, cofactors, is_constant, node_count, nodes, same_bits}
+use Rattle.dd_nodes.specs.Functions.{bits_of, prefixes, cofactor, cofactors, is_constant, node_count, same_bits}
 use Rattle.dd_nodes.proofs.Counts.{bits-same}
 use Rattle.ste_base.specs.declared.id.NodeId.{NodeId}
 use Rattle.net_core.specs.declared.bit_set.BitSet.{BitSet}
@@ -18,14 +17,13 @@ use Rattle.net_core.specs.declared.source.Source.{Source}
 use Rattle.net_core.specs.declared.source.Source.TheVariants.{Input, Free, Gate as OfGate, Latch as OfLatch}
 use Rattle.net_core.specs.Cases.{on_rows, off_rows}
 use Rattle.net_core.specs.Run.{IsSettled}
-use Rattle.net_core.specs.Sets.{first_set}
 use Rattle.net_core.specs.Source.{source_of}
-use Rattle.net_core.specs.Work.{Function, SymbolicAsked, SymbolicCut, SymbolicSet, after_cut, always, by_gate, by_source, chain, conjunction, cover_set, cover_work, cut_set, cut_work, cuts_work, disjunction, everything, factor, factors, first_sets, gates_work, gate_set, gate_work, input_sets, negation, never, no_bit, row_products, rows_chains, rows_work, set_at, some_bit, some_empty, sums, time_work, uncut, whole}
+use Rattle.net_core.specs.Work.{Function, SymbolicAsked, SymbolicCut, SymbolicSet, after_cut, by_gate, by_source, chain, conjunction, cover_set, cover_work, cut_set, cut_work, cuts_work, disjunction, everything, factor, factors, first_sets, gates_work, negation, no_bit, row_products, rows_chains, rows_work, set_at, some_bit, some_empty, time_work, uncut, whole}
 use Rattle.ste_model.specs.declared.task.Assertion.{Assertion}
 use Rattle.ste_model.specs.Asked.{asked_at, depth}
-use Rattle.ste_model.specs.Need.{IsNeed, IsWholeTable, OneNeed}
+use Rattle.ste_model.specs.Need.{IsWholeTable, OneNeed}
 use Rattle.ste_model.specs.Table.{IsPossible}
-use Rattle.ste_model.specs.Work.{all_empty, all_strong, all_weak, both_bits, constant_set, consequent_work, consequents_work, contradictory_where, found_strong, found_weak, latches_at, only_one, only_zero, over_times, quints_work, refutes, strong_findings, strong_where, symbolic_asked_at, symbolic_cuts_at, task_work, unsure_where, weak_findings, weak_where, work_at}
+use Rattle.ste_model.specs.Work.{all_empty, all_strong, all_weak, both_bits, consequent_work, consequents_work, contradictory_where, latches_at, only_one, only_zero, over_times, quints_work, refutes, strong_findings, strong_where, symbolic_asked_at, symbolic_cuts_at, task_work, unsure_where, weak_findings, weak_where, work_at}
 use Rattle.ste_model.proofs.Tables.{same_table, some_table}
 
 -- there is a possible table under each assignment

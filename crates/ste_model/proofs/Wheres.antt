@@ -1,6 +1,6 @@
 -- The functions of the results tell the findings, assignment by assignment.
-use Rattle.std.proofs.Common.{◌≡◌, ℕ, ◌<◌, ◌+◌, zero, suc, Bool, true, false, not, List, [], ◌∷◌, ◌++◌, map, filter, length, get_or, arith, sym, ap, refl, subst, ◌∙◌, inl, inr}
-use Rattle.std.specs.Prelude.{All, Any, IsTrue, ◌↔◌, ◌&&◌, ◌||◌, ◌⊎◌, nat_le, nat_lt, if◌then◌else◌}
+use Rattle.std.proofs.Common.{◌≡◌, ℕ, ◌<◌, zero, suc, Bool, true, false, not, List, [], ◌∷◌, map, filter, length, get_or, arith, sym, ap, refl, subst, ◌∙◌, inl, inr}
+use Rattle.std.specs.Prelude.{Any, IsTrue, ◌↔◌, ◌&&◌, ◌||◌, if◌then◌else◌}
 use Rattle.std.specs.List.{list_any}
 use Rattle.std.proofs.lemmas.Bool.{and_parts, and_from, not-true, not_from_false, both_ways, or_cases, or_left, or_right}
 use Rattle.std.proofs.lemmas.List.Folds.{list_any-append}
@@ -11,14 +11,13 @@ use Rattle.net_core.specs.declared.bit_set.BitSet.{BitSet}
 use Rattle.net_core.specs.declared.raw.RawNet.{RawNet}
 use Rattle.net_core.specs.Run.{Cut, IsSettled}
 use Rattle.net_core.specs.Sets.{both, neither, only}
-use Rattle.net_core.specs.Work.{Function, SymbolicSet, SymbolicCut, set_at, conjunction, disjunction, never, negation, whole, sum, no_bit, some_empty, first_sets}
-use Rattle.net_core.proofs.Possible.{same_fields}
+use Rattle.net_core.specs.Work.{Function, SymbolicSet, SymbolicCut, set_at, conjunction, disjunction, never, whole, sum, no_bit, some_empty, first_sets}
 use Rattle.ste_model.specs.declared.task.Assertion.{Assertion}
 use Rattle.ste_model.specs.declared.task.Quint.{Quint}
 use Rattle.ste_model.specs.Asked.{asked_at, cuts_at, quint_at, depth}
-use Rattle.ste_model.specs.Found.{IsTableOf, IsEmptySomewhere, IsContradictory, IsFound, IsStrong, IsWeak, FailsStrongly, FailsWeakly}
+use Rattle.ste_model.specs.Found.{IsTableOf, IsEmptySomewhere, IsContradictory, IsFound, IsStrong}
 use Rattle.ste_model.specs.Need.{IsWholeTable, ResultsAreFindings}
-use Rattle.ste_model.specs.Work.{over_times, all_empty, all_strong, all_weak, strong_findings, weak_findings, symbolic_cut, symbolic_cuts_at, has_time, found_strong, found_weak, refutes, both_bits, contradictory_where, strong_where, weak_where, unsure_where}
+use Rattle.ste_model.specs.Work.{over_times, all_empty, symbolic_cut, symbolic_cuts_at, has_time, refutes, both_bits, contradictory_where, strong_where, unsure_where}
 use Rattle.ste_model.proofs.Tables.{same_table}
 use Rattle.ste_model.proofs.Findings.{found_in}
 

@@ -1,6 +1,6 @@
 -- Meaning, and laws. How many steps the check of an assertion needs, and which functions it keeps: this project's own
 -- choice.
-use Rattle.std.specs.Prelude.{◌≡◌, ◌↔◌, ℕ, zero, suc, Bool, List, [], ◌∷◌, ◌++◌, ◌&&◌, length, All, IsTrue}
+use Rattle.std.specs.Prelude.{◌≡◌, ℕ, zero, suc, Bool, List, [], ◌∷◌, ◌++◌, ◌&&◌, length, All, IsTrue}
 use Rattle.bool_expr.specs.Value.{value_of}
 use Rattle.dd_nodes.specs.Functions.{node_count}
 use Rattle.net_core.specs.declared.raw.RawNet.{RawNet}

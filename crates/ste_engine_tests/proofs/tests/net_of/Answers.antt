@@ -1,4 +1,4 @@
-use Rattle.std.proofs.Common.{◌≤◌, List, All, ◌∙◌, sym, subst, arith}
+use Rattle.std.proofs.Common.{List, ◌∙◌, sym, subst, arith}
 use Rattle.blif_syntax.specs.declared.models.Model.{Model}
 use Rattle.blif_syntax.specs.Covered.{AreCovered}
 use Rattle.blif_syntax.proofs.Fit.{words_fit}
