@@ -178,7 +178,8 @@ pub fn find_all<N: Nodes>(
     requires values { All (λ c. IsRef (N.store nodes.old) c.value) cuts.now }
     requires found { AreFoundRefs (N.store nodes.old) found }
     ensures { (sets : ℕ → SymbolicSet) (ds : List SymbolicCut) (f h : Function)
-        → ((id : ℕ) → id < length nets.now → AreRails (N.store nodes.old) (sets id) (rails_at nets.now id))
+        → ((id : ℕ) → id < length nets.now
+        → AreRails (N.store nodes.old) (sets id) (rails_at nets.now id))
         → AllZip (IsCutBy (N.store nodes.old)) ds cuts.now → AreFound f h (N.store nodes.old) found
         → Built (found_work sets ds f h) (AreFound (more_strong sets ds f) (more_weak sets ds h))
         (N.store nodes.old) (N.store nodes.new) result }

@@ -72,8 +72,9 @@ impl Timeline {
     /// Goes on to time t, whose turn it is.
     fn advance(&mut self, alloc: Global, t: Time) -> Result<(), AllocError>
         requires { t < length self.old.starts.items }
-        ensures { IsOk result → (asks : List Ask) (depth : ℕ) → IsTimeline asks depth t self.old → t < depth
-            → ArePlaced 0 asks → IsTimeline asks depth (t + 1) self.new }
+        ensures { IsOk result → (asks : List Ask) (depth : ℕ)
+            → IsTimeline asks depth t self.old → t < depth → ArePlaced 0 asks
+            → IsTimeline asks depth (t + 1) self.new }
     {
         let lasting = lasting(alloc, &self.running, t)?;
         self.running = merge(alloc, &lasting, self.starts[t as usize].as_slice())?;

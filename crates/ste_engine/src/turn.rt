@@ -85,7 +85,8 @@ pub fn turn<N: Nodes>(
     requires ant { All (IsCutOf (N.store nodes.old) net.now.raw) ant.now }
     requires con { All (IsCutOf (N.store nodes.old) net.now.raw) con.now }
     requires before { AreTurnedRefs (N.store nodes.old) net.now.raw before.now }
-    ensures { (ls : List SymbolicSet) (ds es : List SymbolicCut) (sets : ℕ → SymbolicSet) (c f h : Function)
+    ensures { (ls : List SymbolicSet) (ds es : List SymbolicCut)
+        (sets : ℕ → SymbolicSet) (c f h : Function)
         → AllZip (AreRails (N.store nodes.old)) ls before.now.next
         → AllZip (IsCutBy (N.store nodes.old)) ds ant.now
         → AllZip (IsCutBy (N.store nodes.old)) es con.now
