@@ -19,7 +19,9 @@ use Rattle.ste_model.specs.declared.task.Task.TheVariants.{Ste}
 use Rattle.ste_model.proofs.Passes.{pass_holds}
 use Rattle.ste_io.specs.Outside.{FilesState, SinkState, Store, took, with_names}
 use Rattle.ste_program.specs.Answer.{AskedAll, AskedSome, BrokeOff, IsDecided, NoneRose, Reported, WantedMemory, WasFaulted, WasRefused, WentOut, WhyNoReport, status_of}
-use Rattle.ste_program.specs.Check.{IsCheck, IsVerdictOn}
+use Rattle.ste_model.specs.declared.verdict.Verdict.{Verdict}
+use Rattle.ste_model.specs.declared.verdict.Verdict.TheVariants.{Budget, Pass, Vacuous}
+use Rattle.ste_program.specs.Check.{IsVerdictOn, task_steps}
 use Rattle.ste_program.specs.Command.{file_of, files_of, files_up_to, net_file, second_file}
 use Rattle.ste_program.specs.Holds.{HoldsOf}
 use Rattle.ste_program.specs.Message.{cannot_write, message_of, out_of_memory}
@@ -228,14 +230,20 @@ held models net vars task sound flat holds bits long run is_run meets =
     holds bits long (flat_bits models run)
     (record { is_run = runs.to_flat run is_run.is_run; starts = λ some. runs.starts_to_flat task.reset run some is_run.is_run (is_run.starts some) }) meets
 
+-- pass and contradictory antecedent are no budget
+no_budget : (net : RawNet) (vars steps : ℕ) (task : Assertion) (verdict : Verdict) → (verdict ≡ Pass) ⊎ (verdict ≡ Vacuous) → IsVerdictOn net vars steps (Ste task) verdict → IsVerdictOf net vars task verdict
+no_budget net vars steps task verdict says (inl told) = told
+no_budget net vars steps task verdict (inl pass) (inr over) = let is = over.0 in absurd (cc (pass, is))
+no_budget net vars steps task verdict (inr vacuous) (inr over) = let is = over.0 in absurd (cc (vacuous, is))
+
 -- where a check says pass, the assertion holds
 check_holds : (action : Action) (steps : Option ℕ) (net_text second_text : List ℕ) (passes : Bool) (bytes : List ℕ) (written : IsWritten action steps net_text second_text passes bytes) → PassesHold action steps net_text second_text passes bytes written
 check_holds (check net tasks) steps net_text second_text passes bytes written = λ place task verdict here there says.
     let n = written.reading.flattened in
-    let judged : IsVerdictOf written.net (length written.tasks.vars) task verdict =
-    at_place (IsVerdictOn written.net (length written.tasks.vars)) written.tasks.tasks written.report.verdicts place (Ste task) verdict written.report.judged here there in
+    let judged : IsVerdictOn written.net (length written.tasks.vars) (task_steps steps (length written.tasks.tasks)) (Ste task) verdict =
+    at_place (IsVerdictOn written.net (length written.tasks.vars) (task_steps steps (length written.tasks.tasks))) written.tasks.tasks written.report.verdicts place (Ste task) verdict written.report.judged here there in
     held written.models written.net (length written.tasks.vars) task n.sound n.flat
-    (pass_holds written.net (length written.tasks.vars) task verdict n.settled says judged)
+    (pass_holds written.net (length written.tasks.vars) task verdict n.settled says (no_budget written.net (length written.tasks.vars) (task_steps steps (length written.tasks.tasks)) task verdict says judged))
 check_holds (info net) steps net_text second_text passes bytes written = tt
 check_holds (sim net inputs) steps net_text second_text passes bytes written = tt
 check_holds (bench stages) steps net_text second_text passes bytes written = tt

@@ -15,25 +15,26 @@ use Rattle.flat_net.specs.Flat.{IsFlat}
 use Rattle.ste_program.specs.Check.{IsCheck}
 use Rattle.ste_program.specs.Command.{net_file, second_file}
 use Rattle.ste_program.specs.Info.{IsInfo, count_line, free_below, info_text, is_free}
-use Rattle.ste_program.specs.Report.{IsWritten, OneReport, text_at, verdicts_in}
+use Rattle.ste_program.specs.Report.{Agree, IsWritten, OneReport, text_at, verdicts_in}
 use Rattle.ste_program.specs.Simulated.{IsSimulated, sim_text}
 use Rattle.ste_program.proofs.Fetched.{read_told}
 use Rattle.ste_program.proofs.NetlistText.{one_netlist}
 use Rattle.ste_program.proofs.SameInputs.{outputs_same}
 use Rattle.ste_program.proofs.SameNets.{AreAlike, AreSame, flats_same, sources_same}
-use Rattle.ste_program.proofs.SameVerdicts.{reports_same}
+use Rattle.ste_program.proofs.SameVerdicts.{reports_agree}
 use Rattle.ste_program.proofs.TextStages.{one_reading}
 
 -- what two reports on the same texts have in common
 abbrev AreOne : (action : Action) (steps : Option ℕ) (net_text second_text : List ℕ) (passes others : Bool) (bytes others_bytes : List ℕ) → IsWritten action steps net_text second_text passes bytes → IsWritten action steps net_text second_text others others_bytes → Type 0
 AreOne action steps net_text second_text passes others bytes others_bytes one two =
-    (passes ≡ others) × (bytes ≡ others_bytes) × (verdicts_in action steps net_text second_text passes bytes one ≡ verdicts_in action steps net_text second_text others others_bytes two)
+    AllZip Agree (verdicts_in action steps net_text second_text passes bytes one) (verdicts_in action steps net_text second_text others others_bytes two)
+    × (verdicts_in action steps net_text second_text passes bytes one ≡ verdicts_in action steps net_text second_text others others_bytes two → (passes ≡ others) × (bytes ≡ others_bytes))
 
 checks_same : (steps : Option ℕ) (net_text task_text : List ℕ) (passes others : Bool) (bytes others_bytes : List ℕ) (one : IsCheck steps net_text task_text passes bytes) (two : IsCheck steps net_text task_text others others_bytes) →
-    (passes ≡ others) × (bytes ≡ others_bytes) × (one.report.verdicts ≡ two.report.verdicts)
+    AllZip Agree one.report.verdicts two.report.verdicts × (one.report.verdicts ≡ two.report.verdicts → (passes ≡ others) × (bytes ≡ others_bytes))
 checks_same steps net_text task_text passes others bytes others_bytes one two =
     let readings = one_reading net_text task_text one.models two.models one.net two.net one.tasks two.tasks one.reading two.reading in
-    reports_same two.models one.net two.net one.tasks two.tasks passes others bytes others_bytes
+    reports_agree two.models one.net two.net _ _ one.tasks two.tasks passes others bytes others_bytes
     (subst (λ (ms : List Model). IsFlat ms one.net) readings.0 one.reading.flattened.flat) two.reading.flattened.flat readings.1 readings.2 one.report two.report
 
 -- the same nets are free
@@ -84,8 +85,8 @@ simulations_same net_text input_text bytes others_bytes one two =
 written_same : (action : Action) (steps : Option ℕ) (net_text second_text : List ℕ) (passes others : Bool) (bytes others_bytes : List ℕ) (one : IsWritten action steps net_text second_text passes bytes) (two : IsWritten action steps net_text second_text others others_bytes) →
     AreOne action steps net_text second_text passes others bytes others_bytes one two
 written_same (check net tasks) steps net_text second_text passes others bytes others_bytes one two = checks_same steps net_text second_text passes others bytes others_bytes one two
-written_same (info net) steps net_text second_text passes others bytes others_bytes one two = (one.0 ∙ sym two.0, infos_same net_text bytes others_bytes one.1 two.1, refl)
-written_same (sim net inputs) steps net_text second_text passes others bytes others_bytes one two = (one.0 ∙ sym two.0, simulations_same net_text second_text bytes others_bytes one.1 two.1, refl)
+written_same (info net) steps net_text second_text passes others bytes others_bytes one two = (tt, (λ same. (one.0 ∙ sym two.0, infos_same net_text bytes others_bytes one.1 two.1)))
+written_same (sim net inputs) steps net_text second_text passes others bytes others_bytes one two = (tt, (λ same. (one.0 ∙ sym two.0, simulations_same net_text second_text bytes others_bytes one.1 two.1)))
 written_same (bench stages) steps net_text second_text passes others bytes others_bytes one two = absurd one
 
 -- what is read of a file is one text
@@ -96,7 +97,8 @@ one_text held one other f g = let both : Some one ≡ Some other = sym f ∙ g i
 module _ (asked : Command) (net_text second_text : List ℕ) (passes others : Bool) (bytes others_bytes : List ℕ) (two : IsWritten asked.action asked.steps net_text second_text others others_bytes) where
   abbrev IsOne : (command : Command) (one_net one_second : List ℕ) → IsWritten command.action command.steps one_net one_second passes bytes → Type 0
   IsOne command one_net one_second written =
-      (passes ≡ others) × (bytes ≡ others_bytes) × (verdicts_in command.action command.steps one_net one_second passes bytes written ≡ verdicts_in asked.action asked.steps net_text second_text others others_bytes two)
+      AllZip Agree (verdicts_in command.action command.steps one_net one_second passes bytes written) (verdicts_in asked.action asked.steps net_text second_text others others_bytes two)
+      × (verdicts_in command.action command.steps one_net one_second passes bytes written ≡ verdicts_in asked.action asked.steps net_text second_text others others_bytes two → (passes ≡ others) × (bytes ≡ others_bytes))
 
   moved : (command : Command) (one_net one_second : List ℕ) → asked ≡ command → net_text ≡ one_net → second_text ≡ one_second → (written : IsWritten command.action command.steps one_net one_second passes bytes) → IsOne command one_net one_second written
   moved command one_net one_second same net second =

@@ -1,5 +1,5 @@
 -- Flat nets of one hierarchy have the same possible sets, and tasks that say the same ask the same: so they have the same verdicts.
-use Rattle.std.proofs.Common.{◌≡◌, ◌<◌, ℕ, zero, suc, Bool, List, [], ◌∷◌, ◌++◌, length, map, get_or, Option, Some, refl, ap, sym, ◌∙◌, subst, arith, max, fold}
+use Rattle.std.proofs.Common.{◌≡◌, ◌<◌, ℕ, zero, suc, Bool, List, [], ◌∷◌, ◌++◌, length, map, get_or, Option, Some, refl, ap, sym, ◌∙◌, subst, arith, max, fold, inl, inr}
 use Rattle.std.specs.Prelude.{Any, codes, zip, ◌&&◌, nat_le, nat_lt}
 use Rattle.std.specs.List.{AllZip, flat_map, list_all}
 use Rattle.ste_base.specs.declared.id.NodeId.{NodeId}
@@ -26,7 +26,8 @@ use Rattle.ste_model.specs.Table.{IsPossible, latch_sets}
 use Rattle.ste_model.specs.Trees.{QuintTree, quint_tree, task_tree}
 use Rattle.ste_model.proofs.Verdicts.{one_verdict}
 use Rattle.ste_model.specs.declared.task.Tasks.{Tasks}
-use Rattle.ste_program.specs.Check.{IsReportOn, IsVerdictOn, is_pass, report_line, verdict_words}
+use Rattle.ste_program.specs.Check.{IsReportOn, IsVerdictOn, is_pass, report_line, task_name, verdict_words}
+use Rattle.ste_program.specs.Report.{Agree}
 use Rattle.ste_program.proofs.SameNets.{AreSame, flats_same, gate_at}
 
 -- the sets of inputs by their numbers
@@ -183,36 +184,53 @@ verdict_moved net other vars one twin verdict same back says h =
     (weak_moved net other one twin same back says) (weak_moved other net twin one back same returned)
     (of_contradictory net other one twin same back says) (of_contradictory other net twin one back same returned) h
 
--- the verdicts of tasks that say the same, and their lines
-verdicts_same : (net other : RawNet) (vars : ℕ) (tasks twins : List Task) (verdicts others : List Verdict) → AreSame net other → AreSame other net → map task_tree tasks ≡ map task_tree twins →
-    AllZip (IsVerdictOn net vars) tasks verdicts → AllZip (IsVerdictOn other vars) twins others → (verdicts ≡ others) × (flat_map report_line (zip tasks verdicts) ≡ flat_map report_line (zip twins others))
-verdicts_same net other vars [] [] [] [] same back e f g = (refl, refl)
-verdicts_same net other vars [] [] [] (v ∷ others) same back e f g = absurd g
-verdicts_same net other vars [] [] (v ∷ verdicts) others same back e f g = absurd f
-verdicts_same net other vars [] (t ∷ twins) verdicts others same back e f g = absurd (cc e)
-verdicts_same net other vars (t ∷ tasks) [] verdicts others same back e f g = absurd (cc e)
-verdicts_same net other vars (t ∷ tasks) (u ∷ twins) [] others same back e f g = absurd f
-verdicts_same net other vars (t ∷ tasks) (u ∷ twins) (v ∷ verdicts) [] same back e f g = absurd g
-verdicts_same net other vars (Gste t ∷ tasks) (u ∷ twins) (v ∷ verdicts) (w ∷ others) same back e f g = absurd f.0
-verdicts_same net other vars (Ste t ∷ tasks) (Gste u ∷ twins) (v ∷ verdicts) (w ∷ others) same back e f g = absurd g.0
-verdicts_same net other vars (Ste t ∷ tasks) (Ste u ∷ twins) (v ∷ verdicts) (w ∷ others) same back e f g =
+-- what is told of tasks that say the same agrees, but where one is budget
+told_agree : (net other : RawNet) (vars one_steps two_steps : ℕ) (t u : Assertion) (v w : Verdict) → AreSame net other → AreSame other net → SaysSame t u → IsVerdictOn net vars one_steps (Ste t) v → IsVerdictOn other vars two_steps (Ste u) w → Agree v w
+told_agree net other vars one_steps two_steps t u v w same back says (inr f) g = inr (inl f.0)
+told_agree net other vars one_steps two_steps t u v w same back says (inl f) (inr g) = inr (inr g.0)
+told_agree net other vars one_steps two_steps t u v w same back says (inl f) (inl g) = inl (one_verdict.same other vars u v w (verdict_moved net other vars t u v same back says f) g)
+
+verdicts_agree : (net other : RawNet) (vars one_steps two_steps : ℕ) (tasks twins : List Task) (verdicts others : List Verdict) → AreSame net other → AreSame other net → map task_tree tasks ≡ map task_tree twins →
+    AllZip (IsVerdictOn net vars one_steps) tasks verdicts → AllZip (IsVerdictOn other vars two_steps) twins others → AllZip Agree verdicts others
+verdicts_agree net other vars m n [] [] [] [] same back e f g = tt
+verdicts_agree net other vars m n [] [] [] (v ∷ others) same back e f g = absurd g
+verdicts_agree net other vars m n [] [] (v ∷ verdicts) others same back e f g = absurd f
+verdicts_agree net other vars m n [] (t ∷ twins) verdicts others same back e f g = absurd (cc e)
+verdicts_agree net other vars m n (t ∷ tasks) [] verdicts others same back e f g = absurd (cc e)
+verdicts_agree net other vars m n (t ∷ tasks) (u ∷ twins) [] others same back e f g = absurd f
+verdicts_agree net other vars m n (t ∷ tasks) (u ∷ twins) (v ∷ verdicts) [] same back e f g = absurd g
+verdicts_agree net other vars m n (Gste t ∷ tasks) (u ∷ twins) (v ∷ verdicts) (w ∷ others) same back e f g = absurd f.0
+verdicts_agree net other vars m n (Ste t ∷ tasks) (Gste u ∷ twins) (v ∷ verdicts) (w ∷ others) same back e f g = absurd g.0
+verdicts_agree net other vars m n (Ste t ∷ tasks) (Ste u ∷ twins) (v ∷ verdicts) (w ∷ others) same back e f g =
     let first : task_tree (Ste t) ≡ task_tree (Ste u) = cc e in
     let trees : map task_tree tasks ≡ map task_tree twins = cc e in
-    let says = says_same t u first in
-    let verdict = one_verdict.same other vars u v w (verdict_moved net other vars t u v same back says f.0) g.0 in
-    let rest = verdicts_same net other vars tasks twins verdicts others same back trees f.1 g.1 in
-    let line : report_line (Ste t, v) ≡ report_line (Ste u, w) = line_same t u v w says.name verdict in (
-      ap (λ x. x ∷ verdicts) verdict ∙ ap (λ l. w ∷ l) rest.0,
-      ap (λ l. l ++ flat_map report_line (zip tasks verdicts)) line ∙ ap (λ l. report_line (Ste u, w) ++ l) rest.1,
-    )
-  where
-    line_same : (t u : Assertion) (v w : Verdict) → t.name ≡ u.name → v ≡ w → report_line (Ste t, v) ≡ report_line (Ste u, w)
-    line_same t u v w name verdict =
-        ap (λ (n : List ℕ). n ++ codes ": " ++ verdict_words v ++ codes "\n") name ∙ ap (λ x. u.name ++ codes ": " ++ verdict_words x ++ codes "\n") verdict
+    (told_agree net other vars m n t u v w same back (says_same t u first) f.0 g.0, verdicts_agree net other vars m n tasks twins verdicts others same back trees f.1 g.1)
 
-pub reports_same : (models : List Model) (net other : RawNet) (tasks twins : Tasks) (passes others : Bool) (bytes others_bytes : List ℕ) → IsFlat models net → IsFlat models other → tasks.vars ≡ twins.vars → map task_tree tasks.tasks ≡ map task_tree twins.tasks →
-    (one : IsReportOn net tasks passes bytes) (two : IsReportOn other twins others others_bytes) → (passes ≡ others) × (bytes ≡ others_bytes) × (one.verdicts ≡ two.verdicts)
-reports_same models net other tasks twins passes others bytes others_bytes f g vars trees one two =
-    let judged = subst (λ (names : List (List ℕ)). AllZip (IsVerdictOn net (length names)) tasks.tasks one.verdicts) vars one.judged in
-    let both = verdicts_same net other (length twins.vars) tasks.tasks twins.tasks one.verdicts two.verdicts (flats_same models net other f g) (flats_same models other net g f) trees judged two.judged in
-    (one.passing ∙ (ap (list_all is_pass) both.0 ∙ sym two.passing), one.written ∙ (both.1 ∙ sym two.written), both.0)
+-- tasks that say the same have the same names, and so the same lines with the same verdicts
+name_same : (t u : Task) → task_tree t ≡ task_tree u → task_name t ≡ task_name u
+name_same (Ste t) (Ste u) e = (says_same t u e).name
+name_same (Ste t) (Gste u) e = absurd (cc e)
+name_same (Gste t) (Ste u) e = absurd (cc e)
+name_same (Gste t) (Gste u) e = cc e
+
+lines_same : (tasks twins : List Task) (verdicts : List Verdict) → map task_tree tasks ≡ map task_tree twins → flat_map report_line (zip tasks verdicts) ≡ flat_map report_line (zip twins verdicts)
+lines_same [] [] verdicts e = refl
+lines_same [] (u ∷ twins) verdicts e = absurd (cc e)
+lines_same (t ∷ tasks) [] verdicts e = absurd (cc e)
+lines_same (t ∷ tasks) (u ∷ twins) [] e = refl
+lines_same (t ∷ tasks) (u ∷ twins) (v ∷ verdicts) e =
+    let first : task_tree t ≡ task_tree u = cc e in
+    let trees : map task_tree tasks ≡ map task_tree twins = cc e in
+    ap (λ (n : List ℕ). (n ++ codes ": " ++ verdict_words v ++ codes "\n") ++ flat_map report_line (zip tasks verdicts)) (name_same t u first)
+    ∙ ap (λ l. report_line (u, v) ++ l) (lines_same tasks twins verdicts trees)
+
+pub reports_agree : (models : List Model) (net other : RawNet) (m n : ℕ) (tasks twins : Tasks) (passes others : Bool) (bytes others_bytes : List ℕ) → IsFlat models net → IsFlat models other → tasks.vars ≡ twins.vars → map task_tree tasks.tasks ≡ map task_tree twins.tasks →
+    (one : IsReportOn net m tasks passes bytes) (two : IsReportOn other n twins others others_bytes) → AllZip Agree one.verdicts two.verdicts × (one.verdicts ≡ two.verdicts → (passes ≡ others) × (bytes ≡ others_bytes))
+reports_agree models net other m n tasks twins passes others bytes others_bytes f g vars trees one two =
+    let judged = subst (λ (names : List (List ℕ)). AllZip (IsVerdictOn net (length names) m) tasks.tasks one.verdicts) vars one.judged in (
+      verdicts_agree net other (length twins.vars) m n tasks.tasks twins.tasks one.verdicts two.verdicts (flats_same models net other f g) (flats_same models other net g f) trees judged two.judged,
+      (λ same. (
+        one.passing ∙ (ap (list_all is_pass) same ∙ sym two.passing),
+        one.written ∙ (lines_same tasks.tasks twins.tasks one.verdicts trees ∙ (ap (λ (verdicts : List Verdict). flat_map report_line (zip twins.tasks verdicts)) same ∙ sym two.written)),
+      )),
+    )

@@ -1,25 +1,25 @@
 -- Tasks, their verdicts and their nets, as the loops over them see them.
-use Rattle.std.proofs.Common.{◌≡◌, ◌≤◌, ◌<◌, ℕ, suc, ◌+◌, List, [], ◌∷◌, ◌++◌, length, map, take, get_or, Bool, true, Option, None, Some, Ok, refl, ap, sym, ◌∙◌, subst, arith, add-one, append-nil}
-use Rattle.std.specs.Prelude.{◌&&◌, All, IsSome, unwrap_or, nat_le, zip}
+use Rattle.std.proofs.Common.{◌≡◌, ◌≤◌, ◌<◌, ℕ, zero, suc, ◌+◌, ◌*◌, List, [], ◌∷◌, ◌++◌, length, map, take, get_or, Bool, true, false, Option, None, Some, Result, Ok, Err, refl, ap, sym, ◌∙◌, subst, arith, add-one, append-nil, inl, inr}
+use Rattle.std.specs.Prelude.{◌≢◌, ◌&&◌, All, IfOk, IsSome, IsTrue, unwrap_or, zip}
 use Rattle.std.specs.List.{AllZip, flat_map, list_all}
 use Rattle.std.proofs.lemmas.Bool.{and_parts}
 use Rattle.std.proofs.lemmas.Grind.{flat_map-append}
 use Rattle.std.proofs.lemmas.List.Elements.{All-cons}
-use Rattle.std.proofs.lemmas.List.{get_or-map, length-map, take_all}
+use Rattle.std.proofs.lemmas.List.{length-map, take_all}
 use Rattle.std.proofs.Math.Seq.{take-suc}
 use Rattle.ste_base.specs.declared.id.NodeId.{NodeId}
 use Rattle.blif_syntax.specs.declared.models.Model.{Model}
-use Rattle.hierarchy.specs.Lines.{GateLine}
 use Rattle.hierarchy.specs.Names.{net_named}
-use Rattle.hierarchy.specs.Nets.{gates, nets}
-use Rattle.net_core.specs.declared.raw.Gate.{Gate}
+use Rattle.hierarchy.specs.Nets.{nets}
 use Rattle.net_core.specs.declared.raw.RawNet.{RawNet}
 use Rattle.net_names.proofs.Named.{named_in_range}
-use Rattle.flat_net.specs.Flat.{IsFlat, IsGateOf}
+use Rattle.flat_net.specs.Flat.{IsFlat}
 use Rattle.assert_syntax.specs.declared.tasks.RawQuint.{RawQuint}
 use Rattle.assert_syntax.specs.declared.tasks.RawTask.{RawTask}
 use Rattle.assert_syntax.specs.declared.tasks.RawTask.TheVariants as raw
 use Rattle.assert_syntax.specs.declared.tasks.RawTasks.{RawTasks}
+use Rattle.ste_model.specs.Expressions.{reads}
+use Rattle.ste_model.specs.Need.{ReadBelow}
 use Rattle.ste_model.specs.Trees as tree
 use Rattle.ste_model.specs.declared.task.Assertion.{Assertion}
 use Rattle.ste_model.specs.declared.task.Quint.{Quint}
@@ -31,62 +31,20 @@ use Rattle.task_binding.specs.Bound.{net_by, quint_bound, task_bound}
 use Rattle.task_binding.specs.Mentions.{AllNamed, mentions_of, quint_mention, task_mentions}
 use Rattle.task_binding.specs.declared.unknown.Mention.{Mention}
 use Rattle.ste_model.specs.declared.verdict.Verdict.{Verdict}
+use Rattle.assert_syntax.specs.Spelled.{task_tree}
+use Rattle.assert_syntax.proofs.Whole.{a_parse}
+use Rattle.ste_program.specs.TaskFile.{AreTasks}
 use Rattle.ste_program.specs.private.Judged.{AreJudged}
-use Rattle.ste_program.specs.Check.{IsVerdictOn, report_line}
+use Rattle.ste_model.specs.declared.verdict.Verdict.TheVariants.{Pass, Weak, Strong, Vacuous, Budget}
+use Rattle.ste_model.specs.Found.{IsVerdictOf}
+use Rattle.std.specs.declared.alloc.AllocError.{AllocError}
+use Rattle.dd_nodes.specs.Stores.{Store, empty_store}
+use Rattle.ste_engine.specs.Engine.{IsBudget}
+use Rattle.ste_program.specs.Check.{AreTooFew, IsCheck, IsReportOn, IsVerdictOn, are_too_many, report_line, task_steps}
 use Rattle.ste_program.specs.private.Made.{IsCheckable}
-use Rattle.ste_program.specs.Reading.{is_assertion, is_checked_so_far, is_narrow}
-
--- an antecedent that may be checked
-pub checkable_ant : (nets : ℕ) (task : Task) (inside : Assertion) → task ≡ Ste inside → IsCheckable nets task → All (λ quint. quint.node.0 < nets) inside.ant
-checkable_ant nets task inside is h = λ k d l.
-    let all : All (λ net. net < nets) (map (λ (quint : Quint). quint.node.0) inside.ant) = (subst (IsCheckable nets) is h).1 in
-    let long = length-map inside.ant (λ (quint : Quint). quint.node.0) in
-    subst (λ n. n < nets) (get_or-map (λ (quint : Quint). quint.node.0) inside.ant k d 0 l) (all k 0 (omega (arith, long, l)))
-
--- the gates of a flat net are as wide as the lines that they come from
-narrow_lines : (models : List Model) (net : RawNet) (ones : List Gate) (lines : List (List ℕ × GateLine)) → AllZip (IsGateOf models net) ones lines → list_all (λ gate. nat_le (length gate.inputs) 8) ones ≡ list_all is_narrow lines
-narrow_lines models net [] [] h = refl
-narrow_lines models net [] (line ∷ lines) h = absurd h
-narrow_lines models net (gate ∷ ones) [] h = absurd h
-narrow_lines models net (gate ∷ ones) (line ∷ lines) h =
-    let same : length gate.inputs ≡ length line.1.inputs =
-    sym (length-map gate.inputs (λ (input : NodeId). input.0)) ∙ (ap length h.0.inputs ∙ length-map line.1.inputs _) in
-    ap (λ n. nat_le n 8 && list_all (λ gate. nat_le (length gate.inputs) 8) ones) same ∙ ap (λ b. is_narrow line && b) (narrow_lines models net ones lines h.1)
-
-pub narrow_alike : (models : List Model) (net : RawNet) → IsFlat models net → list_all (λ gate. nat_le (length gate.inputs) 8) net.gates ≡ list_all is_narrow (gates models)
-narrow_alike models net flat = narrow_lines models net net.gates (gates models) flat.gates
-
--- one more task with its verdict and line
-zip_end : (net : RawNet) (vars : ℕ) (tasks : List Task) (verdicts : List Verdict) (task : Task) (verdict : Verdict) → AllZip (IsVerdictOn net vars) tasks verdicts → IsVerdictOn net vars task verdict →
-    AllZip (IsVerdictOn net vars) (tasks ++ task ∷ []) (verdicts ++ verdict ∷ []) × (zip (tasks ++ task ∷ []) (verdicts ++ verdict ∷ []) ≡ zip tasks verdicts ++ (task, verdict) ∷ [])
-zip_end net vars [] [] task verdict all one = ((one, tt), refl)
-zip_end net vars [] (y ∷ ys) task verdict all one = absurd all
-zip_end net vars (x ∷ xs) [] task verdict all one = absurd all
-zip_end net vars (x ∷ xs) (y ∷ ys) task verdict all one =
-    let rest = zip_end net vars xs ys task verdict all.1 one in
-    ((all.0, rest.0), ap (λ l. (x, y) ∷ l) rest.1)
-
-pub judged_more : (net : RawNet) (vars : ℕ) (tasks : List Task) (verdicts after : List Verdict) (lines line longer : List ℕ) (i : ℕ) (task : Task) (verdict : Verdict) → i < length tasks → task ≡ get_or tasks i task →
-    AreJudged net vars (take i tasks) verdicts lines → IsVerdictOn net vars task verdict → line ≡ report_line (task, verdict) → longer ≡ lines ++ line → after ≡ verdicts ++ verdict ∷ [] →
-    AreJudged net vars (take (i + 1) tasks) after longer
-judged_more net vars tasks verdicts after lines line longer i task verdict l is before one its_line more pushed =
-    let grown : take (i + 1) tasks ≡ take i tasks ++ task ∷ [] = ap (λ k. take k tasks) (add-one i) ∙ take-suc tasks i task l ∙ ap (λ x. take i tasks ++ x ∷ []) (sym is) in
-    let both = zip_end net vars (take i tasks) verdicts task verdict before.0 one in
-    let flat : flat_map report_line (zip (take i tasks) verdicts ++ (task, verdict) ∷ []) ≡ lines ++ line =
-    flat_map-append report_line (zip (take i tasks) verdicts) ((task, verdict) ∷ [])
-    ∙ (ap (λ k. flat_map report_line (zip (take i tasks) verdicts) ++ k) (append-nil (report_line (task, verdict)))
-    ∙ (ap (λ k. k ++ report_line (task, verdict)) (sym before.1) ∙ ap (λ k. lines ++ k) (sym its_line))) in
-    subst (λ ts. AreJudged net vars ts after longer) (sym grown)
-    (subst (λ vs. AreJudged net vars (take i tasks ++ task ∷ []) vs longer) (sym pushed)
-    (both.0, more ∙ sym (ap (flat_map report_line) both.1 ∙ flat)))
-
-pub judged_end : (net : RawNet) (vars : ℕ) (tasks : List Task) (verdicts : List Verdict) (lines : List ℕ) (i : ℕ) → length tasks ≤ i → AreJudged net vars (take i tasks) verdicts lines → AreJudged net vars tasks verdicts lines
-judged_end net vars tasks verdicts lines i l h = subst (λ ts. AreJudged net vars ts verdicts lines) (take_all i tasks l) h
-
--- a number that a text names is that of a net
-in_range : (models : List Model) (text : List ℕ) (found : Option ℕ) → net_named models text ≡ found → IsSome found → unwrap_or found 0 < length (nets models)
-in_range models text None e some = absurd (cc some)
-in_range models text (Some n) e some = named_in_range models text n e
+use Rattle.ste_program.proofs.Declared.{AreDeclared}
+use Rattle.ste_program.specs.private.Prepared.{IsPrepared}
+use Rattle.ste_program.specs.Reading.{is_assertion, is_checked_so_far}
 
 -- what holds of all of two lists in a row holds of both
 all_left : {X : Type 0} (P : X → Type 0) (xs ys : List X) → All P (xs ++ ys) → All P xs
@@ -97,69 +55,166 @@ all_right : {X : Type 0} (P : X → Type 0) (xs ys : List X) → All P (xs ++ ys
 all_right P [] ys all = all
 all_right P (x ∷ xs) ys all = all_right P xs ys (λ j e m. all (suc j) e (omega (arith, m)))
 
+all_both : {X : Type 0} (P : X → Type 0) (xs ys : List X) → All P xs → All P ys → All P (xs ++ ys)
+all_both P [] ys first rest = rest
+all_both P (x ∷ xs) ys first rest = All-cons P x (xs ++ ys) (first 0 x (omega arith)) (all_both P xs ys (λ j e m. first (suc j) e (omega (arith, m))) rest)
+
+-- an assertion that may be checked: its nets are in range, and its variables are declared
+pub checkable_ant : (nets vars : ℕ) (task : Assertion) → IsCheckable nets vars (Ste task) → All (λ quint. quint.node.0 < nets) task.ant
+checkable_ant nets vars task h = all_left (λ (quint : Quint). quint.node.0 < nets) task.ant task.con h.1
+
+pub checkable_con : (nets vars : ℕ) (task : Assertion) → IsCheckable nets vars (Ste task) → All (λ quint. quint.node.0 < nets) task.con
+checkable_con nets vars task h = all_right (λ (quint : Quint). quint.node.0 < nets) task.ant task.con h.1
+
+pub declared_ant : (nets vars : ℕ) (task : Assertion) → IsCheckable nets vars (Ste task) → ReadBelow vars task.ant
+declared_ant nets vars task h = all_left (λ (quint : Quint). IsTrue (reads vars quint.guard && reads vars quint.value)) task.ant task.con h.2
+
+pub declared_con : (nets vars : ℕ) (task : Assertion) → IsCheckable nets vars (Ste task) → ReadBelow vars task.con
+declared_con nets vars task h = all_right (λ (quint : Quint). IsTrue (reads vars quint.guard && reads vars quint.value)) task.ant task.con h.2
+
+-- a verdict that is that of the definition, or budget for want of steps
+pub told_of : (net : RawNet) (vars steps : ℕ) (task : Assertion) (verdict : Verdict) → (verdict ≢ Budget → IsVerdictOf net vars task verdict) → (verdict ≡ Budget → AreTooFew net vars steps task) → IsVerdictOn net vars steps (Ste task) verdict
+told_of net vars steps task Pass told short = inl (told (λ e. absurd (cc e)))
+told_of net vars steps task Weak told short = inl (told (λ e. absurd (cc e)))
+told_of net vars steps task Strong told short = inl (told (λ e. absurd (cc e)))
+told_of net vars steps task Vacuous told short = inl (told (λ e. absurd (cc e)))
+told_of net vars steps task Budget told short = inr (refl, short refl)
+
+-- the engine's answer over a store that holds nothing
+pub engine_told : (net : RawNet) (vars steps : ℕ) (task : Assertion) (before after : Store) (result : Result Verdict AllocError) → before ≡ empty_store steps vars →
+    IfOk result (λ verdict. verdict ≢ Budget → IsVerdictOf net before.vars task verdict) → (result ≡ Ok Budget → IsBudget net task before after) → IfOk result (λ verdict. IsVerdictOn net vars steps (Ste task) verdict)
+engine_told net vars steps task before after (Err fault) is told short = tt
+engine_told net vars steps task before after (Ok verdict) is told short =
+    told_of net vars steps task verdict
+    (λ other. subst (λ (s : Store). IsVerdictOf net s.vars task verdict) is (told other))
+    (λ budget need is_need.
+    let spent = subst (λ (s : Store). IsBudget net task s after) is (short (ap Ok budget)) in
+    let few = spent.few need is_need in omega (arith, few))
+
+-- one more task with its verdict and line
+zip_end : (net : RawNet) (vars steps : ℕ) (tasks : List Task) (verdicts : List Verdict) (task : Task) (verdict : Verdict) → AllZip (IsVerdictOn net vars steps) tasks verdicts → IsVerdictOn net vars steps task verdict →
+    AllZip (IsVerdictOn net vars steps) (tasks ++ task ∷ []) (verdicts ++ verdict ∷ []) × (zip (tasks ++ task ∷ []) (verdicts ++ verdict ∷ []) ≡ zip tasks verdicts ++ (task, verdict) ∷ [])
+zip_end net vars steps [] [] task verdict all one = ((one, tt), refl)
+zip_end net vars steps [] (y ∷ ys) task verdict all one = absurd all
+zip_end net vars steps (x ∷ xs) [] task verdict all one = absurd all
+zip_end net vars steps (x ∷ xs) (y ∷ ys) task verdict all one =
+    let rest = zip_end net vars steps xs ys task verdict all.1 one in
+    ((all.0, rest.0), ap (λ l. (x, y) ∷ l) rest.1)
+
+pub judged_more : (net : RawNet) (vars steps : ℕ) (tasks : List Task) (verdicts after : List Verdict) (lines line longer : List ℕ) (i : ℕ) (task : Task) (verdict : Verdict) → i < length tasks → task ≡ get_or tasks i task →
+    AreJudged net vars steps (take i tasks) verdicts lines → IsVerdictOn net vars steps task verdict → line ≡ report_line (task, verdict) → longer ≡ lines ++ line → after ≡ verdicts ++ verdict ∷ [] →
+    AreJudged net vars steps (take (i + 1) tasks) after longer
+judged_more net vars steps tasks verdicts after lines line longer i task verdict l is before one its_line more pushed =
+    let grown : take (i + 1) tasks ≡ take i tasks ++ task ∷ [] = ap (λ k. take k tasks) (add-one i) ∙ take-suc tasks i task l ∙ ap (λ x. take i tasks ++ x ∷ []) (sym is) in
+    let both = zip_end net vars steps (take i tasks) verdicts task verdict before.0 one in
+    let flat : flat_map report_line (zip (take i tasks) verdicts ++ (task, verdict) ∷ []) ≡ lines ++ line =
+    flat_map-append report_line (zip (take i tasks) verdicts) ((task, verdict) ∷ [])
+    ∙ (ap (λ k. flat_map report_line (zip (take i tasks) verdicts) ++ k) (append-nil (report_line (task, verdict)))
+    ∙ (ap (λ k. k ++ report_line (task, verdict)) (sym before.1) ∙ ap (λ k. lines ++ k) (sym its_line))) in
+    subst (λ ts. AreJudged net vars steps ts after longer) (sym grown)
+    (subst (λ vs. AreJudged net vars steps (take i tasks ++ task ∷ []) vs longer) (sym pushed)
+    (both.0, more ∙ sym (ap (flat_map report_line) both.1 ∙ flat)))
+
+pub judged_end : (net : RawNet) (vars steps : ℕ) (tasks : List Task) (verdicts : List Verdict) (lines : List ℕ) (i : ℕ) → length tasks ≤ i → AreJudged net vars steps (take i tasks) verdicts lines → AreJudged net vars steps tasks verdicts lines
+judged_end net vars steps tasks verdicts lines i l h = subst (λ ts. AreJudged net vars steps ts verdicts lines) (take_all i tasks l) h
+
+-- a number that a text names is that of a net
+in_range : (models : List Model) (text : List ℕ) (found : Option ℕ) → net_named models text ≡ found → IsSome found → unwrap_or found 0 < length (nets models)
+in_range models text None e some = absurd (cc some)
+in_range models text (Some n) e some = named_in_range models text n e
+
 -- the nets of bound quintuples are in range
-quints_in : (models : List Model) (raws : List RawQuint) (quints : List Quint) → AllNamed (net_named models) (map quint_mention raws) → map tree.quint_tree quints ≡ map (quint_bound (net_by (net_named models))) raws →
-    All (λ net. net < length (nets models)) (map (λ (quint : Quint). quint.node.0) quints)
-quints_in models [] [] all e = λ k d l. absurd (omega (arith, l))
-quints_in models [] (q ∷ quints) all e = absurd (cc e)
-quints_in models (r ∷ raws) [] all e = absurd (cc e)
-quints_in models (r ∷ raws) (q ∷ quints) all e =
+nets_in : (models : List Model) (raws : List RawQuint) (quints : List Quint) → AllNamed (net_named models) (map quint_mention raws) → map tree.quint_tree quints ≡ map (quint_bound (net_by (net_named models))) raws →
+    All (λ quint. quint.node.0 < length (nets models)) quints
+nets_in models [] [] all e = λ k d l. absurd (omega (arith, l))
+nets_in models [] (q ∷ quints) all e = absurd (cc e)
+nets_in models (r ∷ raws) [] all e = absurd (cc e)
+nets_in models (r ∷ raws) (q ∷ quints) all e =
     let first : tree.quint_tree q ≡ quint_bound (net_by (net_named models)) r = cc e in
     let rest : map tree.quint_tree quints ≡ map (quint_bound (net_by (net_named models))) raws = cc e in
     let node : q.node.0 ≡ unwrap_or (net_named models r.node) 0 = ap (λ (t : tree.QuintTree). t.node) first in
     let low : unwrap_or (net_named models r.node) 0 < length (nets models) = in_range models r.node (net_named models r.node) refl (all 0 (quint_mention r) (omega arith)) in
-    let head : q.node.0 < length (nets models) = subst (λ n. n < length (nets models)) (sym node) low in
-    All-cons (λ net. net < length (nets models)) q.node.0 (map (λ (quint : Quint). quint.node.0) quints) head
-    (quints_in models raws quints (λ j d m. all (suc j) d (omega (arith, m))) rest)
+    All-cons (λ (quint : Quint). quint.node.0 < length (nets models)) q quints (subst (λ n. n < length (nets models)) (sym node) low)
+    (nets_in models raws quints (λ j d m. all (suc j) d (omega (arith, m))) rest)
 
 -- a bound assertion may be checked
-one_checkable : (models : List Model) (task_raw : RawTask) (task : Task) → AllNamed (net_named models) (task_mentions task_raw) → is_assertion task_raw ≡ true → tree.task_tree task ≡ task_bound (net_by (net_named models)) task_raw →
-    IsCheckable (length (nets models)) task
-one_checkable models (raw.Ste line name reset ant con) (Ste task) all is e =
-    let same : map tree.quint_tree task.ant ≡ map (quint_bound (net_by (net_named models))) ant = cc e in
-    (refl, quints_in models ant task.ant (all_left (λ (m : Mention). IsSome (net_named models m.node)) (map quint_mention ant) (map quint_mention con) all) same)
-one_checkable models (raw.Ste line name reset ant con) (Gste task) all is e = absurd (cc e)
-one_checkable models (raw.Gste line name reset vertices edges) task all is e = absurd (cc is)
+one_checkable : (models : List Model) (vars : ℕ) (task_raw : RawTask) (task : Task) → AllNamed (net_named models) (task_mentions task_raw) → is_assertion task_raw ≡ true → tree.task_tree task ≡ task_bound (net_by (net_named models)) task_raw →
+    AreDeclared vars task → IsCheckable (length (nets models)) vars task
+one_checkable models vars (raw.Ste line name reset ant con) (Ste task) all is e declared =
+    let ants : map tree.quint_tree task.ant ≡ map (quint_bound (net_by (net_named models))) ant = cc e in
+    let cons : map tree.quint_tree task.con ≡ map (quint_bound (net_by (net_named models))) con = cc e in (
+      refl,
+      all_both (λ (quint : Quint). quint.node.0 < length (nets models)) task.ant task.con
+          (nets_in models ant task.ant (all_left (λ (m : Mention). IsSome (net_named models m.node)) (map quint_mention ant) (map quint_mention con) all) ants)
+          (nets_in models con task.con (all_right (λ (m : Mention). IsSome (net_named models m.node)) (map quint_mention ant) (map quint_mention con) all) cons),
+      all_both (λ (quint : Quint). IsTrue (reads vars quint.guard && reads vars quint.value)) task.ant task.con declared.0 declared.1,
+    )
+one_checkable models vars (raw.Ste line name reset ant con) (Gste task) all is e declared = absurd (cc e)
+one_checkable models vars (raw.Gste line name reset vertices edges) task all is e declared = absurd (cc is)
 
-all_checkable : (models : List Model) (raws : List RawTask) (tasks : List Task) → AllNamed (net_named models) (mentions_of raws) → list_all is_assertion raws ≡ true →
-    map tree.task_tree tasks ≡ map (task_bound (net_by (net_named models))) raws → All (IsCheckable (length (nets models))) tasks
-all_checkable models [] [] all is e = λ k d l. absurd (omega (arith, l))
-all_checkable models [] (t ∷ tasks) all is e = absurd (cc e)
-all_checkable models (r ∷ raws) [] all is e = absurd (cc e)
-all_checkable models (r ∷ raws) (t ∷ tasks) all is e =
+all_checkable : (models : List Model) (vars : ℕ) (raws : List RawTask) (tasks : List Task) → AllNamed (net_named models) (mentions_of raws) → list_all is_assertion raws ≡ true →
+    map tree.task_tree tasks ≡ map (task_bound (net_by (net_named models))) raws → All (AreDeclared vars) tasks → All (IsCheckable (length (nets models)) vars) tasks
+all_checkable models vars [] [] all is e declared = λ k d l. absurd (omega (arith, l))
+all_checkable models vars [] (t ∷ tasks) all is e declared = absurd (cc e)
+all_checkable models vars (r ∷ raws) [] all is e declared = absurd (cc e)
+all_checkable models vars (r ∷ raws) (t ∷ tasks) all is e declared =
     let both = and_parts (is_assertion r) (list_all is_assertion raws) is in
     let first : tree.task_tree t ≡ task_bound (net_by (net_named models)) r = cc e in
     let rest : map tree.task_tree tasks ≡ map (task_bound (net_by (net_named models))) raws = cc e in
-    All-cons (IsCheckable (length (nets models))) t tasks
-    (one_checkable models r t (all_left (λ (m : Mention). IsSome (net_named models m.node)) (task_mentions r) (mentions_of raws) all) both.0 first)
-    (all_checkable models raws tasks (all_right (λ (m : Mention). IsSome (net_named models m.node)) (task_mentions r) (mentions_of raws) all) both.1 rest)
-
--- gates that pass the test are narrow
-narrow_gates : (ones : List Gate) → list_all (λ gate. nat_le (length gate.inputs) 8) ones ≡ true → All (λ gate. length gate.inputs ≤ 8) ones
-narrow_gates [] e = λ k d l. absurd (omega (arith, l))
-narrow_gates (gate ∷ ones) e =
-    let both = and_parts (nat_le (length gate.inputs) 8) (list_all (λ gate. nat_le (length gate.inputs) 8) ones) e in
-    All-cons (λ (gate : Gate). length gate.inputs ≤ 8) gate ones (grind (arith, both.0)) (narrow_gates ones both.1)
+    All-cons (IsCheckable (length (nets models)) vars) t tasks
+    (one_checkable models vars r t (all_left (λ (m : Mention). IsSome (net_named models m.node)) (task_mentions r) (mentions_of raws) all) both.0 first (declared 0 t (omega arith)))
+    (all_checkable models vars raws tasks (all_right (λ (m : Mention). IsSome (net_named models m.node)) (task_mentions r) (mentions_of raws) all) both.1 rest (λ k d l. declared (suc k) d (omega (arith, l))))
 
 -- what is checked so far keeps the promises of what is prepared
-pub record ArePromised (net : RawNet) (tasks : Tasks) : Type 0 where
-  pub narrow : All (λ gate. length gate.inputs ≤ 8) net.gates
-  pub checkable : All (IsCheckable net.nets) tasks.tasks
-  pub few : length tasks.vars ≤ 8
+pub promised : (models : List Model) (raws : RawTasks) (net : RawNet) (tasks : Tasks) → IsFlat models net → IsAnswer (net_named models) (length (nets models)) raws (Ok tasks) → is_checked_so_far raws ≡ true → All (AreDeclared (length tasks.vars)) tasks.tasks →
+    All (IsCheckable net.nets (length tasks.vars)) tasks.tasks
+promised models raws net tasks flat bound checked declared =
+    subst (λ n. All (IsCheckable n (length tasks.vars)) tasks.tasks) (sym flat.nets) (all_checkable models (length tasks.vars) raws.tasks tasks.tasks bound.0 checked bound.2.1 declared)
 
-pub promised : (models : List Model) (raws : RawTasks) (net : RawNet) (tasks : Tasks) → IsFlat models net → IsAnswer (net_named models) (length (nets models)) raws (Ok tasks) → is_checked_so_far models raws ≡ true → ArePromised net tasks
-promised models raws net tasks flat bound checked =
-    let parts = and_parts (nat_le (length raws.vars) 8) (list_all is_assertion raws.tasks && list_all is_narrow (gates models)) checked in
-    let kinds = and_parts (list_all is_assertion raws.tasks) (list_all is_narrow (gates models)) parts.1 in
-    let few : length raws.vars ≤ 8 = grind (arith, parts.0) in record {
-      narrow = narrow_gates net.gates (narrow_alike models net flat ∙ kinds.1);
-      checkable = subst (λ n. All (IsCheckable n) tasks.tasks) (sym flat.nets) (all_checkable models raws.tasks tasks.tasks bound.0 kinds.0 bound.2.1);
-      few = subst (λ (vars : List (List ℕ)). length vars ≤ 8) (sym bound.2.0) few;
-    }
+-- there are as many bound tasks as there were
+pub as_many : (models : List Model) (raws : RawTasks) (tasks : Tasks) → IsAnswer (net_named models) (length (nets models)) raws (Ok tasks) → length raws.tasks ≡ length tasks.tasks
+as_many models raws tasks bound =
+    sym (length-map raws.tasks (task_bound (net_by (net_named models)))) ∙ (sym (ap length bound.2.1) ∙ length-map tasks.tasks tree.task_tree)
 
--- whether tasks over a net are checked so far
-pub checked_is : (models : List Model) (net : RawNet) (raws : RawTasks) (few all narrow : Bool) → IsFlat models net → few ≡ nat_le (length raws.vars) 8 → all ≡ list_all is_assertion raws.tasks → narrow ≡ list_all (λ gate. nat_le (length gate.inputs) 8) net.gates →
-    (few && (all && narrow)) ≡ is_checked_so_far models raws
-checked_is models net raws few all narrow flat f g h =
-    ap (λ b. b && (all && narrow)) f
-    ∙ (ap (λ b. nat_le (length raws.vars) 8 && (b && narrow)) g ∙ ap (λ b. nat_le (length raws.vars) 8 && (list_all is_assertion raws.tasks && b)) (h ∙ narrow_alike models net flat))
+-- a task file that is read has a task
+pub some_tasks : (models : List Model) (task_text : List ℕ) (raws : RawTasks) (tasks : Tasks) → AreTasks task_text raws → IsAnswer (net_named models) (length (nets models)) raws (Ok tasks) → 0 < length tasks.tasks
+some_tasks models task_text raws tasks read bound =
+    let h = read a_parse.0 a_parse.1 in
+    let same = as_many models raws tasks bound in
+    let some : 0 < length raws.tasks = not_none raws.tasks (λ e. h.3 (sym h.2 ∙ ap (map task_tree) e)) in
+    omega (arith, same, some)
+  where
+    not_none : (raw : List RawTask) → (raw ≡ [] → ⊥) → 0 < length raw
+    not_none [] some = absurd (some refl)
+    not_none (task ∷ raw) some = omega arith
+
+-- the variables of bound tasks are as few as those that were read
+pub few_vars : (models : List Model) (raws : RawTasks) (tasks : Tasks) → length raws.vars ≤ 1000 → IsAnswer (net_named models) (length (nets models)) raws (Ok tasks) → length tasks.vars ≤ 1000
+few_vars models raws tasks few bound = subst (λ (vars : List (List ℕ)). length vars ≤ 1000) (sym bound.2.0) few
+
+-- the steps of each task are bounded where those of all together are
+pub steps_bounded : (steps : Option ℕ) (raws tasks : ℕ) → are_too_many steps raws ≡ false → raws ≡ tasks → 0 < tasks → task_steps steps tasks ≤ 16000000
+steps_bounded None raws tasks few same some = omega arith
+steps_bounded (Some steps) zero tasks few same some = absurd (omega (arith, same, some))
+steps_bounded (Some steps) (suc raws) tasks few same some =
+    let within : steps * suc raws ≤ 16000000 = grind (arith, few) in
+    let least : steps ≤ steps * suc raws = grind arith in
+    omega (arith, within, least)
+
+-- the steps of each task, in what is prepared
+pub each_bounded : (steps : Option ℕ) (net_text task_text : List ℕ) (net : RawNet) (tasks : Tasks) (each count : ℕ) → IsPrepared steps net_text task_text net tasks → 0 < length tasks.tasks → each ≡ task_steps steps count → count ≡ length tasks.tasks → each ≤ 16000000
+each_bounded steps net_text task_text net tasks each count made some is counted =
+    subst (λ n. n ≤ 16000000) (sym (is ∙ ap (task_steps steps) counted))
+    (steps_bounded steps (length made.reading.raw.tasks) (length tasks.tasks) made.few (as_many made.models made.reading.raw tasks made.reading.bound) some)
+
+-- what a check writes
+pub is_check : (steps : Option ℕ) (net_text task_text : List ℕ) (net : RawNet) (tasks : Tasks) (each count : ℕ) (passes : Bool) (bytes : List ℕ) → IsPrepared steps net_text task_text net tasks → each ≡ task_steps steps count → count ≡ length tasks.tasks →
+    IsReportOn net each tasks passes bytes → IsCheck steps net_text task_text passes bytes
+is_check steps net_text task_text net tasks each count passes bytes made is counted report = record {
+  models = made.models;
+  net = net;
+  tasks = tasks;
+  reading = made.reading;
+  few = made.few;
+  report = subst (λ n. IsReportOn net n tasks passes bytes) (is ∙ ap (task_steps steps) counted) report;
+}

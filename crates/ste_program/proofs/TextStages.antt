@@ -31,7 +31,7 @@ use Rattle.ste_program.specs.Check.{IsCheck, are_too_many}
 use Rattle.ste_program.specs.Info.{IsInfo}
 use Rattle.ste_program.specs.Netlist.{IsFlattened, IsLoop, IsNetlist}
 use Rattle.ste_program.specs.Order.{AllSilent, CannotBind, HasTooManySteps, IsFaultyFor, IsFirst, IsUnchecked, check_stages, has_faulty_hierarchy, has_faulty_inputs, has_faulty_tasks, has_loop, info_stages, is_faulty, is_unbound, sim_stages, text_stages}
-use Rattle.ste_program.specs.Reading.{IsReading, OneReading, is_assertion, is_checked_so_far, is_narrow}
+use Rattle.ste_program.specs.Reading.{OneReading, is_assertion, is_checked_so_far}
 use Rattle.ste_program.specs.Report.{IsWritten}
 use Rattle.ste_program.specs.Simulated.{IsSimulated}
 use Rattle.ste_program.specs.TaskFile.{AreTasks}
@@ -147,18 +147,14 @@ assertions_are : (raw : List RawTask) → list_all is_assertion raw ≡ list_all
 assertions_are [] = refl
 assertions_are (task ∷ raw) = ap (λ b. b && list_all is_assertion raw) (assertion_is task) ∙ ap (λ b. is_assertion_tree (task_tree task) && b) (assertions_are raw)
 
-checked_alike : (models : List Model) (one other : RawTasks) → one.vars ≡ other.vars → map task_tree one.tasks ≡ map task_tree other.tasks → is_checked_so_far models one ≡ is_checked_so_far models other
-checked_alike models one other vars trees =
-    let all = list_all is_narrow (gates models) in
-    ap (λ (names : List (List ℕ)). nat_le (length names) 8 && (list_all is_assertion one.tasks && all)) vars
-    ∙ ap (λ b. nat_le (length other.vars) 8 && (b && all)) (assertions_are one.tasks ∙ (ap (list_all is_assertion_tree) trees ∙ sym (assertions_are other.tasks)))
+checked_alike : (one other : RawTasks) → map task_tree one.tasks ≡ map task_tree other.tasks → is_checked_so_far one ≡ is_checked_so_far other
+checked_alike one other trees = assertions_are one.tasks ∙ (ap (list_all is_assertion_tree) trees ∙ sym (assertions_are other.tasks))
 
-unchecked_silent : (net_text task_text : List ℕ) (models : List Model) (raw : RawTasks) → IsNetlist net_text models → AreTasks task_text raw → is_checked_so_far models raw ≡ true → (other : Refusal) → ¬ IsUnchecked net_text task_text other
-unchecked_silent net_text task_text models raw spelled read checked other h =
-    let same = netlist.one_netlist net_text h.models models h.netlist spelled in
+unchecked_silent : (task_text : List ℕ) (raw : RawTasks) → AreTasks task_text raw → is_checked_so_far raw ≡ true → (other : Refusal) → ¬ IsUnchecked task_text other
+unchecked_silent task_text raw read checked other h =
     let trees = tasks.same_tasks task_text h.raw raw h.spelled read in
-    let told : is_checked_so_far models h.raw ≡ false = subst (λ (ms : List Model). is_checked_so_far ms h.raw ≡ false) same h.unchecked in
-    let wrong : true ≡ false = sym checked ∙ (sym (checked_alike models h.raw raw trees.0 trees.1) ∙ told) in
+    let told = h.unchecked in
+    let wrong : true ≡ false = sym checked ∙ (sym (checked_alike h.raw raw trees.1) ∙ told) in
     absurd (cc wrong)
 
 -- tasks with the same trees are as many
@@ -190,7 +186,7 @@ check_silent steps net_text task_text passes bytes written =
               unbound_silent net_text task_text written.models h.raw written.tasks n.netlist h.spelled h.bound,
               (
                 steps_silent steps task_text h.raw h.spelled written.few,
-                (unchecked_silent net_text task_text written.models h.raw n.netlist h.spelled h.checked, tt),
+                (unchecked_silent task_text h.raw h.spelled h.checked, tt),
               ),
             ),
           ),
@@ -272,7 +268,7 @@ first_of_more net_text stages found (inr (inr (a, inr (b, inr (c, h))))) = absur
 
 -- the stages of a check behind both texts, and behind the netlist's
 abbrev bound_stages : Option ℕ → List ℕ → List ℕ → List (Refusal → Type 0)
-bound_stages steps net_text task_text = is_unbound net_text task_text ∷ HasTooManySteps steps task_text ∷ IsUnchecked net_text task_text ∷ []
+bound_stages steps net_text task_text = is_unbound net_text task_text ∷ HasTooManySteps steps task_text ∷ IsUnchecked task_text ∷ []
 
 abbrev net_stages : Option ℕ → List ℕ → List ℕ → List (Refusal → Type 0)
 net_stages steps net_text task_text = has_faulty_hierarchy net_text ∷ has_loop net_text ∷ bound_stages steps net_text task_text
@@ -323,16 +319,16 @@ module _ (steps : Option ℕ) (net_text task_text : List ℕ) (models : List Mod
             (inr (inr (unbound_silent net_text task_text models raw bound spelled read answer, inl (record { is = refl; raw = raw; spelled = read; many = many }))))
 
         -- they are not checked so far
-        pub kinds_fail : are_too_many steps (length raw.tasks) ≡ false → is_checked_so_far models raw ≡ false → OrMemory (IsFirst (check_stages steps net_text task_text)) refusal.NotYet
+        pub kinds_fail : are_too_many steps (length raw.tasks) ≡ false → is_checked_so_far raw ≡ false → OrMemory (IsFirst (check_stages steps net_text task_text)) refusal.NotYet
         kinds_fail few unchecked =
             behind_flat refusal.NotYet
             (inr (inr (
               unbound_silent net_text task_text models raw bound spelled read answer,
-              inr (steps_silent steps task_text raw read few, inl (record { is = refl; models = models; netlist = spelled; raw = raw; spelled = read; unchecked = unchecked })),
+              inr (steps_silent steps task_text raw read few, inl (record { is = refl; raw = raw; spelled = read; unchecked = unchecked })),
             )))
 
         -- they are checked
-        pub is_prepared : are_too_many steps (length raw.tasks) ≡ false → is_checked_so_far models raw ≡ true → IsPrepared steps net_text task_text net bound
+        pub is_prepared : are_too_many steps (length raw.tasks) ≡ false → is_checked_so_far raw ≡ true → IsPrepared steps net_text task_text net bound
         is_prepared few checked = record {
           models = models;
           reading = record {

@@ -1,5 +1,6 @@
--- Meaning. What a check writes on the texts of a netlist and of a task file. Source: this project's own choice.
-use Rattle.std.specs.Prelude.{◌≡◌, ◌<◌, ◌*◌, ◌++◌, ℕ, Bool, true, false, nat_lt, List, length, codes, Option, Some, None, zip}
+-- Meaning. What a check writes on the texts of a netlist and of a task file. Source: this project's own choice; that a check may
+-- end within a bound of steps is Voss's.
+use Rattle.std.specs.Prelude.{◌≡◌, ◌<◌, ◌⊎◌, ◌*◌, ◌/◌, ◌++◌, ℕ, Bool, true, false, nat_lt, min, List, length, codes, Option, Some, None, zip}
 use Rattle.std.specs.List.{AllZip, flat_map, list_all}
 use Rattle.blif_syntax.specs.declared.models.Model.{Model}
 use Rattle.net_core.specs.declared.raw.RawNet.{RawNet}
@@ -8,7 +9,9 @@ use Rattle.ste_model.specs.declared.task.Task.TheVariants.{Ste, Gste}
 use Rattle.ste_model.specs.declared.task.Tasks.{Tasks}
 use Rattle.ste_model.specs.declared.verdict.Verdict.{Verdict}
 use Rattle.ste_model.specs.declared.verdict.Verdict.TheVariants.{Pass, Weak, Strong, Vacuous, Budget}
+use Rattle.ste_model.specs.declared.task.Assertion.{Assertion}
 use Rattle.ste_model.specs.Found.{IsVerdictOf}
+use Rattle.ste_model.specs.Need.{IsNeed}
 use Rattle.ste_program.specs.Reading.{IsReading}
 
 -- the words of a verdict
@@ -33,16 +36,26 @@ task_name (Gste task) = task.name
 abbrev pub report_line : Task × Verdict → List ℕ
 report_line at = task_name at.0 ++ codes ": " ++ verdict_words at.1 ++ codes "\n"
 
--- the verdict of a task over so many variables; that of a graph is not told so far
-abbrev pub IsVerdictOn : RawNet → ℕ → Task → Verdict → Type 0
-IsVerdictOn net vars (Ste task) verdict = IsVerdictOf net vars task verdict
-IsVerdictOn net vars (Gste task) verdict = ⊥
+-- the node steps of each of so many tasks: those that are given, or else the smaller of 1,000,000 and the share of 16,000,000
+abbrev pub task_steps : Option ℕ → ℕ → ℕ
+task_steps (Some steps) tasks = steps
+task_steps None tasks = min 1000000 (16000000 / tasks)
 
--- The report on tasks over a net: the verdict of each task, a line for each in the order of the tasks, and whether each
--- verdict is pass.
-pub record IsReportOn (net : RawNet) (tasks : Tasks) (passes : Bool) (bytes : List ℕ) : Type 0 where
+-- the steps are fewer than the assertion needs
+abbrev pub AreTooFew : RawNet → ℕ → ℕ → Assertion → Type 0
+AreTooFew net vars steps task = (need : ℕ) → IsNeed net vars task need → steps < need
+
+-- What may be told of a task over so many variables, with so many steps: its verdict; or budget, where the steps are too few. Of a
+-- graph nothing is told so far.
+abbrev pub IsVerdictOn : RawNet → ℕ → ℕ → Task → Verdict → Type 0
+IsVerdictOn net vars steps (Ste task) verdict = IsVerdictOf net vars task verdict ⊎ ((verdict ≡ Budget) × AreTooFew net vars steps task)
+IsVerdictOn net vars steps (Gste task) verdict = ⊥
+
+-- A report on tasks over a net, with so many steps for each: the verdict of each task, a line for each in the order of the tasks,
+-- and whether each verdict is pass.
+pub record IsReportOn (net : RawNet) (steps : ℕ) (tasks : Tasks) (passes : Bool) (bytes : List ℕ) : Type 0 where
   pub verdicts : List Verdict
-  pub judged : AllZip (IsVerdictOn net (length tasks.vars)) tasks.tasks verdicts
+  pub judged : AllZip (IsVerdictOn net (length tasks.vars) steps) tasks.tasks verdicts
   pub passing : passes ≡ list_all is_pass verdicts
   pub written : bytes ≡ flat_map report_line (zip tasks.tasks verdicts)
 
@@ -58,4 +71,4 @@ pub record IsCheck (steps : Option ℕ) (net_text task_text : List ℕ) (passes 
   pub tasks : Tasks
   pub reading : IsReading net_text task_text models net tasks
   pub few : are_too_many steps (length reading.raw.tasks) ≡ false
-  pub report : IsReportOn net tasks passes bytes
+  pub report : IsReportOn net (task_steps steps (length tasks.tasks)) tasks passes bytes

@@ -92,21 +92,19 @@ pub record HasTooManySteps (steps : Option ℕ) (task_text : List ℕ) (found : 
   pub spelled : AreTasks task_text raw
   pub many : are_too_many steps (length raw.tasks) ≡ true
 
--- the netlist and the tasks are not of the kinds that are checked so far
-pub record IsUnchecked (net_text task_text : List ℕ) (found : Refusal) : Type 0 where
+-- the tasks are not of the kinds that are checked so far
+pub record IsUnchecked (task_text : List ℕ) (found : Refusal) : Type 0 where
   pub is : found ≡ refusal.NotYet
-  pub models : List Model
-  pub netlist : IsNetlist net_text models
   pub raw : RawTasks
   pub spelled : AreTasks task_text raw
-  pub unchecked : is_checked_so_far models raw ≡ false
+  pub unchecked : is_checked_so_far raw ≡ false
 
 -- The stages of a check's texts, in their order: the netlist's lines, the tasks' lines, the hierarchy, loops of gates, the tasks'
 -- nodes and sizes, the steps, what is not checked so far.
 abbrev pub check_stages : Option ℕ → List ℕ → List ℕ → List (Refusal → Type 0)
 check_stages steps net_text task_text =
     is_faulty net_text ∷ has_faulty_tasks task_text ∷ has_faulty_hierarchy net_text ∷ has_loop net_text
-    ∷ is_unbound net_text task_text ∷ HasTooManySteps steps task_text ∷ IsUnchecked net_text task_text ∷ []
+    ∷ is_unbound net_text task_text ∷ HasTooManySteps steps task_text ∷ IsUnchecked task_text ∷ []
 
 -- those of the text of `info`: the netlist's lines, the hierarchy, loops of gates
 abbrev pub info_stages : List ℕ → List (Refusal → Type 0)

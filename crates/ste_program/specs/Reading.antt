@@ -1,11 +1,10 @@
 -- Meaning, and a law. The reading of two texts: the netlist that the one spells, its flat net, and over this net the tasks that
 -- the other spells. Source: this project's own choice.
-use Rattle.std.specs.Prelude.{◌≡◌, ℕ, ◌&&◌, Bool, true, false, List, length, map, nat_le, IsTrue, Ok}
+use Rattle.std.specs.Prelude.{◌≡◌, ℕ, Bool, true, false, List, length, map, IsTrue, Ok}
 use Rattle.std.specs.List.{list_all}
 use Rattle.blif_syntax.specs.declared.models.Model.{Model}
-use Rattle.hierarchy.specs.Lines.{GateLine}
 use Rattle.hierarchy.specs.Names.{net_named}
-use Rattle.hierarchy.specs.Nets.{gates, nets}
+use Rattle.hierarchy.specs.Nets.{nets}
 use Rattle.net_core.specs.declared.raw.RawNet.{RawNet}
 use Rattle.assert_syntax.specs.declared.tasks.RawTask.{RawTask}
 use Rattle.assert_syntax.specs.declared.tasks.RawTask.TheVariants.{Ste, Gste}
@@ -21,13 +20,9 @@ abbrev pub is_assertion : RawTask → Bool
 is_assertion (Ste line name reset ant con) = true
 is_assertion (Gste line name reset vertices edges) = false
 
--- the gate has at most eight inputs
-abbrev pub is_narrow : List ℕ × GateLine → Bool
-is_narrow at = nat_le (length at.1.inputs) 8
-
--- what is checked so far: assertions over at most eight variables, and gates of at most eight inputs
-abbrev pub is_checked_so_far : List Model → RawTasks → Bool
-is_checked_so_far models raw = nat_le (length raw.vars) 8 && (list_all is_assertion raw.tasks && list_all is_narrow (gates models))
+-- what is checked so far: assertions alone
+abbrev pub is_checked_so_far : RawTasks → Bool
+is_checked_so_far raw = list_all is_assertion raw.tasks
 
 -- The reading of two texts: the models that the one spells, with their flat net; and the tasks that the other spells, over this
 -- net: each of their nodes names one of its nets. An expression is known by its tree.
@@ -36,7 +31,7 @@ pub record IsReading (net_text task_text : List ℕ) (models : List Model) (net 
   pub raw : RawTasks
   pub spelled : AreTasks task_text raw
   pub bound : IsAnswer (net_named models) (length (nets models)) raw (Ok tasks)
-  pub checked : IsTrue (is_checked_so_far models raw)
+  pub checked : IsTrue (is_checked_so_far raw)
 
 -- Law: two texts have one reading at most: one netlist, the same variables, and tasks that say the same.
 abbrev pub OneReading : Type 0

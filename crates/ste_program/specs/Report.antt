@@ -1,11 +1,12 @@
 -- Meaning, and two laws. What a command writes on what the files hold. Source: this project's own choice.
 use Rattle.std.specs.Prelude.{◌≡◌, ◌≤◌, ◌<◌, ◌⊎◌, ⊤, ℕ, Bool, true, false, List, [], length, Option, Some, None, IfSome, IsSomeAnd, slice_get}
 use Rattle.std.specs.FinMap.{get}
+use Rattle.std.specs.List.{AllZip}
 use Rattle.command_line.specs.Command.{Action, Command, bench, check, info, sim}
 use Rattle.ste_model.specs.declared.task.Assertion.{Assertion}
 use Rattle.ste_model.specs.declared.task.Task.TheVariants.{Ste}
 use Rattle.ste_model.specs.declared.verdict.Verdict.{Verdict}
-use Rattle.ste_model.specs.declared.verdict.Verdict.TheVariants.{Pass, Vacuous}
+use Rattle.ste_model.specs.declared.verdict.Verdict.TheVariants.{Budget, Pass, Vacuous}
 use Rattle.ste_io.specs.Outside.{FilesState, Store}
 use Rattle.ste_program.specs.Check.{IsCheck}
 use Rattle.ste_program.specs.Command.{is_undone, net_file, second_file}
@@ -74,10 +75,15 @@ abbrev pub verdicts_of : (command : Option Command) (files : FilesState) (passes
 verdicts_of command files passes bytes report =
     verdicts_in report.asked.action report.asked.steps report.net_text report.second_text passes bytes report.written
 
--- Law: on what the files hold, where they tell it, a command has one report at most, with one list of verdicts.
+-- both verdicts are the same, or one of them is budget
+abbrev pub Agree : Verdict → Verdict → Type 0
+Agree one other = (one ≡ other) ⊎ ((one ≡ Budget) ⊎ (other ≡ Budget))
+
+-- Law: on what the files hold, where they tell it, two reports of a command agree on each task, but where one of them says budget;
+-- and with the same verdicts they are one.
 abbrev pub OneReport : Type 0
 OneReport =
     (command : Option Command) (files : FilesState) (store : Store) → files.holds ≡ Some store →
     (passes others : Bool) (bytes others_bytes : List ℕ) (one : IsReport command files passes bytes) (other : IsReport command files others others_bytes) →
-    (passes ≡ others) × (bytes ≡ others_bytes)
-    × (verdicts_of command files passes bytes one ≡ verdicts_of command files others others_bytes other)
+    AllZip Agree (verdicts_of command files passes bytes one) (verdicts_of command files others others_bytes other)
+    × (verdicts_of command files passes bytes one ≡ verdicts_of command files others others_bytes other → (passes ≡ others) × (bytes ≡ others_bytes))

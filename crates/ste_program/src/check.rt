@@ -1,12 +1,14 @@
 //! The report of a check: `check` gives its bytes, and whether every task passes.
-ghost use Rattle.std.specs.Prelude.{◌≡◌, ◌≤◌, List, All, IfOk, MatchResult, Ok, length, nat_le};
+ghost use Rattle.std.specs.Prelude.{◌≡◌, ◌≤◌, ◌<◌, List, All, IfOk, MatchResult, Ok, length, map};
 ghost use Rattle.std.specs.List.{list_all};
 ghost use Rattle.blif_syntax.specs.declared.models.Model.{Model};
-ghost use Rattle.flat_net.specs.Flat.{IsFlat};
 ghost use Rattle.hierarchy.specs.Names.{net_named};
 ghost use Rattle.hierarchy.specs.Nets.{nets};
+ghost use Rattle.net_core.specs.Cases.{cases_of};
+ghost use Rattle.ste_model.specs.declared.task.Task.TheVariants.{Ste};
+ghost use Rattle.sym_step.specs.Step.{rows_of};
 ghost use Rattle.task_binding.specs.Answer.{IsAnswer};
-ghost use Rattle.ste_program.specs.Check.{IsCheck, IsReportOn, IsVerdictOn, are_too_many, is_pass, report_line, task_name, verdict_words};
+ghost use Rattle.ste_program.specs.Check.{IsCheck, IsReportOn, IsVerdictOn, are_too_many, is_pass, report_line, task_name, task_steps, verdict_words};
 ghost use Rattle.ste_program.specs.Order.{IsFirst, check_stages, has_faulty_tasks};
 ghost use Rattle.ste_program.specs.Reading.{is_assertion, is_checked_so_far};
 ghost use Rattle.ste_program.specs.Report.{greatest};
@@ -21,10 +23,12 @@ use crate::refusal::Refusal;
 use crate::report::Report;
 use assert_syntax::{RawTask, RawTasks, read_tasks};
 use blif_lines::logical_lines;
-use net_core::{Gate, Net};
-use plain_check::verdict;
+use dd_nodes::PlainNodes;
+use net_core::Net;
 use std::alloc::{AllocError, Global};
-use ste_model::{Task, Tasks, Verdict};
+use ste_engine::check_ste;
+use ste_model::{Assertion, Task, Tasks, Verdict};
+use sym_step::GateRows;
 use task_binding::bind_tasks;
 
 /// What is checked: a net, and assertions over it.
@@ -32,9 +36,11 @@ use task_binding::bind_tasks;
 struct Prepared {
     net: Net,
     tasks: Tasks,
-    ghost narrow: { All (λ gate. length gate.inputs ≤ 8) net.raw.gates },
-    ghost checkable: { All (IsCheckable net.raw.nets) tasks.tasks },
-    ghost few: { length tasks.vars ≤ 8 },
+    ghost inputs: { All (λ cover. cover.inputs ≤ 1000) net.raw.covers },
+    ghost cases: { All (λ cover. cases_of cover.inputs cover.rows ≤ 65536) net.raw.covers },
+    ghost checkable: { All (IsCheckable net.raw.nets (length tasks.vars)) tasks.tasks },
+    ghost some: { 0 < length tasks.tasks },
+    ghost few: { length tasks.vars ≤ 1000 },
 }
 
 /// The tasks that the text of a task file spells, whose nodes are names. The text is let go once its lines are there.
@@ -92,22 +98,11 @@ fn are_assertions(tasks: &[RawTask]) -> bool
     tasks.iter().all(|task| is_assertion(task))
 }
 
-/// Whether all gates have at most eight inputs.
-fn are_narrow(gates: &[Gate]) -> bool
-    ensures { result ≡ list_all (λ gate. nat_le (length gate.inputs) 8) gates.now }
+/// Whether the tasks are of the kinds that are checked so far.
+fn is_checked_so_far(raw: &RawTasks) -> bool
+    ensures { result ≡ is_checked_so_far raw.now }
 {
-    gates.iter().all(|gate| gate.inputs.len() <= 8)
-}
-
-/// Whether the tasks, over the net, are of the kinds that are checked so far.
-fn is_checked_so_far(net: &Net, raw: &RawTasks) -> bool
-    ensures { (models : List Model) → IsFlat models net.now.raw →
-        result ≡ is_checked_so_far models raw.now }
-{
-    let few = raw.vars.len() <= 8;
-    let assertions = are_assertions(raw.tasks.as_slice());
-    let narrow = are_narrow(net.gates());
-    few & (assertions & narrow)
+    are_assertions(raw.tasks.as_slice())
 }
 
 /// What a check with these node steps of each task needs, from its texts; or why there is nothing to check.
@@ -143,7 +138,7 @@ fn prepare(
         return Err(Refusal::TooManySteps);
     }
     let FlatNet { net, names: _ } = flat;
-    if is_checked_so_far(&net, &raw) {
+    if is_checked_so_far(&raw) {
         Ok(Prepared { net, tasks })
     } else {
         Err(Refusal::NotYet)
@@ -191,14 +186,51 @@ fn report_line(alloc: Global, task: &Task, verdict: Verdict) -> Result<Vec<u8>, 
     Ok(line)
 }
 
-/// The verdict of a task over so many variables.
-fn verdict_of(alloc: Global, net: &Net, vars: u32, task: &Task) -> Result<Verdict, AllocError>
-    requires narrow { All (λ gate. length gate.inputs ≤ 8) net.now.raw.gates }
-    requires checkable { IsCheckable net.now.raw.nets task.now }
-    ensures { IfOk result (λ verdict. IsVerdictOn net.now.raw vars task.now verdict) }
+/// The node steps of each of so many tasks.
+fn task_steps(steps: Option<u64>, tasks: usize) -> u64
+    requires { 0 < tasks }
+    ensures { result ≡ task_steps steps tasks }
+{
+    match steps {
+        Some(steps) => steps,
+        None => (16_000_000 / tasks as u64).min(1_000_000),
+    }
+}
+
+/// The verdict of an assertion over so many variables, with so many steps.
+fn assertion_verdict(
+    alloc: Global,
+    net: &Net,
+    rows: &GateRows,
+    vars: u32,
+    steps: u32,
+    task: &Assertion,
+) -> Result<Verdict, AllocError>
+    requires rows { rows.now.covers ≡ map rows_of net.now.raw.covers }
+    requires checkable { IsCheckable net.now.raw.nets vars (Ste task.now) }
+    requires steps { steps ≤ 16000000 }
+    ensures { IfOk result (λ verdict. IsVerdictOn net.now.raw vars steps (Ste task.now) verdict) }
+{
+    let mut nodes = PlainNodes::new(alloc, vars, steps)?;
+    check_ste(alloc, &mut nodes, net, rows, task)
+}
+
+/// The verdict of a task over so many variables, with so many steps.
+fn verdict_of(
+    alloc: Global,
+    net: &Net,
+    rows: &GateRows,
+    vars: u32,
+    steps: u32,
+    task: &Task,
+) -> Result<Verdict, AllocError>
+    requires rows { rows.now.covers ≡ map rows_of net.now.raw.covers }
+    requires checkable { IsCheckable net.now.raw.nets vars task.now }
+    requires steps { steps ≤ 16000000 }
+    ensures { IfOk result (λ verdict. IsVerdictOn net.now.raw vars steps task.now verdict) }
 {
     match task {
-        Task::Ste(task) => verdict(alloc, net, vars, task),
+        Task::Ste(task) => assertion_verdict(alloc, net, rows, vars, steps, task),
         // A task that is a graph is no task that is checked.
         Task::Gste(_) => unreachable!(),
     }
@@ -211,17 +243,25 @@ struct Judged {
     lines: Vec<u8>,
 }
 
-/// The verdicts of tasks over so many variables, and their lines.
-fn judge(alloc: Global, net: &Net, vars: u32, tasks: &[Task]) -> Result<Judged, AllocError>
-    requires narrow { All (λ gate. length gate.inputs ≤ 8) net.now.raw.gates }
-    requires checkable { All (IsCheckable net.now.raw.nets) tasks.now }
-    ensures { IfOk result (λ made. AreJudged net.now.raw vars tasks.now
+/// The verdicts of tasks over so many variables, with so many steps for each, and their lines.
+fn judge(
+    alloc: Global,
+    net: &Net,
+    rows: &GateRows,
+    vars: u32,
+    steps: u32,
+    tasks: &[Task],
+) -> Result<Judged, AllocError>
+    requires rows { rows.now.covers ≡ map rows_of net.now.raw.covers }
+    requires checkable { All (IsCheckable net.now.raw.nets vars) tasks.now }
+    requires steps { steps ≤ 16000000 }
+    ensures { IfOk result (λ made. AreJudged net.now.raw vars steps tasks.now
         made.verdicts.items made.lines.items) }
 {
     let mut verdicts = Vec::new(alloc);
     let mut lines = Vec::new(alloc);
     for task in tasks {
-        let verdict = verdict_of(alloc, net, vars, task)?;
+        let verdict = verdict_of(alloc, net, rows, vars, steps, task)?;
         let line = report_line(alloc, task, verdict)?;
         lines.extend_from_slice(&line)?;
         verdicts.push(verdict)?;
@@ -236,14 +276,16 @@ fn all_pass(verdicts: &[Verdict]) -> bool
     verdicts.iter().all(|verdict| is_pass(*verdict))
 }
 
-/// The report on what is prepared.
-fn report_on(alloc: Global, prepared: &Prepared) -> Result<Report, AllocError>
+/// The report on what is prepared, with so many steps for each task.
+fn report_on(alloc: Global, steps: u32, prepared: &Prepared) -> Result<Report, AllocError>
+    requires { steps ≤ 16000000 }
     ensures { IfOk result (λ report.
-        IsReportOn prepared.now.net.raw prepared.now.tasks report.passes report.bytes) }
+        IsReportOn prepared.now.net.raw steps prepared.now.tasks report.passes report.bytes) }
 {
     let tasks = prepared.tasks.tasks.as_slice();
     let vars = prepared.tasks.vars.len() as u32;
-    let Judged { verdicts, lines } = judge(alloc, &prepared.net, vars, tasks)?;
+    let rows = GateRows::of(alloc, &prepared.net)?;
+    let Judged { verdicts, lines } = judge(alloc, &prepared.net, &rows, vars, steps, tasks)?;
     Ok(Report {
         bytes: lines.into(),
         passes: all_pass(&verdicts),
@@ -267,7 +309,8 @@ pub fn check(
         Ok(prepared) => prepared,
         Err(found) => return Err(found),
     };
-    match report_on(alloc, &prepared) {
+    let each = task_steps(steps, prepared.tasks.tasks.len());
+    match report_on(alloc, each as u32, &prepared) {
         Ok(report) => Ok(report),
         Err(_) => Err(Refusal::OutOfMemory),
     }

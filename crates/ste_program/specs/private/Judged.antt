@@ -7,5 +7,5 @@ use Rattle.ste_model.specs.declared.verdict.Verdict.{Verdict}
 use Rattle.ste_program.specs.Check.{IsVerdictOn, report_line}
 
 -- these are the verdicts of the tasks, and these their lines
-abbrev pub AreJudged : RawNet → ℕ → List Task → List Verdict → List ℕ → Type 0
-AreJudged net vars tasks verdicts lines = AllZip (IsVerdictOn net vars) tasks verdicts × (lines ≡ flat_map report_line (zip tasks verdicts))
+abbrev pub AreJudged : RawNet → ℕ → ℕ → List Task → List Verdict → List ℕ → Type 0
+AreJudged net vars steps tasks verdicts lines = AllZip (IsVerdictOn net vars steps) tasks verdicts × (lines ≡ flat_map report_line (zip tasks verdicts))

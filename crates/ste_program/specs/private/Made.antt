@@ -1,5 +1,5 @@
 -- For private functions. What the steps to a report know of the texts.
-use Rattle.std.specs.Prelude.{◌≡◌, ◌≢◌, ◌<◌, ◌⊎◌, ℕ, Bool, true, false, IsTrue, List, [], length, map, All, Option, Err}
+use Rattle.std.specs.Prelude.{◌≡◌, ◌≢◌, ◌<◌, ◌≤◌, ◌⊎◌, ◌++◌, ℕ, Bool, true, false, IsTrue, List, [], length, map, All, Option, Err}
 use Rattle.blif_syntax.specs.declared.models.Model.{Model}
 use Rattle.command_line.specs.Command.{Command}
 use Rattle.hierarchy.specs.Faults.{IsFree, IsRefusal}
@@ -7,13 +7,16 @@ use Rattle.hierarchy.specs.Names.{net_named}
 use Rattle.hierarchy.specs.Nets.{nets}
 use Rattle.hierarchy.specs.declared.fault.NetFault.{NetFault}
 use Rattle.flat_net.specs.Flat.{IsFlat}
+use Rattle.net_core.specs.Cases.{cases_of}
 use Rattle.net_core.specs.Run.{IsSettled}
 use Rattle.net_core.specs.declared.raw.RawNet.{RawNet}
 use Rattle.net_names.specs.Names.{AreNamesOf}
 use Rattle.net_names.specs.declared.names.NetNames.{NetNames}
 use Rattle.assert_syntax.specs.declared.tasks.RawTasks.{RawTasks}
+use Rattle.ste_model.specs.declared.task.Quint.{Quint}
 use Rattle.ste_model.specs.declared.task.Task.{Task}
 use Rattle.ste_model.specs.declared.task.Task.TheVariants.{Ste, Gste}
+use Rattle.ste_model.specs.Need.{ReadBelow}
 use Rattle.task_binding.specs.Answer.{IsAnswer}
 use Rattle.task_binding.specs.declared.fault.BindFault.{BindFault}
 use Rattle.task_binding.specs.declared.fault.BindFault.TheVariants as bind
@@ -30,6 +33,8 @@ pub record IsNetOf (models : List Model) (net : RawNet) (names : NetNames) : Typ
   pub flat : IsFlat models net
   pub settled : IsSettled net
   pub named : AreNamesOf models names
+  pub inputs : All (λ cover. cover.inputs ≤ 1000) net.covers
+  pub cases : All (λ cover. cases_of cover.inputs cover.rows ≤ 65536) net.covers
 
 -- why a netlist has no flat net in a settled order
 abbrev pub HasNoNet : List Model → Refusal → Type 0
@@ -48,14 +53,14 @@ abbrev pub is_ste : Task → Bool
 is_ste (Ste task) = true
 is_ste (Gste task) = false
 
--- the nets of an antecedent
-abbrev pub given_nets : Task → List ℕ
-given_nets (Ste task) = map (λ quint. quint.node.0) task.ant
-given_nets (Gste task) = []
+-- the quintuples of an assertion; a graph has none
+abbrev pub quints_in : Task → List Quint
+quints_in (Ste task) = task.ant ++ task.con
+quints_in (Gste task) = []
 
--- the task is an assertion whose antecedent speaks of nets below this number
-abbrev pub IsCheckable : ℕ → Task → Type 0
-IsCheckable nets task = IsTrue (is_ste task) × All (λ net. net < nets) (given_nets task)
+-- the task is an assertion that speaks of nets and variables below these numbers
+abbrev pub IsCheckable : ℕ → ℕ → Task → Type 0
+IsCheckable nets vars task = IsTrue (is_ste task) × All (λ quint. quint.node.0 < nets) (quints_in task) × ReadBelow vars (quints_in task)
 
 -- the report that a command asks for, with what its files were asked for
 pub record IsMade (command : Option Command) (files files' : FilesState) (passes : Bool) (bytes : List ℕ) : Type 0 where

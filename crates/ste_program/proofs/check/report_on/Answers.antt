@@ -10,9 +10,9 @@ returns c =
     let net = c.args.prepared.now.net.raw in
     let tasks = c.args.prepared.now.tasks in
     let made = c.in_ok-verdicts.field-0 in
-    let judged : AreJudged net (length tasks.vars) tasks.tasks made.verdicts.items made.lines.items =
-    subst (λ (n : ℕ). AreJudged net n tasks.tasks made.verdicts.items made.lines.items) c.len-vars.ensures
-    (subst (λ (ts : List Task). AreJudged net c.len-vars.result ts made.verdicts.items made.lines.items) c.as_slice-tasks.ensures c.in_ok-verdicts.ensures) in
+    let judged : AreJudged net (length tasks.vars) c.args.steps tasks.tasks made.verdicts.items made.lines.items =
+    subst (λ (n : ℕ). AreJudged net n c.args.steps tasks.tasks made.verdicts.items made.lines.items) c.len-vars.ensures
+    (subst (λ (ts : List Task). AreJudged net c.len-vars.result c.args.steps ts made.verdicts.items made.lines.items) c.as_slice-tasks.ensures c.in_ok-verdicts.ensures) in
     record {
       verdicts = made.verdicts.items;
       judged = judged.0;

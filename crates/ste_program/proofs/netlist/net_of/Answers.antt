@@ -1,5 +1,7 @@
 use Rattle.std.proofs.Common.{◌∙◌, Err, Some, ap, inl, inr, refl, subst, sym}
+use Rattle.std.specs.Prelude.{◌≤◌, All}
 use Rattle.flat_net.specs.Flat.{IsFlat}
+use Rattle.net_core.specs.Cases.{cases_of}
 use Rattle.net_core.specs.Run.{IsSettled}
 use Rattle.net_core.specs.declared.raw.RawNet.{RawNet}
 use Rattle.ste_program.proofs.Told.{loop_told, no_net}
@@ -17,6 +19,8 @@ returns-in-Ok-order c =
       flat = subst (λ (raw : RawNet). IsFlat c.args.models.models raw) (sym is.same) made.flat;
       settled = subst (λ (raw : RawNet). IsSettled raw) (sym is.same) is.settles;
       named = made.names;
+      inputs = subst (λ (raw : RawNet). All (λ cover. cover.inputs ≤ 1000) raw.covers) (sym is.same) made.inputs;
+      cases = subst (λ (raw : RawNet). All (λ cover. cases_of cover.inputs cover.rows ≤ 65536) raw.covers) (sym is.same) made.cases;
     }
 
 pub returns-in-Ok-clone : goal.returns-in-Ok-clone
