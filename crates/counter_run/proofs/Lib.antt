@@ -4,3 +4,4 @@ pub mod Given
 pub mod Printing
 pub mod SourceNodes
 pub mod OnInputs
+pub mod OneOnInputs

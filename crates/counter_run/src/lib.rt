@@ -4,10 +4,13 @@
 
 mod asked;
 mod completion;
+pub mod laws;
 mod matrix;
 mod printed;
 mod row;
 mod simple;
+#[cfg(test)]
+mod tests;
 mod undriven;
 
 pub use printed::ste_run;
