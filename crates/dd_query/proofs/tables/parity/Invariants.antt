@@ -1,4 +1,4 @@
-use Rattle.std.proofs.Common.{ℕ, ◌≤◌}
+use Rattle.std.proofs.Common.{◌≤◌}
 use Rattle.dd_nodes.specs.Diagram.{IsFrom}
 use Rattle.dd_nodes.specs.Stores.{Keeps}
 use Rattle.dd_query.proofs.tables.parity.Given as goal
