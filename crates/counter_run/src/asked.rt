@@ -3,7 +3,6 @@
 ghost use Rattle.std.specs.Prelude.{◌≡◌, ◌≢◌, ◌<◌, ◌≤◌, ℕ, [], false, All, IfOk, length, map, slice_index_or};
 ghost use Rattle.counter_run.specs.private.Asking.{IsAskedOr, after_quint, start_bit};
 ghost use Rattle.counter_run.specs.private.Matrix.{IsMatrix, SameShape, cell};
-ghost use Rattle.ste_model.specs.Asked.{depth, latest};
 
 use crate::matrix::{cell, zeros};
 use crate::row::Row;
@@ -11,24 +10,7 @@ use bool_expr::value;
 use net_core::{Init, Net};
 use std::alloc::{AllocError, Global};
 use ste_base::Time;
-use ste_model::{Assertion, Quint};
-
-/// The greatest `to` of quintuples, or 0.
-fn latest(quints: &[Quint]) -> Time
-    ensures { result ≡ latest quints.now }
-{
-    quints
-        .iter()
-        .map(|quint| quint.to)
-        .fold(0, |most, to| most.max(to))
-}
-
-/// The depth of an assertion.
-pub fn depth(task: &Assertion) -> Time
-    ensures { result ≡ depth task.now }
-{
-    latest(task.ant.as_slice()).max(latest(task.con.as_slice()))
-}
+use ste_model::Quint;
 
 /// The first bit of a latch of which nothing is asked.
 fn start_bit(reset: bool, init: Init) -> bool

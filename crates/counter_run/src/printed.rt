@@ -9,13 +9,13 @@ ghost use Rattle.ste_model.specs.Runs.{run_of};
 ghost use Rattle.ste_model.specs.Shown.{AsksOfNets, IsBindable, IsPrinted};
 ghost use Rattle.ste_model.specs.declared.task.Task.TheVariants.{Ste};
 
-use crate::asked::{depth, first_bits, put_quints, start_rows};
+use crate::asked::{first_bits, put_quints, start_rows};
 use crate::completion::complete;
 use crate::matrix::lists_of;
 use crate::undriven::undriven_nets;
 use net_core::Net;
 use std::alloc::{AllocError, Global};
-use ste_model::{Assertion, Run};
+use ste_model::{Assertion, Run, depth};
 
 /// The run in which what the antecedent asks is there, and 0 where it asks nothing: the printed run where the assignment is
 /// not contradictory.

@@ -2,7 +2,10 @@
 
 ghost use Rattle.ste_model.specs.Assignments.{AssignmentsAreOrdered};
 ghost use Rattle.ste_model.specs.Breaks.{MeetsOrBreaks};
+ghost use Rattle.ste_model.specs.Expressions.{FunctionsAreValues};
 ghost use Rattle.ste_model.specs.Found.{FindingsAreTold, OneVerdict, PassHolds};
+ghost use Rattle.ste_model.specs.Need.{OneNeed, ResultsAreFindings};
+ghost use Rattle.ste_model.specs.Samples.{SamplesAreCounted};
 ghost use Rattle.ste_model.specs.Table.{OneTable};
 
 /// Of two assignments of the same variables that are not one, exactly one stands before the other.
@@ -33,4 +36,24 @@ pub fn one_verdict()
 /// An assertion with the verdict pass, or contradictory antecedent, holds.
 pub fn pass_holds()
     ensures { PassHolds }
+{}
+
+/// The function of an expression has its value under each assignment.
+pub fn functions_are_values()
+    ensures { FunctionsAreValues }
+{}
+
+/// The functions of the results tell under which assignments an assertion is strong, weak and contradictory.
+pub fn results_are_findings()
+    ensures { ResultsAreFindings }
+{}
+
+/// The check of an assertion needs exactly one number of steps.
+pub fn one_need()
+    ensures { OneNeed }
+{}
+
+/// The work functions of an AND of two variables have 7 nodes; with a guard and a latch, over two times, they have 8.
+pub fn samples_are_counted()
+    ensures { SamplesAreCounted }
 {}

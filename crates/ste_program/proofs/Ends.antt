@@ -1,8 +1,9 @@
 -- How a run ends, over plain variables: what a status says, and what follows for all of them.
-use Rattle.std.proofs.Common.{◌≡◌, ◌≤◌, ℕ, zero, suc, Bool, true, false, cond, List, [], ◌∷◌, length, Option, None, Some, refl, ap, sym, ◌∙◌, subst, take, inl, inr, arith}
-use Rattle.std.specs.Prelude.{◌≢◌, ◌⊎◌, slice_get}
+use Rattle.std.proofs.Common.{◌≡◌, ◌≤◌, ℕ, zero, suc, Bool, true, false, cond, List, [], ◌∷◌, ◌++◌, length, Option, None, Some, refl, ap, sym, ◌∙◌, subst, take, inl, inr, arith}
+use Rattle.std.specs.Prelude.{◌≢◌, ◌⊎◌, option_to_list, slice_get}
 use Rattle.std.specs.List.{AllZip}
 use Rattle.blif_syntax.specs.declared.models.Model.{Model}
+use Rattle.command_line.specs.Command.{Action, Command, bench, check, info, sim}
 use Rattle.hierarchy.specs.Faults.{IsFree, IsRefusal}
 use Rattle.hierarchy.proofs.Refused.{before_is_refusal}
 use Rattle.flat_net.specs.Corresponds.{flat_bits}
@@ -15,62 +16,78 @@ use Rattle.ste_model.specs.Found.{IsVerdictOf}
 use Rattle.ste_model.specs.Holds.{Holds}
 use Rattle.ste_model.specs.declared.task.Assertion.{Assertion}
 use Rattle.ste_model.specs.declared.task.Task.TheVariants.{Ste}
-use Rattle.ste_model.specs.declared.task.Tasks.{Tasks}
 use Rattle.ste_model.proofs.Passes.{pass_holds}
-use Rattle.ste_program.specs.Answer.{AskedAll, AskedSome, BrokeOff, IsDecided, NoneRose, Reported, WantedMemory, WasFaulted, WasRefused, WentOut, WhyUnprepared, status_of}
-use Rattle.ste_program.specs.Command.{Command, files_of}
-use Rattle.ste_program.specs.private.Endings.{IsEnded}
+use Rattle.ste_io.specs.Outside.{FilesState, SinkState, Store, took, with_names}
+use Rattle.ste_program.specs.Answer.{AskedAll, AskedSome, BrokeOff, IsDecided, NoneRose, Reported, WantedMemory, WasFaulted, WasRefused, WentOut, WhyNoReport, status_of}
+use Rattle.ste_program.specs.Check.{IsCheck, IsVerdictOn}
+use Rattle.ste_program.specs.Command.{file_of, files_of, files_up_to, net_file, second_file}
+use Rattle.ste_program.specs.Holds.{HoldsOf}
 use Rattle.ste_program.specs.Message.{cannot_write, message_of, out_of_memory}
 use Rattle.ste_program.specs.Order.{IsFirst, refusals}
-use Rattle.ste_io.specs.Outside.{FilesState, SinkState, Store, took, with_names}
-use Rattle.ste_program.specs.private.Prepared.{IsMade}
-use Rattle.ste_program.specs.Holds.{HoldsOf}
-use Rattle.ste_program.specs.Report.{IsReport, IsReportOn, IsVerdictOn, PassHolds}
+use Rattle.ste_program.specs.Report.{IsReport, IsWritten, PassHolds, PassesHold}
+use Rattle.ste_program.specs.private.Endings.{IsEnded, IsTold}
+use Rattle.ste_program.specs.private.Made.{IsMade}
+use Rattle.ste_program.specs.declared.refusal.File.{File}
 use Rattle.ste_program.specs.declared.refusal.File.TheVariants as file
 use Rattle.ste_program.specs.declared.refusal.Refusal.{Refusal}
 use Rattle.ste_program.specs.declared.refusal.Refusal.TheVariants as refusal
 use Rattle.ste_program.specs.declared.run.Status.{Status}
 use Rattle.ste_program.specs.declared.run.Status.TheVariants.{Passed, NotPassed, Refused, Faulted, NoMemory}
-use Rattle.ste_program.proofs.Refusals.{one_refusal, prepared_silent}
+use Rattle.ste_program.proofs.Fetched.{all_names, asked_none, first_names}
+use Rattle.ste_program.proofs.Refusals.{one_refusal, reported_silent}
 use Rattle.ste_program.proofs.Stages.{none_first}
-
--- all the names are the first two of them
-pub all_are_some : (command : Option Command) (files files' : FilesState) → AskedAll command files files' → AskedSome command files files'
-all_are_some None files files' e = (2, e)
-all_are_some (Some command) files files' e = (2, e)
 
 -- which names were asked for
 abbrev Names : Option Command → FilesState → FilesState → Type 0
 Names command files files' = (n : ℕ) × (files'.asked ≡ with_names files.asked (take n (files_of command)))
 
+abbrev asked_of : FilesState → Option (List (List ℕ))
+asked_of files = files.asked
+
+pub made_named : (command : Option Command) (files files' : FilesState) (passes : Bool) (bytes : List ℕ) → IsMade command files files' passes bytes → Names command files files'
+made_named None files files' passes bytes made = (0, ap asked_of made.asking)
+made_named (Some command) files files' passes bytes made =
+    (2, ap asked_of made.asking ∙ ap (with_names files.asked) (all_names (net_file command.action) (second_file command.action)))
+
+-- the names up to a file's are the first names
+up_to : (command : Command) (which : File) → (n : ℕ) × (files_up_to command which ≡ take n (files_of (Some command)))
+up_to command file.Net = first_names (net_file command.action) (second_file command.action)
+up_to command file.Second = (2, all_names (net_file command.action) (second_file command.action))
+
 some_named : (command : Option Command) (files files' : FilesState) → AskedSome command files files' → Names command files files'
-some_named command files files' some = (some.0, ap (λ (s : FilesState). s.asked) some.1)
+some_named command files files' some = (some.0, ap asked_of some.1)
 
-pub made_named : (command : Option Command) (files files' : FilesState) (net : RawNet) (tasks : Tasks) → IsMade command files files' net tasks → Names command files files'
-made_named command files files' net tasks made = some_named command files files' (all_are_some command files files' made.asking)
+pub why_named : (command : Option Command) (files files' : FilesState) (found : Refusal) → WhyNoReport command files files' found → Names command files files'
+why_named command files files' found (inl unread) =
+    let names = up_to unread.asked unread.which in
+    (names.0, unread.failed.asking ∙ (ap (with_names files.asked) names.1 ∙ ap (λ (c : Option Command). with_names files.asked (take names.0 (files_of c))) (sym unread.is)))
+why_named command files files' found (inr (inl memory)) = some_named command files files' memory.1
+why_named command files files' found (inr (inr refused)) = some_named command files files' refused.asking
 
-pub why_named : (command : Option Command) (files files' : FilesState) (found : Refusal) → WhyUnprepared command files files' found → Names command files files'
-why_named command files files' (refusal.CannotRead file.Net) why = (1, why.2.asking ∙ ap (λ (c : Option Command). with_names files.asked (take 1 (files_of c))) (sym why.1))
-why_named command files files' (refusal.CannotRead file.Tasks) why = (2, why.2.asking ∙ ap (λ (c : Option Command). with_names files.asked (take 2 (files_of c))) (sym why.1))
-why_named command files files' refusal.OutOfMemory why = some_named command files files' why
-why_named command files files' refusal.NotYet why = some_named command files files' why.0
-why_named command files files' (refusal.Netlist fault) why = some_named command files files' why.0
-why_named command files files' (refusal.Tasks fault) why = some_named command files files' why.0
-why_named command files files' (refusal.Hierarchy fault) why = some_named command files files' why.0
-why_named command files files' (refusal.Loop name) why = some_named command files files' why.0
-why_named command files files' (refusal.Binding fault) why = some_named command files files' why.0
+pub none_named : (command : Option Command) (files : FilesState) → Names command files files
+none_named command files = (0, ap asked_of (asked_none files))
 
--- the report that was made
-pub report_made : (command : Option Command) (files files' : FilesState) (net : RawNet) (tasks : Tasks) (passes : Bool) (bytes : List ℕ) → IsMade command files files' net tasks →
-    IsReportOn net tasks passes bytes → IsReport command files passes bytes
-report_made command files files' net tasks passes bytes made report =
-    record { asked = made.asked; is = made.is; models = made.models; net = net; tasks = tasks; prepared = made.prepared; report = report }
+-- a count that did not move did not fall
+same_count : (before after : ℕ) → after ≡ before → before ≤ after
+same_count before after e = omega (arith, e)
 
--- the report was written whole, with this status
-reported : (command : Option Command) (files files' : FilesState) (out out' err err' : SinkState) (net : RawNet) (tasks : Tasks) (passes : Bool) (bytes : List ℕ) → IsMade command files files' net tasks →
-    IsReportOn net tasks passes bytes → WentOut bytes out out' → err' ≡ err → Reported command passes files files' out out' err err'
-reported command files files' out out' err err' net tasks passes bytes made report written silent =
-    record { bytes = bytes; report = report_made command files files' net tasks passes bytes made report; asking = made.asking; written = written; silent = silent }
+-- no count of the files fell
+pub made_later : (command : Option Command) (files files' : FilesState) (passes : Bool) (bytes : List ℕ) → IsMade command files files' passes bytes → files.faults ≤ files'.faults
+made_later command files files' passes bytes made = same_count files.faults files'.faults (ap (λ (s : FilesState). s.faults) made.asking)
+
+pub why_later : (command : Option Command) (files files' : FilesState) (found : Refusal) → WhyNoReport command files files' found → files.faults ≤ files'.faults
+why_later command files files' found (inl unread) = unread.failed.later
+why_later command files files' found (inr (inl memory)) = same_count files.faults files'.faults (ap (λ (s : FilesState). s.faults) memory.1.1)
+why_later command files files' found (inr (inr refused)) = same_count files.faults files'.faults (ap (λ (s : FilesState). s.faults) refused.asking.1)
+
+-- what the files hold did not change
+pub made_holds : (command : Option Command) (files files' : FilesState) (passes : Bool) (bytes : List ℕ) → IsMade command files files' passes bytes → files'.holds ≡ files.holds
+made_holds command files files' passes bytes made = ap (λ (s : FilesState). s.holds) made.asking
+
+pub why_holds : (command : Option Command) (files files' : FilesState) (found : Refusal) → WhyNoReport command files files' found → files'.holds ≡ files.holds
+why_holds command files files' found (inl unread) = unread.failed.same
+why_holds command files files' found (inr (inl memory)) = ap (λ (s : FilesState). s.holds) memory.1.1
+why_holds command files files' found (inr (inr refused)) = ap (λ (s : FilesState). s.holds) refused.asking.1
 
 -- what is written of a report, whatever the status
 abbrev Writes : Bool → List ℕ → Status → SinkState → SinkState → SinkState → SinkState → Type 0
@@ -86,57 +103,112 @@ status_not_passed true e = absurd (cc e)
 status_not_passed false e = refl
 
 -- every task passes, and the report was written
-pub all_passed : (command : Option Command) (files files' : FilesState) (out out' err err' : SinkState) (net : RawNet) (tasks : Tasks) (passes : Bool) (bytes : List ℕ) (result : Status) → IsMade command files files' net tasks →
-    IsReportOn net tasks passes bytes → Writes passes bytes result out out' err err' → result ≡ Passed → Reported command true files files' out out' err err'
-all_passed command files files' out out' err err' net tasks passes bytes result made report writes e =
+pub all_passed : (command : Option Command) (files files' : FilesState) (out out' err err' : SinkState) (passes : Bool) (bytes : List ℕ) (result : Status) → IsMade command files files' passes bytes →
+    Writes passes bytes result out out' err err' → result ≡ Passed → Reported command true files files' out out' err err'
+all_passed command files files' out out' err err' passes bytes result made writes e =
     let whole : result ≢ Faulted = λ fault. absurd (cc (fault, e)) in
     let written = writes.0 whole in
     subst (λ (all : Bool). Reported command all files files' out out' err err') (status_passed passes (sym e ∙ writes.1 whole))
-    (reported command files files' out out' err err' net tasks passes bytes made report written.0 written.1)
+    (record { bytes = bytes; report = made.report; asking = made.asking; written = written.0; silent = written.1 })
 
 -- some task does not, and the report was written
-pub not_all_passed : (command : Option Command) (files files' : FilesState) (out out' err err' : SinkState) (net : RawNet) (tasks : Tasks) (passes : Bool) (bytes : List ℕ) (result : Status) → IsMade command files files' net tasks →
-    IsReportOn net tasks passes bytes → Writes passes bytes result out out' err err' → result ≡ NotPassed → Reported command false files files' out out' err err'
-not_all_passed command files files' out out' err err' net tasks passes bytes result made report writes e =
+pub not_all_passed : (command : Option Command) (files files' : FilesState) (out out' err err' : SinkState) (passes : Bool) (bytes : List ℕ) (result : Status) → IsMade command files files' passes bytes →
+    Writes passes bytes result out out' err err' → result ≡ NotPassed → Reported command false files files' out out' err err'
+not_all_passed command files files' out out' err err' passes bytes result made writes e =
     let whole : result ≢ Faulted = λ fault. absurd (cc (fault, e)) in
     let written = writes.0 whole in
     subst (λ (all : Bool). Reported command all files files' out out' err err') (status_not_passed passes (sym e ∙ writes.1 whole))
-    (reported command files files' out out' err err' net tasks passes bytes made report written.0 written.1)
+    (record { bytes = bytes; report = made.report; asking = made.asking; written = written.0; silent = written.1 })
 
--- a refusal that could not be told
-pub ended_faulted : (command : Option Command) (files files' : FilesState) (out err err' : SinkState) (found : Refusal) (result : Status) → WhyUnprepared command files files' found → IsEnded command found result err err' → result ≡ Faulted → WasFaulted command files files' out out err err'
-ended_faulted command files files' out err err' (refusal.CannotRead which) result why (inl (inl told)) e =
-    inl (record { asked = why.0; is = why.1; which = which; failed = why.2; untouched = refl; told = inl told.1 })
-ended_faulted command files files' out err err' refusal.NotYet result why (inl (inl told)) e = absurd (cc (told.0, e))
-ended_faulted command files files' out err err' (refusal.Netlist fault) result why (inl (inl told)) e = absurd (cc (told.0, e))
-ended_faulted command files files' out err err' (refusal.Tasks fault) result why (inl (inl told)) e = absurd (cc (told.0, e))
-ended_faulted command files files' out err err' (refusal.Hierarchy fault) result why (inl (inl told)) e = absurd (cc (told.0, e))
-ended_faulted command files files' out err err' (refusal.Loop name) result why (inl (inl told)) e = absurd (cc (told.0, e))
-ended_faulted command files files' out err err' (refusal.Binding fault) result why (inl (inl told)) e = absurd (cc (told.0, e))
-ended_faulted command files files' out err err' refusal.OutOfMemory result why (inl (inl told)) e = absurd (cc (told.0, e))
+-- the output failed within the report
+pub report_broke : (command : Option Command) (files files' : FilesState) (out out' err err' : SinkState) (passes : Bool) (bytes : List ℕ) → IsMade command files files' passes bytes →
+    BrokeOff bytes out out' × (WentOut cannot_write err err' ⊎ BrokeOff cannot_write err err') → WasFaulted command files files' out out' err err'
+report_broke command files files' out out' err err' passes bytes made broken =
+    inr (inl (record { passes = passes; bytes = bytes; report = made.report; asking = made.asking; broken = broken.0; told = broken.1 }))
+
+-- a refusal that could not be told, or of a file that could not be read
+pub ended_faulted : (command : Option Command) (files files' : FilesState) (out err err' : SinkState) (found : Refusal) (result : Status) → WhyNoReport command files files' found → IsEnded command found result err err' → result ≡ Faulted → WasFaulted command files files' out out err err'
+ended_faulted command files files' out err err' found result (inl unread) (inl (inl told)) e =
+    inl (record {
+      asked = unread.asked;
+      is = unread.is;
+      which = unread.which;
+      failed = unread.failed;
+      untouched = refl;
+      told = inl (subst (λ (f : Refusal). WentOut (message_of command f) err err') unread.found_is told.1);
+    })
+ended_faulted command files files' out err err' found result (inr (inl memory)) (inl (inl told)) e =
+    let kind : status_of found ≡ NoMemory = ap status_of memory.0 in
+    let is = told.0 in absurd (cc (kind, is, e))
+ended_faulted command files files' out err err' found result (inr (inr refused)) (inl (inl told)) e =
+    let kind = refused.kind in
+    let is = told.0 in absurd (cc (kind, is, e))
 ended_faulted command files files' out err err' found result why (inl (inr broke)) e =
     inr (inr (record { message = message_of command found; cause = inr (found, why, refl); untouched = refl; broken = broke.1 }))
-ended_faulted command files files' out err err' found result why (inr (inl told)) e = absurd (cc (told.0, e))
+ended_faulted command files files' out err err' found result why (inr (inl told)) e = let is = told.0 in absurd (cc (is, e))
 ended_faulted command files files' out err err' found result why (inr (inr broke)) e =
     inr (inr (record { message = out_of_memory; cause = inl refl; untouched = refl; broken = broke.1 }))
 
 -- a refusal that was told
-pub ended_refused : (command : Option Command) (files files' : FilesState) (out err err' : SinkState) (found : Refusal) (result : Status) → WhyUnprepared command files files' found → IsEnded command found result err err' → result ≡ Refused → WasRefused command files files' out out err err'
-ended_refused command files files' out err err' (refusal.CannotRead which) result why (inl (inl told)) e = absurd (cc (told.0, e))
-ended_refused command files files' out err err' refusal.OutOfMemory result why (inl (inl told)) e = absurd (cc (told.0, e))
-ended_refused command files files' out err err' refusal.NotYet result why (inl (inl told)) e = record { found = refusal.NotYet; kind = refl; first = why.1; grounded = why.2; asking = why.0; untouched = refl; told = told.1 }
-ended_refused command files files' out err err' (refusal.Netlist fault) result why (inl (inl told)) e = record { found = refusal.Netlist fault; kind = refl; first = why.1; grounded = why.2; asking = why.0; untouched = refl; told = told.1 }
-ended_refused command files files' out err err' (refusal.Tasks fault) result why (inl (inl told)) e = record { found = refusal.Tasks fault; kind = refl; first = why.1; grounded = why.2; asking = why.0; untouched = refl; told = told.1 }
-ended_refused command files files' out err err' (refusal.Hierarchy fault) result why (inl (inl told)) e = record { found = refusal.Hierarchy fault; kind = refl; first = why.1; grounded = why.2; asking = why.0; untouched = refl; told = told.1 }
-ended_refused command files files' out err err' (refusal.Loop name) result why (inl (inl told)) e = record { found = refusal.Loop name; kind = refl; first = why.1; grounded = why.2; asking = why.0; untouched = refl; told = told.1 }
-ended_refused command files files' out err err' (refusal.Binding fault) result why (inl (inl told)) e = record { found = refusal.Binding fault; kind = refl; first = why.1; grounded = why.2; asking = why.0; untouched = refl; told = told.1 }
-ended_refused command files files' out err err' found result why (inl (inr broke)) e = absurd (cc (broke.0, e))
-ended_refused command files files' out err err' found result why (inr (inl told)) e = absurd (cc (told.0, e))
-ended_refused command files files' out err err' found result why (inr (inr broke)) e = absurd (cc (broke.0, e))
+pub ended_refused : (command : Option Command) (files files' : FilesState) (out err err' : SinkState) (found : Refusal) (result : Status) → WhyNoReport command files files' found → IsEnded command found result err err' → result ≡ Refused → WasRefused command files files' out out err err'
+ended_refused command files files' out err err' found result (inl unread) (inl (inl told)) e =
+    let kind : status_of found ≡ Faulted = ap status_of unread.found_is in
+    let is = told.0 in absurd (cc (kind, is, e))
+ended_refused command files files' out err err' found result (inr (inl memory)) (inl (inl told)) e =
+    let kind : status_of found ≡ NoMemory = ap status_of memory.0 in
+    let is = told.0 in absurd (cc (kind, is, e))
+ended_refused command files files' out err err' found result (inr (inr refused)) (inl (inl told)) e = record { found = found; why = refused; untouched = refl; told = told.1 }
+ended_refused command files files' out err err' found result why (inl (inr broke)) e = let is = broke.0 in absurd (cc (is, e))
+ended_refused command files files' out err err' found result why (inr (inl told)) e = let is = told.0 in absurd (cc (is, e))
+ended_refused command files files' out err err' found result why (inr (inr broke)) e = let is = broke.0 in absurd (cc (is, e))
 
--- a count that did not move did not fall
-same_count : (before after : ℕ) → after ≡ before → before ≤ after
-same_count before after e = omega (arith, e)
+-- want of memory that was told
+pub ended_wanting : (command : Option Command) (files files' : FilesState) (out err err' : SinkState) (found : Refusal) (result : Status) → WhyNoReport command files files' found → IsEnded command found result err err' → result ≡ NoMemory → WantedMemory out out err err'
+ended_wanting command files files' out err err' found result (inl unread) (inl (inl told)) e =
+    let kind : status_of found ≡ Faulted = ap status_of unread.found_is in
+    let is = told.0 in absurd (cc (kind, is, e))
+ended_wanting command files files' out err err' found result (inr (inl memory)) (inl (inl told)) e =
+    record { untouched = refl; told = subst (λ (f : Refusal). WentOut (message_of command f) err err') memory.0 told.1 }
+ended_wanting command files files' out err err' found result (inr (inr refused)) (inl (inl told)) e =
+    let kind = refused.kind in
+    let is = told.0 in absurd (cc (kind, is, e))
+ended_wanting command files files' out err err' found result why (inl (inr broke)) e = let is = broke.0 in absurd (cc (is, e))
+ended_wanting command files files' out err err' found result why (inr (inl told)) e = record { untouched = refl; told = told.1 }
+ended_wanting command files files' out err err' found result why (inr (inr broke)) e = let is = broke.0 in absurd (cc (is, e))
+
+-- the status that goes with a refusal is none of a report
+kind_of : (command : Option Command) (files files' : FilesState) (found : Refusal) → WhyNoReport command files files' found → (status_of found ≡ Faulted) ⊎ ((status_of found ≡ NoMemory) ⊎ (status_of found ≡ Refused))
+kind_of command files files' found (inl unread) = inl (ap status_of unread.found_is)
+kind_of command files files' found (inr (inl memory)) = inr (inl (ap status_of memory.0))
+kind_of command files files' found (inr (inr refused)) = inr (inr refused.kind)
+
+no_pass : (kind result : Status) → (kind ≡ Faulted) ⊎ ((kind ≡ NoMemory) ⊎ (kind ≡ Refused)) → result ≡ kind → result ≡ Passed → ⊥
+no_pass kind result (inl k) is e = absurd (cc (k, is, e))
+no_pass kind result (inr (inl k)) is e = absurd (cc (k, is, e))
+no_pass kind result (inr (inr k)) is e = absurd (cc (k, is, e))
+
+no_failure : (kind result : Status) → (kind ≡ Faulted) ⊎ ((kind ≡ NoMemory) ⊎ (kind ≡ Refused)) → result ≡ kind → result ≡ NotPassed → ⊥
+no_failure kind result (inl k) is e = absurd (cc (k, is, e))
+no_failure kind result (inr (inl k)) is e = absurd (cc (k, is, e))
+no_failure kind result (inr (inr k)) is e = absurd (cc (k, is, e))
+
+-- a refusal is no report
+pub ended_not_passed : (command : Option Command) (files files' : FilesState) (err err' : SinkState) (found : Refusal) (result : Status) → WhyNoReport command files files' found → IsEnded command found result err err' → result ≡ Passed → ⊥
+ended_not_passed command files files' err err' found result why (inl (inl told)) e = no_pass (status_of found) result (kind_of command files files' found why) told.0 e
+ended_not_passed command files files' err err' found result why (inl (inr broke)) e = let is = broke.0 in absurd (cc (is, e))
+ended_not_passed command files files' err err' found result why (inr (inl told)) e = let is = told.0 in absurd (cc (is, e))
+ended_not_passed command files files' err err' found result why (inr (inr broke)) e = let is = broke.0 in absurd (cc (is, e))
+
+pub ended_not_failed : (command : Option Command) (files files' : FilesState) (err err' : SinkState) (found : Refusal) (result : Status) → WhyNoReport command files files' found → IsEnded command found result err err' → result ≡ NotPassed → ⊥
+ended_not_failed command files files' err err' found result why (inl (inl told)) e = no_failure (status_of found) result (kind_of command files files' found why) told.0 e
+ended_not_failed command files files' err err' found result why (inl (inr broke)) e = let is = broke.0 in absurd (cc (is, e))
+ended_not_failed command files files' err err' found result why (inr (inl told)) e = let is = told.0 in absurd (cc (is, e))
+ended_not_failed command files files' err err' found result why (inr (inr broke)) e = let is = broke.0 in absurd (cc (is, e))
+
+-- want of memory that was told
+pub told_wanting : (out err err' : SinkState) (result : Status) → IsTold out_of_memory NoMemory result err err' → result ≡ NoMemory → WantedMemory out out err err'
+told_wanting out err err' result (inl told) e = record { untouched = refl; told = told.1 }
+told_wanting out err err' result (inr broke) e = let is = broke.0 in absurd (cc (is, e))
 
 -- the elements of two lists at one place
 at_place : {A B : Type 0} (R : A → B → Type 0) (xs : List A) (ys : List B) (place : ℕ) (x : A) (y : B) → AllZip R xs ys → slice_get xs place ≡ Some x → slice_get ys place ≡ Some y → R x y
@@ -156,14 +228,20 @@ held models net vars task sound flat holds bits long run is_run meets =
     holds bits long (flat_bits models run)
     (record { is_run = runs.to_flat run is_run.is_run; starts = λ some. runs.starts_to_flat task.reset run some is_run.is_run (is_run.starts some) }) meets
 
--- where a report says pass, the assertion holds
+-- where a check says pass, the assertion holds
+check_holds : (action : Action) (steps : Option ℕ) (net_text second_text : List ℕ) (passes : Bool) (bytes : List ℕ) (written : IsWritten action steps net_text second_text passes bytes) → PassesHold action steps net_text second_text passes bytes written
+check_holds (check net tasks) steps net_text second_text passes bytes written = λ place task verdict here there says.
+    let n = written.reading.flattened in
+    let judged : IsVerdictOf written.net (length written.tasks.vars) task verdict =
+    at_place (IsVerdictOn written.net (length written.tasks.vars)) written.tasks.tasks written.report.verdicts place (Ste task) verdict written.report.judged here there in
+    held written.models written.net (length written.tasks.vars) task n.sound n.flat
+    (pass_holds written.net (length written.tasks.vars) task verdict n.settled says judged)
+check_holds (info net) steps net_text second_text passes bytes written = tt
+check_holds (sim net inputs) steps net_text second_text passes bytes written = tt
+check_holds (bench stages) steps net_text second_text passes bytes written = tt
+
 pub passes_hold : (command : Option Command) (files : FilesState) → PassHolds command files
-passes_hold command files passes bytes report place task verdict here there says =
-    let reading = report.prepared.reading in
-    let judged : IsVerdictOf report.net (length report.tasks.vars) task verdict =
-    at_place (IsVerdictOn report.net (length report.tasks.vars)) report.tasks.tasks report.report.verdicts place (Ste task) verdict report.report.judged here there in
-    held report.models report.net (length report.tasks.vars) task reading.sound reading.flat
-    (pass_holds report.net (length report.tasks.vars) task verdict reading.settled says judged)
+passes_hold command files passes bytes report = check_holds report.asked.action report.asked.steps report.net_text report.second_text passes bytes report.written
 
 went_later : (bytes : List ℕ) (sink sink' : SinkState) → WentOut bytes sink sink' → sink.faults ≤ sink'.faults
 went_later bytes sink sink' e = same_count sink.faults sink'.faults (ap (λ (s : SinkState). s.faults) e)
@@ -197,8 +275,7 @@ sinks_later command files files' out out' err err' NoMemory a b c d e = let r = 
 -- what a report is on is not refused
 report_silent : (command : Option Command) (files : FilesState) (passes : Bool) (bytes : List ℕ) (store : Store) (found : Refusal) → IsReport command files passes bytes → files.holds ≡ Some store → IsFirst (refusals command store) found → ⊥
 report_silent command files passes bytes store found report told first =
-    none_first (refusals (Some report.asked) store) found (prepared_silent report.asked files store report.models report.net report.tasks told report.prepared)
-    (subst (λ (c : Option Command). IsFirst (refusals c store) found) report.is first)
+    none_first (refusals command store) found (reported_silent command files store passes bytes told report) first
 
 some_rose : (command : Option Command) (files files' : FilesState) (out out' err err' : SinkState) → WasFaulted command files files' out out' err err' → NoneRose files files' out out' err err' → ⊥
 some_rose command files files' out out' err err' (inl read) none = none.0 read.failed.rose
@@ -220,9 +297,9 @@ decided command files files' out out' err err' NotPassed a b c d none = let r = 
 }
 decided command files files' out out' err err' Refused a b c d none = let r = c refl in record {
   refused = λ store told found first.
-      let one = one_refusal command store r.found found (r.first store told) first in
-      inl (sym r.kind ∙ ap status_of one, r.told ∙ ap (λ (f : Refusal). took err (message_of command f)) one);
-  reported = λ store told silent. absurd (none_first (refusals command store) r.found silent (r.first store told));
+      let one = one_refusal command store r.found found (r.why.first store told) first in
+      inl (sym r.why.kind ∙ ap status_of one, r.told ∙ ap (λ (f : Refusal). took err (message_of command f)) one);
+  reported = λ store told silent. absurd (none_first (refusals command store) r.found silent (r.why.first store told));
 }
 decided command files files' out out' err err' Faulted a b c d none = absurd (some_rose command files files' out out' err err' (d refl) none)
 decided command files files' out out' err err' NoMemory a b c d none = record { refused = λ store told found first. inr refl; reported = λ store told silent. inr (inr refl) }

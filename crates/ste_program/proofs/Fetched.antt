@@ -1,98 +1,200 @@
--- The two texts of a check: which names were asked for, and which refusal is the first where a file is not at hand.
-use Rattle.std.proofs.Common.{◌≡◌, ◌<◌, ◌≤◌, ℕ, List, [], ◌∷◌, length, Option, None, Some, refl, ap, sym, ◌∙◌, arith, inl, inr, subst, append_assoc}
-use Rattle.std.specs.Prelude.{IsSomeAnd}
+-- The texts of a command: which names were asked for, and which refusal is the first where a file is not at hand.
+use Rattle.std.proofs.Common.{◌≡◌, ◌<◌, ◌≤◌, ℕ, List, [], ◌∷◌, ◌++◌, length, take, Bool, true, false, Option, None, Some, refl, ap, sym, ◌∙◌, arith, inl, inr, subst, append_assoc, append-nil}
+use Rattle.std.specs.Prelude.{IsSomeAnd, option_to_list}
 use Rattle.std.specs.FinMap.{get}
-use Rattle.ste_program.specs.Answer.{WhyUnprepared}
+use Rattle.command_line.specs.Command.{Action, Command}
 use Rattle.ste_io.specs.Causes.{Rose}
-use Rattle.ste_program.specs.Command.{Command}
-use Rattle.ste_program.specs.Order.{AllSilent, stages_before}
-use Rattle.ste_io.specs.Outside.{FilesState, IsFetched, IsTooLarge, StandsAt, Store, asked_for, with_name, with_names}
-use Rattle.ste_program.specs.Report.{greatest}
-use Rattle.ste_program.specs.private.Texts.{WhyNoFile}
+use Rattle.ste_io.specs.Outside.{FilesState, IsFetched, IsTooLarge, Store, asked_for, with_name, with_names}
+use Rattle.ste_program.specs.Answer.{AskedSome, WhyNoReport, status_of}
+use Rattle.ste_program.specs.Command.{file_of, files_of, files_up_to, is_undone, net_file, second_file}
+use Rattle.ste_program.specs.Order.{AllSilent, IsFirst, is_large, is_missing, is_not_done, refusals, stages_before}
+use Rattle.ste_program.specs.Report.{IsRead, greatest, text_at}
+use Rattle.ste_program.specs.private.Texts.{AreTexts, FileFails, IsAtHand, WhyNoFile}
 use Rattle.ste_program.specs.declared.refusal.File.{File}
 use Rattle.ste_program.specs.declared.refusal.File.TheVariants as file
 use Rattle.ste_program.specs.declared.refusal.Refusal.{Refusal}
-use Rattle.ste_program.specs.declared.refusal.Refusal.TheVariants as refusal
 
-name_once : (asked : Option (List (List ℕ))) (a : List ℕ) → with_name asked a ≡ with_names asked (a ∷ [])
-name_once None a = refl
-name_once (Some names) a = refl
+-- the files, asked for names
+abbrev pub asked : FilesState → List (List ℕ) → FilesState
+asked before names = record before { asked = with_names before.asked names }
 
-names_twice : (asked : Option (List (List ℕ))) (a b : List ℕ) → with_name (with_name asked a) b ≡ with_names asked (a ∷ b ∷ [])
-names_twice None a b = refl
-names_twice (Some names) a b = ap Some (append_assoc names (a ∷ []) (b ∷ []))
+with_none : (names : Option (List (List ℕ))) → names ≡ with_names names []
+with_none None = refl
+with_none (Some names) = ap Some (sym (append-nil names))
 
--- the files were asked for one name
-pub asked_one : (before : FilesState) (a : List ℕ) → asked_for before a ≡ record before { asked = with_names before.asked (a ∷ []) }
-asked_one before a = ap (λ (asked : Option (List (List ℕ))). record before { asked = asked }) (name_once before.asked a)
+with_one_more : (names : Option (List (List ℕ))) (some : List (List ℕ)) (name : List ℕ) → with_name (with_names names some) name ≡ with_names names (some ++ name ∷ [])
+with_one_more None some name = refl
+with_one_more (Some names) some name = ap Some (append_assoc names some (name ∷ []))
 
--- the files were asked for two names
-pub asked_two : (before : FilesState) (a b : List ℕ) → asked_for (asked_for before a) b ≡ record before { asked = with_names before.asked (a ∷ b ∷ []) }
-asked_two before a b = ap (λ (asked : Option (List (List ℕ))). record before { asked = asked }) (names_twice before.asked a b)
+with_more : (names : Option (List (List ℕ))) (some more : List (List ℕ)) → with_names (with_names names some) more ≡ with_names names (some ++ more)
+with_more None some more = refl
+with_more (Some names) some more = ap Some (append_assoc names some more)
 
--- a name that holds bytes is not missing
-pub not_missing : (held : Option (List ℕ)) (P : List ℕ → Type 0) → IsSomeAnd held P → held ≡ None → ⊥
-not_missing held P some none = subst (λ (found : Option (List ℕ)). IsSomeAnd found P) none some
+abbrev with_asked : FilesState → Option (List (List ℕ)) → FilesState
+with_asked before names = record before { asked = names }
 
--- what holds of the bytes that stand under a name
+-- no names asked for is nothing asked for
+pub asked_none : (before : FilesState) → before ≡ asked before []
+asked_none before = ap (with_asked before) (with_none before.asked)
+
+-- one name
+pub asked_one : (before : FilesState) (name : List ℕ) → asked_for before name ≡ asked before (name ∷ [])
+asked_one before name = ap (λ (s : FilesState). asked_for s name) (asked_none before) ∙ ap (with_asked before) (with_one_more before.asked [] name)
+
+-- one name more
+pub asked_more : (before : FilesState) (names : List (List ℕ)) (name : List ℕ) → asked_for (asked before names) name ≡ asked before (names ++ name ∷ [])
+asked_more before names name = ap (with_asked before) (with_one_more before.asked names name)
+
+asked_both : (before : FilesState) (some more : List (List ℕ)) → asked (asked before some) more ≡ asked before (some ++ more)
+asked_both before some more = ap (with_asked before) (with_more before.asked some more)
+
+-- where there is no file, nothing is read
+pub nothing_read : (before : FilesState) → IsAtHand None before before []
+nothing_read before = record { read = told before.holds; small = omega arith; asking = asked_none before }
+  where
+    told : (holds : Option Store) → IsRead holds None []
+    told None = tt
+    told (Some store) = refl
+
+-- what was fetched is at hand
+pub is_fetched : (before after : FilesState) (name bytes : List ℕ) → IsFetched before after name greatest bytes → IsAtHand (Some name) before after bytes
+is_fetched before after name bytes (stands, small, asking) = record { read = stands; small = small; asking = asking ∙ asked_one before name }
+
+-- the names of the first file are the first names, and so are those of both
+pub first_names : (one other : Option (List ℕ)) → (n : ℕ) × (option_to_list one ≡ take n (option_to_list one ++ option_to_list other))
+first_names None other = (0, refl)
+first_names (Some name) other = (1, refl)
+
+pub all_names : (one other : Option (List ℕ)) → option_to_list one ++ option_to_list other ≡ take 2 (option_to_list one ++ option_to_list other)
+all_names None None = refl
+all_names None (Some second) = refl
+all_names (Some name) None = refl
+all_names (Some name) (Some second) = refl
+
+-- what is read, where it is told
+pub read_told : (name : Option (List ℕ)) (holds : Option Store) (text : List ℕ) → IsRead holds name text → (store : Store) → holds ≡ Some store → text_at name store ≡ Some text
+read_told name None text read store told = absurd (cc told)
+read_told name (Some held) text read store told = subst (λ (s : Store). text_at name s ≡ Some text) (let same : held ≡ store = cc in same) read
+
+large_told : (name : List ℕ) (holds : Option Store) → IsTooLarge holds name greatest → (store : Store) → holds ≡ Some store → IsSomeAnd (get store name) (λ bytes. greatest < length bytes)
+large_told name None large store told = absurd (cc told)
+large_told name (Some held) large store told = subst (λ (s : Store). IsSomeAnd (get s name) (λ bytes. greatest < length bytes)) (let same : held ≡ store = cc in same) large
+
+-- what holds of the bytes that are read
 pub of_held : (P : List ℕ → Type 0) (held : Option (List ℕ)) (text : List ℕ) → held ≡ Some text → P text → IsSomeAnd held P
 of_held P held text e h = subst (λ (found : Option (List ℕ)). IsSomeAnd found P) (sym e) h
 
 pub of_text : (P : List ℕ → Type 0) (held : Option (List ℕ)) (text : List ℕ) → held ≡ Some text → IsSomeAnd held P → P text
 of_text P held text e h = subst (λ (found : Option (List ℕ)). IsSomeAnd found P) e h
 
--- a name that holds a text is neither missing nor too large
-pub held_silent : (command : Command) (store : Store) (text : List ℕ) → get store command.net ≡ Some text → length text ≤ greatest → AllSilent (stages_before file.Tasks command store)
-held_silent command store text held small =
-    ((λ other h. absurd (cc (held, h.1))), ((λ other h. let long : greatest < length text = of_text (λ bytes. greatest < length bytes) (get store command.net) text held h.1 in absurd (omega (arith, long, small))), tt))
+not_missing : (held : Option (List ℕ)) (P : List ℕ → Type 0) → IsSomeAnd held P → held ≡ None → ⊥
+not_missing held P some none = subst (λ (found : Option (List ℕ)). IsSomeAnd found P) none some
 
--- the same of the tasks' name, as two facts
-pub tasks_held_silent : (command : Command) (store : Store) (text : List ℕ) → get store command.tasks ≡ Some text → length text ≤ greatest → (get store command.tasks ≡ None → ⊥) × (IsSomeAnd (get store command.tasks) (λ bytes. greatest < length bytes) → ⊥)
-tasks_held_silent command store text held small =
-    ((λ h. absurd (cc (held, h))), (λ h. let long : greatest < length text = of_text (λ bytes. greatest < length bytes) (get store command.tasks) text held h in absurd (omega (arith, long, small))))
+-- a command that is done is not refused for that
+pub done_silent : (command : Command) → is_undone command ≡ false → (other : Refusal) → ¬ is_not_done command other
+done_silent command done other h = let is = h.1 in absurd (cc (done, is))
 
--- what stands under a name, where it is told
-pub held_where_told : (name : List ℕ) (holds : Option Store) (text : List ℕ) → StandsAt holds name text → (store : Store) → holds ≡ Some store → get store name ≡ Some text
-held_where_told name None text stands store told = absurd (cc told)
-held_where_told name (Some held) text stands store told = subst (λ (s : Store). get s name ≡ Some text) (let same : held ≡ store = cc in same) stands
-
-large_where_told : (name : List ℕ) (holds : Option Store) → IsTooLarge holds name greatest → (store : Store) → holds ≡ Some store → IsSomeAnd (get store name) (λ bytes. greatest < length bytes)
-large_where_told name None large store told = absurd (cc told)
-large_where_told name (Some held) large store told = subst (λ (s : Store). IsSomeAnd (get s name) (λ bytes. greatest < length bytes)) (let same : held ≡ store = cc in same) large
-
-second_of_two : (command : Command) (before between after : FilesState) (text : List ℕ) (found : Refusal) →
-    IsFetched before between command.net greatest text → WhyNoFile file.Tasks command.tasks between after found → WhyUnprepared (Some command) before after found
-second_of_two command before between after text (refusal.CannotRead which) (stands, small, first) why =
-    subst (λ (w : File). WhyUnprepared (Some command) before after (refusal.CannotRead w)) (sym why.0) (
-      command,
-      refl,
-      record {
-        same = why.1.same ∙ ap (λ (s : FilesState). s.holds) first;
-        asking = why.1.asking ∙ (ap (λ (s : FilesState). with_name s.asked command.tasks) first ∙ names_twice before.asked command.net command.tasks);
-        rose = subst (λ (s : FilesState). Rose s.faults after.faults) first why.1.rose;
-        later = subst (λ (s : FilesState). s.faults ≤ after.faults) first why.1.later;
-        reached = λ store told. held_silent command store text (held_where_told command.net before.holds text stands store told) small;
-      },
-    )
-second_of_two command before between after text refusal.NotYet (stands, small, first) why = (
-  (2, why.1 ∙ (ap (λ (s : FilesState). asked_for s command.tasks) first ∙ asked_two before command.net command.tasks)),
-  (λ store told.
-      let silent = held_silent command store text (held_where_told command.net before.holds text stands store told) small in
-      let large = large_where_told command.tasks between.holds why.0 store (ap (λ (s : FilesState). s.holds) first ∙ told) in
-      inr (silent.0, inr (silent.1.0, inr ((λ other h. not_missing (get store command.tasks) (λ bytes. greatest < length bytes) large h.1), inl (refl, large))))),
-  inl (refl, inr (subst (λ (s : FilesState). IsTooLarge s.holds command.tasks greatest) first why.0)),
+-- a file that is read is neither missing nor too large
+pub held_silent : (which : File) (action : Action) (store : Store) (text : List ℕ) → text_at (file_of action which) store ≡ Some text → length text ≤ greatest →
+    ((other : Refusal) → ¬ is_missing which action store other) × ((other : Refusal) → ¬ is_large which action store other)
+held_silent which action store text held small = (
+  (λ other h. let none = h.1 in absurd (cc (held, none))),
+  (λ other h. let long : greatest < length text = of_text (λ bytes. greatest < length bytes) (text_at (file_of action which) store) text held h.1 in absurd (omega (arith, long, small))),
 )
-second_of_two command before between after text refusal.OutOfMemory (stands, small, first) (inl why) =
-    (2, why ∙ (ap (λ (s : FilesState). asked_for s command.tasks) first ∙ asked_two before command.net command.tasks))
-second_of_two command before between after text refusal.OutOfMemory (stands, small, first) (inr why) = (1, why ∙ (first ∙ asked_one before command.net))
-second_of_two command before between after text (refusal.Netlist fault) fetched why = absurd why
-second_of_two command before between after text (refusal.Tasks fault) fetched why = absurd why
-second_of_two command before between after text (refusal.Hierarchy fault) fetched why = absurd why
-second_of_two command before between after text (refusal.Loop name) fetched why = absurd why
-second_of_two command before between after text (refusal.Binding fault) fetched why = absurd why
 
--- the tasks' file is not at hand, behind the netlist's, which is
-pub second_file : (command inside : Command) (before between after : FilesState) (text : List ℕ) (found : Refusal) → inside ≡ command →
-    IsFetched before between inside.net greatest text → WhyNoFile file.Tasks inside.tasks between after found → WhyUnprepared (Some command) before after found
-second_file command inside before between after text found same fetched why =
-    subst (λ (c : Command). WhyUnprepared (Some c) before after found) same (second_of_two inside before between after text found fetched why)
+-- What a step that asks for a file behind names that were asked for has to know of it.
+record IsNext (command : Command) (before between : FilesState) (which : File) (names : List (List ℕ)) : Type 0 where
+  pub done : is_undone command ≡ false
+  pub before_is : between ≡ asked before names
+  pub some : (n : ℕ) × (names ≡ take n (files_of (Some command)))
+  pub up_to : names ++ option_to_list (file_of command.action which) ≡ files_up_to command which
+  pub all : (n : ℕ) × (files_up_to command which ≡ take n (files_of (Some command)))
+  pub reached : (store : Store) → before.holds ≡ Some store → AllSilent (stages_before which command store)
+  pub placed : (store : Store) → before.holds ≡ Some store → (found : Refusal) → is_large which command.action store found →
+      ((other : Refusal) → ¬ is_missing which command.action store other) → IsFirst (refusals (Some command) store) found
+
+-- the file cannot be had
+fails : (command : Command) (before between after : FilesState) (which : File) (names : List (List ℕ)) (found : Refusal) → IsNext command before between which names →
+    WhyNoFile which (file_of command.action which) between after found → WhyNoReport (Some command) before after found
+fails command before between after which names found next (name, named, why) =
+    let up_to : names ++ name ∷ [] ≡ files_up_to command which = ap (λ (o : Option (List ℕ)). names ++ option_to_list o) (sym named) ∙ next.up_to in
+    let asking : asked_for between name ≡ asked before (files_up_to command which) =
+    ap (λ (s : FilesState). asked_for s name) next.before_is ∙ (asked_more before names name ∙ ap (asked before) up_to) in
+    let some_asked : (s : FilesState) → s ≡ asked_for between name → AskedSome (Some command) before s =
+    λ s e. (next.all.0, e ∙ (asking ∙ ap (asked before) next.all.1)) in
+    by up_to asking some_asked why
+  where
+    by : names ++ name ∷ [] ≡ files_up_to command which → asked_for between name ≡ asked before (files_up_to command which) → ((s : FilesState) → s ≡ asked_for between name → AskedSome (Some command) before s) →
+        FileFails which name between after found → WhyNoReport (Some command) before after found
+    by up_to asking some_asked (inl (memory, inl same)) = inr (inl (memory, some_asked after same))
+    by up_to asking some_asked (inl (memory, inr same)) = inr (inl (memory, (next.some.0, same ∙ (next.before_is ∙ ap (asked before) next.some.1))))
+    by up_to asking some_asked (inr (inl (is, failed))) = inl (record {
+      asked = command;
+      is = refl;
+      which = which;
+      found_is = is;
+      failed = record {
+        name = name;
+        named = named;
+        done = next.done;
+        same = failed.same ∙ ap (λ (s : FilesState). s.holds) next.before_is;
+        asking = failed.asking ∙ ap (λ (s : FilesState). s.asked) asking;
+        rose = subst (λ (s : FilesState). Rose s.faults after.faults) next.before_is failed.rose;
+        later = subst (λ (s : FilesState). s.faults ≤ after.faults) next.before_is failed.later;
+        reached = next.reached;
+      };
+    })
+    by up_to asking some_asked (inr (inr (is, large, same))) = inr (inr (record {
+      kind = ap status_of is;
+      first = λ store told.
+          let held : IsSomeAnd (text_at (file_of command.action which) store) (λ bytes. greatest < length bytes) =
+          subst (λ (o : Option (List ℕ)). IsSomeAnd (text_at o store) (λ bytes. greatest < length bytes)) (sym named)
+          (large_told name between.holds large store (ap (λ (s : FilesState). s.holds) next.before_is ∙ told)) in
+          next.placed store told found (is, held) (λ other h. not_missing (text_at (file_of command.action which) store) (λ bytes. greatest < length bytes) held h.1);
+      grounded = inr (next.done, inl (which, name, named, is, subst (λ (s : FilesState). IsTooLarge s.holds name greatest) next.before_is large));
+      asking = some_asked after same;
+    }))
+
+-- the netlist's file cannot be had
+pub first_fails : (command : Command) (before after : FilesState) (found : Refusal) → is_undone command ≡ false → WhyNoFile file.Net (net_file command.action) before after found → WhyNoReport (Some command) before after found
+first_fails command before after found done why =
+    let silent = done_silent command done in
+    fails command before before after file.Net [] found (record {
+      done = done;
+      before_is = asked_none before;
+      some = (0, refl);
+      up_to = refl;
+      all = first_names (net_file command.action) (second_file command.action);
+      reached = λ store told. (silent, tt);
+      placed = λ store told found large not_missing. inr (silent, inr (not_missing, inl large));
+    }) why
+
+-- the second file cannot be had, behind the netlist's, which is at hand
+pub second_fails : (command : Command) (before between after : FilesState) (text : List ℕ) (found : Refusal) → is_undone command ≡ false → IsAtHand (net_file command.action) before between text →
+    WhyNoFile file.Second (second_file command.action) between after found → WhyNoReport (Some command) before after found
+second_fails command before between after text found done net why =
+    let silent = done_silent command done in
+    let net_silent = λ (store : Store) (told : before.holds ≡ Some store).
+    held_silent file.Net command.action store text (read_told (net_file command.action) before.holds text net.read store told) net.small in
+    fails command before between after file.Second (option_to_list (net_file command.action)) found (record {
+      done = done;
+      before_is = net.asking;
+      some = first_names (net_file command.action) (second_file command.action);
+      up_to = refl;
+      all = (2, all_names (net_file command.action) (second_file command.action));
+      reached = λ store told. (silent, ((net_silent store told).0, ((net_silent store told).1, tt)));
+      placed = λ store told found large not_missing.
+          inr (silent, inr ((net_silent store told).0, inr ((net_silent store told).1, inr (not_missing, inl large))));
+    }) why
+
+-- both texts are at hand
+pub both_texts : (command : Command) (before between after : FilesState) (net_text second_text : List ℕ) → IsAtHand (net_file command.action) before between net_text → IsAtHand (second_file command.action) between after second_text →
+    AreTexts command before after net_text second_text
+both_texts command before between after net_text second_text net second = record {
+  net_read = net.read;
+  second_read = subst (λ (s : FilesState). IsRead s.holds (second_file command.action) second_text) net.asking second.read;
+  net_small = net.small;
+  second_small = second.small;
+  asking = second.asking ∙ (ap (λ (s : FilesState). asked s (option_to_list (second_file command.action))) net.asking
+      ∙ asked_both before (option_to_list (net_file command.action)) (option_to_list (second_file command.action)));
+}

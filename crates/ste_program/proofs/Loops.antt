@@ -1,38 +1,17 @@
 -- Flat nets of one hierarchy differ in the numbers of their covers alone, so the same nets settle in them.
 use Rattle.std.proofs.Common.{◌≡◌, ◌<◌, ℕ, zero, suc, List, [], ◌∷◌, length, map, get_or, Some, ap, sym, ◌∙◌, subst, arith, inl, inr}
 use Rattle.std.specs.Prelude.{◌⊎◌, slice_get}
-use Rattle.std.specs.List.{AllZip}
 use Rattle.std.proofs.lemmas.Bool.{cases_order}
 use Rattle.std.proofs.lemmas.List.{get_or-map, length-map}
 use Rattle.ste_base.specs.declared.id.NodeId.{NodeId}
 use Rattle.blif_syntax.specs.declared.models.Model.{Model}
-use Rattle.hierarchy.specs.Lines.{GateLine}
 use Rattle.hierarchy.specs.Names.{own_name}
-use Rattle.hierarchy.specs.Nets.{gates, nets}
+use Rattle.hierarchy.specs.Nets.{nets}
 use Rattle.net_core.specs.Run.{IsSettled, IsSettledAt, Settles}
-use Rattle.net_core.specs.declared.raw.Gate.{Gate}
 use Rattle.net_core.specs.declared.raw.RawNet.{RawNet}
-use Rattle.flat_net.specs.Flat.{IsFlat, IsGateOf}
+use Rattle.flat_net.specs.Flat.{IsFlat}
 use Rattle.ste_program.specs.Netlist.{IsLoop}
-
--- two gates have the same nets
-abbrev SameNets : Gate → Gate → Type 0
-SameNets one other = (one.output.0 ≡ other.output.0) × (map (λ (input : NodeId). input.0) one.inputs ≡ map (λ (input : NodeId). input.0) other.inputs)
-
-gates_alike : (models : List Model) (net other : RawNet) (ones others : List Gate) (lines : List (List ℕ × GateLine)) → AllZip (IsGateOf models net) ones lines → AllZip (IsGateOf models other) others lines → AllZip SameNets ones others
-gates_alike models net other [] [] [] f g = tt
-gates_alike models net other [] (b ∷ others) [] f g = absurd g
-gates_alike models net other (a ∷ ones) others [] f g = absurd f
-gates_alike models net other [] others (line ∷ lines) f g = absurd f
-gates_alike models net other (a ∷ ones) [] (line ∷ lines) f g = absurd g
-gates_alike models net other (a ∷ ones) (b ∷ others) (line ∷ lines) f g =
-    ((f.0.output ∙ sym g.0.output, f.0.inputs ∙ sym g.0.inputs), gates_alike models net other ones others lines f.1 g.1)
-
-gate_alike : (ones others : List Gate) (k : ℕ) (d : Gate) → AllZip SameNets ones others → k < length others → (k < length ones) × SameNets (get_or ones k d) (get_or others k d)
-gate_alike ones [] k d f l = absurd (omega (arith, l))
-gate_alike [] (b ∷ others) k d f l = absurd f
-gate_alike (a ∷ ones) (b ∷ others) zero d f l = (omega arith, f.0)
-gate_alike (a ∷ ones) (b ∷ others) (suc k) d f l = let rest = gate_alike ones others k d f.1 (omega (arith, l)) in let h = rest.0 in (omega (arith, h), rest.1)
+use Rattle.ste_program.proofs.SameNets.{AreSame, flats_same, gate_at}
 
 inputs_alike : (ones others : List NodeId) → map (λ (input : NodeId). input.0) ones ≡ map (λ (input : NodeId). input.0) others → (k : ℕ) (d : NodeId) → k < length others → (k < length ones) × ((get_or ones k d).0 ≡ (get_or others k d).0)
 inputs_alike ones others e k d l =
@@ -44,20 +23,20 @@ inputs_alike ones others e k d l =
       sym (get_or-map (λ (input : NodeId). input.0) ones k d 0 inside) ∙ (ap (λ (w : List ℕ). get_or w k 0) e ∙ get_or-map (λ (input : NodeId). input.0) others k d 0 l),
     )
 
-settled_alike : (net other : RawNet) → AllZip SameNets net.gates other.gates → (level id : ℕ) → IsSettledAt net level id → IsSettledAt other level id
+settled_alike : (net other : RawNet) → AreSame net other → (level id : ℕ) → IsSettledAt net level id → IsSettledAt other level id
 settled_alike net other same zero id h = h
 settled_alike net other same (suc level) id h = λ k d l drives.
-    let at = gate_alike net.gates other.gates k d same l in
-    let before = h k d at.0 (at.1.0 ∙ drives) in
+    let at = gate_at net other net.gates other.gates k d same.gates l in
+    let before = h k d at.0 (at.1.output ∙ drives) in
     λ j e m.
-    let input = inputs_alike (get_or net.gates k d).inputs (get_or other.gates k d).inputs at.1.1 j e m in
+    let input = inputs_alike (get_or net.gates k d).inputs (get_or other.gates k d).inputs at.1.inputs j e m in
     settled_alike net other same level (get_or (get_or other.gates k d).inputs j e).0
     (subst (λ n. IsSettledAt net level n) input.1 (before j e input.0))
 
 -- what settles in one of the flat nets settles in the other
 settles_alike : (models : List Model) (net other : RawNet) → IsFlat models net → IsFlat models other → (id : ℕ) → Settles net id → Settles other id
 settles_alike models net other f g id h =
-    (h.0, settled_alike net other (gates_alike models net other net.gates other.gates (gates models) f.gates g.gates) h.0 id h.1)
+    (h.0, settled_alike net other (flats_same models net other f g) h.0 id h.1)
 
 -- a netlist whose flat net settles has no loop
 pub no_loop : (models : List Model) (net : RawNet) (name : List ℕ) → IsFlat models net → IsSettled net → ¬ IsLoop models name

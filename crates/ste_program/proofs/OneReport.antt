@@ -1,302 +1,118 @@
--- A report is one: flat nets of one hierarchy have the same possible sets, and tasks that say the same ask the same.
-use Rattle.std.proofs.Common.{◌≡◌, ◌<◌, ℕ, zero, suc, Bool, List, [], ◌∷◌, ◌++◌, length, map, get_or, Option, Some, refl, ap, sym, ◌∙◌, subst, arith, max, fold}
-use Rattle.std.specs.Prelude.{Any, codes, zip, ◌&&◌, nat_le, nat_lt}
-use Rattle.std.specs.List.{AllZip, flat_map, list_all}
-use Rattle.ste_base.specs.declared.id.NodeId.{NodeId}
-use Rattle.bool_expr.specs.Value.{value_of}
-use Rattle.bool_expr.proofs.Values.{one_tree_has_one_value}
+-- A report is one: what two texts say determines what is written on them.
+use Rattle.std.proofs.Common.{◌≡◌, ℕ, zero, suc, ◌+◌, Bool, List, [], ◌∷◌, ◌++◌, length, Option, Some, Ok, refl, ap, sym, ◌∙◌, subst}
+use Rattle.std.specs.Prelude.{if◌then◌else◌, codes}
+use Rattle.std.specs.List.{AllZip}
+use Rattle.blif_lines.specs.Lines.{lines_of}
 use Rattle.blif_syntax.specs.declared.models.Model.{Model}
-use Rattle.hierarchy.specs.Lines.{GateLine, LatchLine}
-use Rattle.hierarchy.specs.Nets.{gates, latches}
-use Rattle.net_core.specs.declared.bit_set.BitSet.{BitSet}
+use Rattle.clock_step.specs.Answer.{IsAnswer}
+use Rattle.command_line.specs.Command.{Action, Command, bench, check, info, sim}
+use Rattle.hierarchy.specs.Lines.{outputs_of, top}
+use Rattle.hierarchy.specs.Names.{net_named}
+use Rattle.net_core.specs.Source.{source_of}
 use Rattle.net_core.specs.declared.raw.Gate.{Gate}
-use Rattle.net_core.specs.declared.raw.Init.{Init}
-use Rattle.net_core.specs.declared.raw.Latch.{Latch}
 use Rattle.net_core.specs.declared.raw.RawNet.{RawNet}
-use Rattle.net_core.specs.Run.{Cut, bit_of, gate_bit}
-use Rattle.net_core.specs.Sets.{IsIn, first_set}
-use Rattle.net_core.specs.Possible.{ArePossible, Asked, IsInSource, MayGive}
-use Rattle.flat_net.specs.Flat.{IsFlat, IsGateOf, IsLatchOf}
-use Rattle.ste_model.specs.declared.task.Assertion.{Assertion}
-use Rattle.ste_model.specs.declared.task.Quint.{Quint}
-use Rattle.ste_model.specs.declared.task.Task.{Task}
-use Rattle.ste_model.specs.declared.task.Task.TheVariants.{Ste, Gste}
-use Rattle.ste_model.specs.declared.verdict.Verdict.{Verdict}
-use Rattle.ste_model.specs.declared.verdict.Verdict.TheVariants.{Pass, Weak, Strong, Vacuous, Budget}
-use Rattle.ste_model.specs.Asked.{asked_at, cuts_at, depth, latest, quint_at}
-use Rattle.ste_model.specs.Found.{FailsStrongly, FailsWeakly, IsContradictory, IsEmptySomewhere, IsFound, IsStrong, IsTableOf, IsVerdict, IsVerdictOf, IsWeak}
-use Rattle.ste_model.specs.Table.{IsPossible, latch_sets}
-use Rattle.ste_model.specs.Trees.{QuintTree, quint_tree, task_tree}
-use Rattle.ste_model.proofs.Verdicts.{one_verdict}
-use Rattle.std.specs.FinMap.{get}
-use Rattle.ste_model.specs.declared.task.Tasks.{Tasks}
-use Rattle.ste_program.specs.Command.{Command}
-use Rattle.ste_program.specs.Reading.{IsReading}
-use Rattle.ste_program.specs.Report.{IsReportOn, IsVerdictOn, OneReport, is_pass, report_line, verdict_words}
-use Rattle.ste_program.proofs.Fetched.{held_where_told}
-use Rattle.ste_program.proofs.Refusals.{one_reading}
+use Rattle.flat_net.specs.Flat.{IsFlat}
+use Rattle.ste_program.specs.Check.{IsCheck}
+use Rattle.ste_program.specs.Command.{net_file, second_file}
+use Rattle.ste_program.specs.Info.{IsInfo, count_line, free_below, info_text, is_free}
+use Rattle.ste_program.specs.Report.{IsWritten, OneReport, text_at, verdicts_in}
+use Rattle.ste_program.specs.Simulated.{IsSimulated, sim_text}
+use Rattle.ste_program.proofs.Fetched.{read_told}
+use Rattle.ste_program.proofs.NetlistText.{one_netlist}
+use Rattle.ste_program.proofs.SameInputs.{outputs_same}
+use Rattle.ste_program.proofs.SameNets.{AreAlike, AreSame, flats_same, sources_same}
+use Rattle.ste_program.proofs.SameVerdicts.{reports_same}
+use Rattle.ste_program.proofs.TextStages.{one_reading}
 
--- two gates have the same nets and the same function
-record AreAlike (net other : RawNet) (one : Gate) (twin : Gate) : Type 0 where
-  pub output : one.output.0 ≡ twin.output.0
-  pub inputs : map (λ (input : NodeId). input.0) one.inputs ≡ map (λ (input : NodeId). input.0) twin.inputs
-  pub function : gate_bit net one ≡ gate_bit other twin
+-- what two reports on the same texts have in common
+abbrev AreOne : (action : Action) (steps : Option ℕ) (net_text second_text : List ℕ) (passes others : Bool) (bytes others_bytes : List ℕ) → IsWritten action steps net_text second_text passes bytes → IsWritten action steps net_text second_text others others_bytes → Type 0
+AreOne action steps net_text second_text passes others bytes others_bytes one two =
+    (passes ≡ others) × (bytes ≡ others_bytes) × (verdicts_in action steps net_text second_text passes bytes one ≡ verdicts_in action steps net_text second_text others others_bytes two)
 
-gates_alike : (models : List Model) (net other : RawNet) (ones others : List Gate) (lines : List (List ℕ × GateLine)) → AllZip (IsGateOf models net) ones lines → AllZip (IsGateOf models other) others lines → AllZip (AreAlike net other) ones others
-gates_alike models net other [] [] [] f g = tt
-gates_alike models net other [] (b ∷ others) [] f g = absurd g
-gates_alike models net other (a ∷ ones) others [] f g = absurd f
-gates_alike models net other [] others (line ∷ lines) f g = absurd f
-gates_alike models net other (a ∷ ones) [] (line ∷ lines) f g = absurd g
-gates_alike models net other (a ∷ ones) (b ∷ others) (line ∷ lines) f g = (
-  record {
-    output = f.0.output ∙ sym g.0.output;
-    inputs = f.0.inputs ∙ sym g.0.inputs;
-    function = ap bit_of f.0.cover ∙ sym (ap bit_of g.0.cover);
-  },
-  gates_alike models net other ones others lines f.1 g.1,
-)
+checks_same : (steps : Option ℕ) (net_text task_text : List ℕ) (passes others : Bool) (bytes others_bytes : List ℕ) (one : IsCheck steps net_text task_text passes bytes) (two : IsCheck steps net_text task_text others others_bytes) →
+    (passes ≡ others) × (bytes ≡ others_bytes) × (one.report.verdicts ≡ two.report.verdicts)
+checks_same steps net_text task_text passes others bytes others_bytes one two =
+    let readings = one_reading net_text task_text one.models two.models one.net two.net one.tasks two.tasks one.reading two.reading in
+    reports_same two.models one.net two.net one.tasks two.tasks passes others bytes others_bytes
+    (subst (λ (ms : List Model). IsFlat ms one.net) readings.0 one.reading.flattened.flat) two.reading.flattened.flat readings.1 readings.2 one.report two.report
 
--- a latch by its numbers
-abbrev latch : ℕ → ℕ → Init → Latch
-latch input output init = record { input = record { 0 = input }; output = record { 0 = output }; init = init }
+-- the same nets are free
+free_same : (net other : RawNet) (n : ℕ) → AreSame net other → free_below net n ≡ free_below other n
+free_same net other zero same = refl
+free_same net other (suc id) same =
+    ap (λ m. m + (if is_free (source_of net id) then 1 else 0)) (free_same net other id same)
+    ∙ ap (λ s. free_below other id + (if is_free s then 1 else 0)) (sources_same net other same id)
 
-latches_same : (models : List Model) (ones others : List Latch) (lines : List (List ℕ × LatchLine)) → AllZip (IsLatchOf models) ones lines → AllZip (IsLatchOf models) others lines → ones ≡ others
-latches_same models [] [] [] f g = refl
-latches_same models [] (b ∷ others) [] f g = absurd g
-latches_same models (a ∷ ones) others [] f g = absurd f
-latches_same models [] others (line ∷ lines) f g = absurd f
-latches_same models (a ∷ ones) [] (line ∷ lines) f g = absurd g
-latches_same models (a ∷ ones) (b ∷ others) (line ∷ lines) f g =
-    let input : a.input.0 ≡ b.input.0 = f.0.input ∙ sym g.0.input in
-    let output : a.output.0 ≡ b.output.0 = f.0.output ∙ sym g.0.output in
-    let init = f.0.init ∙ sym g.0.init in
-    let first : a ≡ b = ap (λ i. latch i a.output.0 a.init) input ∙ (ap (λ o. latch b.input.0 o a.init) output ∙ ap (latch b.input.0 b.output.0) init) in
-    ap (λ l. l ∷ ones) first ∙ ap (λ ls. b ∷ ls) (latches_same models ones others lines f.1 g.1)
+gates_long : (net other : RawNet) (ones others : List Gate) → AllZip (AreAlike net other) ones others → length ones ≡ length others
+gates_long net other [] [] h = refl
+gates_long net other [] (b ∷ others) h = absurd h
+gates_long net other (a ∷ ones) [] h = absurd h
+gates_long net other (a ∷ ones) (b ∷ others) h = ap suc (gates_long net other ones others h.1)
 
--- two nets have the same nets, the same latches, and gates of the same functions
-record AreSame (net other : RawNet) : Type 0 where
-  pub nets : net.nets ≡ other.nets
-  pub latches : net.latches ≡ other.latches
-  pub gates : AllZip (AreAlike net other) net.gates other.gates
+-- the text by its numbers
+abbrev counted : List ℕ → ℕ → ℕ → ℕ → ℕ → ℕ → List ℕ
+counted name nets inputs free gates latches =
+    codes "model " ++ name ++ codes "\n"
+    ++ count_line (codes "nets") nets
+    ++ count_line (codes "inputs") inputs
+    ++ count_line (codes "free") free
+    ++ count_line (codes "gates") gates
+    ++ count_line (codes "latches") latches
 
-flats_same : (models : List Model) (net other : RawNet) → IsFlat models net → IsFlat models other → AreSame net other
-flats_same models net other f g = record {
-  nets = f.nets ∙ sym g.nets;
-  latches = latches_same models net.latches other.latches (latches models) f.latches g.latches;
-  gates = gates_alike models net other net.gates other.gates (gates models) f.gates g.gates;
-}
+info_same : (name : List ℕ) (net other : RawNet) → AreSame net other → info_text name net ≡ info_text name other
+info_same name net other same =
+    ap (λ n. counted name n (length net.inputs) (free_below net net.nets) (length net.gates) (length net.latches)) same.nets
+    ∙ (ap (λ ids. counted name other.nets (length ids) (free_below net net.nets) (length net.gates) (length net.latches)) same.inputs
+    ∙ (ap (λ n. counted name other.nets (length other.inputs) n (length net.gates) (length net.latches)) (ap (free_below net) same.nets ∙ free_same net other other.nets same)
+    ∙ (ap (λ n. counted name other.nets (length other.inputs) (free_below other other.nets) n (length net.latches)) (gates_long net other net.gates other.gates same.gates)
+    ∙ ap (λ latches. counted name other.nets (length other.inputs) (free_below other other.nets) (length other.gates) (length latches)) same.latches)))
 
-gate_at : (net other : RawNet) (ones others : List Gate) (k : ℕ) (d : Gate) → AllZip (AreAlike net other) ones others → k < length others → (k < length ones) × AreAlike net other (get_or ones k d) (get_or others k d)
-gate_at net other ones [] k d f l = absurd (omega (arith, l))
-gate_at net other [] (b ∷ others) k d f l = absurd f
-gate_at net other (a ∷ ones) (b ∷ others) zero d f l = (omega arith, f.0)
-gate_at net other (a ∷ ones) (b ∷ others) (suc k) d f l = let rest = gate_at net other ones others k d f.1 (omega (arith, l)) in let h = rest.0 in (omega (arith, h), rest.1)
+infos_same : (net_text bytes others_bytes : List ℕ) → IsInfo net_text bytes → IsInfo net_text others_bytes → bytes ≡ others_bytes
+infos_same net_text bytes others_bytes one two =
+    let same = one_netlist net_text one.models two.models one.flattened.netlist two.flattened.netlist in
+    let nets = flats_same two.models one.net two.net (subst (λ (ms : List Model). IsFlat ms one.net) same one.flattened.flat) two.flattened.flat in
+    one.written ∙ (ap (λ (ms : List Model). info_text (top ms).name one.net) same ∙ (info_same (top two.models).name one.net two.net nets ∙ sym two.written))
 
--- the sets of inputs by their numbers
-by_number : (sets : ℕ → BitSet) (inputs : List NodeId) → map (λ (input : NodeId). sets input.0) inputs ≡ map sets (map (λ (input : NodeId). input.0) inputs)
-by_number sets [] = refl
-by_number sets (input ∷ inputs) = ap (λ l. sets input.0 ∷ l) (by_number sets inputs)
+simulations_same : (net_text input_text bytes others_bytes : List ℕ) → IsSimulated net_text input_text bytes → IsSimulated net_text input_text others_bytes → bytes ≡ others_bytes
+simulations_same net_text input_text bytes others_bytes one two =
+    let same = one_netlist net_text one.models two.models one.flattened.netlist two.flattened.netlist in
+    let rows = outputs_same two.models one.net two.net (lines_of input_text) one.inputs two.inputs one.rows two.rows
+    (subst (λ (ms : List Model). IsFlat ms one.net) same one.flattened.flat) two.flattened.flat
+    (subst (λ (ms : List Model). IsAnswer (net_named ms) one.net (lines_of input_text) (Ok one.inputs)) same one.given) two.given one.run two.run in
+    one.written ∙ (ap (λ (ms : List Model). sim_text (outputs_of (top ms)) one.rows) same ∙ (ap (sim_text (outputs_of (top two.models))) rows ∙ sym two.written))
 
-sets_alike : (sets : ℕ → BitSet) (one twin : List NodeId) → map (λ (input : NodeId). input.0) one ≡ map (λ (input : NodeId). input.0) twin → map (λ (input : NodeId). sets input.0) one ≡ map (λ (input : NodeId). sets input.0) twin
-sets_alike sets one twin e = by_number sets one ∙ (ap (map sets) e ∙ sym (by_number sets twin))
+written_same : (action : Action) (steps : Option ℕ) (net_text second_text : List ℕ) (passes others : Bool) (bytes others_bytes : List ℕ) (one : IsWritten action steps net_text second_text passes bytes) (two : IsWritten action steps net_text second_text others others_bytes) →
+    AreOne action steps net_text second_text passes others bytes others_bytes one two
+written_same (check net tasks) steps net_text second_text passes others bytes others_bytes one two = checks_same steps net_text second_text passes others bytes others_bytes one two
+written_same (info net) steps net_text second_text passes others bytes others_bytes one two = (one.0 ∙ sym two.0, infos_same net_text bytes others_bytes one.1 two.1, refl)
+written_same (sim net inputs) steps net_text second_text passes others bytes others_bytes one two = (one.0 ∙ sym two.0, simulations_same net_text second_text bytes others_bytes one.1 two.1, refl)
+written_same (bench stages) steps net_text second_text passes others bytes others_bytes one two = absurd one
 
-source_moved : (net other : RawNet) (held : List BitSet) (sets : ℕ → BitSet) (id : ℕ) (bit : Bool) → AreSame net other → IsInSource net held sets id bit → IsInSource other held sets id bit
-source_moved net other held sets id bit same h = record {
-  by_gate = λ k d l drives.
-      let at = gate_at net other net.gates other.gates k d same.gates l in
-      let gives = h.by_gate k d at.0 (at.1.output ∙ drives) in
-      subst (λ (inputs : List BitSet). MayGive (gate_bit other (get_or other.gates k d)) inputs bit) (sets_alike sets (get_or net.gates k d).inputs (get_or other.gates k d).inputs at.1.inputs)
-      (subst (λ (function : List Bool → Bool). MayGive function (map (λ (input : NodeId). sets input.0) (get_or net.gates k d).inputs) bit) at.1.function gives);
-  by_latch = subst (λ (ls : List Latch). AllZip (λ latch set. latch.output.0 ≡ id → IsIn bit set) ls held) same.latches h.by_latch;
-}
-
-possible_moved : (net other : RawNet) (held : List BitSet) (asked : Asked) (sets : ℕ → BitSet) → AreSame net other → AreSame other net → ArePossible net held asked sets → ArePossible other held asked sets
-possible_moved net other held asked sets same back h = record {
-  long = h.long ∙ ap length same.latches;
-  each = λ id bit. (
-    (λ inside. let may = (h.each id bit).0 inside in record { source = source_moved net other held sets id bit same may.source; left = may.left }),
-    (λ may. (h.each id bit).1 (record { source = source_moved other net held sets id bit back may.source; left = may.left })),
-  );
-}
-
-latch_sets_same : (net other : RawNet) (reset : Bool) (table : ℕ → ℕ → BitSet) (t : ℕ) → net.latches ≡ other.latches → latch_sets net reset table t ≡ latch_sets other reset table t
-latch_sets_same net other reset table zero e = ap (map (first_set reset)) e
-latch_sets_same net other reset table (suc t) e = ap (map (λ (latch : Latch). table t latch.input.0)) e
-
-table_moved : (net other : RawNet) (reset : Bool) (asked : ℕ → Asked) (n : ℕ) (table : ℕ → ℕ → BitSet) → AreSame net other → AreSame other net → IsPossible net reset asked n table → IsPossible other reset asked n table
-table_moved net other reset asked n table same back h = λ t l.
-    subst (λ (held : List BitSet). ArePossible other held (asked t) (table t)) (latch_sets_same net other reset table t same.latches)
-    (possible_moved net other (latch_sets net reset table t) (asked t) (table t) same back (h t l))
-
--- two assertions say the same
-record SaysSame (one twin : Assertion) : Type 0 where
-  pub name : one.name ≡ twin.name
-  pub reset : one.reset ≡ twin.reset
-  pub deep : depth one ≡ depth twin
-  pub given : (bits : List Bool) (t : ℕ) → cuts_at one.ant bits t ≡ cuts_at twin.ant bits t
-  pub asked : (bits : List Bool) (t : ℕ) → cuts_at one.con bits t ≡ cuts_at twin.con bits t
-
-quint_same : (one twin : Quint) (bits : List Bool) (t : ℕ) → quint_tree one ≡ quint_tree twin → quint_at bits t one ≡ quint_at bits t twin
-quint_same one twin bits t e =
-    let node = ap (λ (q : QuintTree). q.node) e in
-    let guard = one_tree_has_one_value one.guard twin.guard bits (ap (λ (q : QuintTree). q.guard) e) in
-    let value = one_tree_has_one_value one.value twin.value bits (ap (λ (q : QuintTree). q.value) e) in
-    let from = ap (λ (q : QuintTree). q.from) e in
-    let to = ap (λ (q : QuintTree). q.to) e in
-    ap (λ n. quint_cut n (value_of one.guard bits && (nat_le one.from t && nat_lt t one.to)) (value_of one.value bits)) node
-    ∙ (ap (λ b. quint_cut twin.node.0 (b && (nat_le one.from t && nat_lt t one.to)) (value_of one.value bits)) guard
-    ∙ (ap (λ n. quint_cut twin.node.0 (value_of twin.guard bits && (nat_le n t && nat_lt t one.to)) (value_of one.value bits)) from
-    ∙ (ap (λ n. quint_cut twin.node.0 (value_of twin.guard bits && (nat_le twin.from t && nat_lt t n)) (value_of one.value bits)) to
-    ∙ ap (λ b. quint_cut twin.node.0 (value_of twin.guard bits && (nat_le twin.from t && nat_lt t twin.to)) b) value)))
-  where
-    quint_cut : ℕ → Bool → Bool → Cut
-    quint_cut node on value = record { node = node; on = on; value = value }
-
-cuts_same : (ones twins : List Quint) (bits : List Bool) (t : ℕ) → map quint_tree ones ≡ map quint_tree twins → cuts_at ones bits t ≡ cuts_at twins bits t
-cuts_same [] [] bits t e = refl
-cuts_same [] (q ∷ twins) bits t e = absurd (cc e)
-cuts_same (p ∷ ones) [] bits t e = absurd (cc e)
-cuts_same (p ∷ ones) (q ∷ twins) bits t e =
-    let first : quint_tree p ≡ quint_tree q = cc e in
-    let rest : map quint_tree ones ≡ map quint_tree twins = cc e in
-    ap (λ c. c ∷ cuts_at ones bits t) (quint_same p q bits t first) ∙ ap (λ l. quint_at bits t q ∷ l) (cuts_same ones twins bits t rest)
-
-tos_are : (quints : List Quint) → map (λ (quint : Quint). quint.to) quints ≡ map (λ (tree : QuintTree). tree.to) (map quint_tree quints)
-tos_are [] = refl
-tos_are (quint ∷ quints) = ap (λ l. quint.to ∷ l) (tos_are quints)
-
-latest_same : (ones twins : List Quint) → map quint_tree ones ≡ map quint_tree twins → latest ones ≡ latest twins
-latest_same ones twins e = ap (fold max 0) (tos_are ones ∙ (ap (map (λ (tree : QuintTree). tree.to)) e ∙ sym (tos_are twins)))
-
-says_same : (one twin : Assertion) → task_tree (Ste one) ≡ task_tree (Ste twin) → SaysSame one twin
-says_same one twin e =
-    let name : one.name ≡ twin.name = cc e in
-    let reset : one.reset ≡ twin.reset = cc e in
-    let ants : map quint_tree one.ant ≡ map quint_tree twin.ant = cc e in
-    let cons : map quint_tree one.con ≡ map quint_tree twin.con = cc e in record {
-      name = name;
-      reset = reset;
-      deep = ap (λ n. max n (latest one.con)) (latest_same one.ant twin.ant ants) ∙ ap (max (latest twin.ant)) (latest_same one.con twin.con cons);
-      given = λ bits t. cuts_same one.ant twin.ant bits t ants;
-      asked = λ bits t. cuts_same one.con twin.con bits t cons;
-    }
-
-asked_same : (one twin : Assertion) (bits : List Bool) → SaysSame one twin → asked_at one bits ≡ asked_at twin bits
-asked_same one twin bits same = λ i t. at_time t i
-  where
-    at_time : (t : ℕ) → asked_at one bits t ≡ asked_at twin bits t
-    at_time t = ap (λ (cuts : List Cut). record { cuts = cuts }) (same.given bits t)
-
--- what is found of an assertion on a net is found of one that says the same, on a net that is the same
-module _ (net other : RawNet) (one twin : Assertion) (same : AreSame net other) (back : AreSame other net) (says : SaysSame one twin) where
-  of_table : (bits : List Bool) (table : ℕ → ℕ → BitSet) → IsTableOf net one bits table → IsTableOf other twin bits table
-  of_table bits table h =
-      let on_net = table_moved net other one.reset (asked_at one bits) (depth one) table same back h in
-      subst (λ n. IsPossible other twin.reset (asked_at twin bits) n table) says.deep
-      (subst (λ (asked : ℕ → Asked). IsPossible other twin.reset asked (depth one) table) (asked_same one twin bits says)
-      (subst (λ reset. IsPossible other reset (asked_at one bits) (depth one) table) says.reset on_net))
-
-  of_empty : (table : ℕ → ℕ → BitSet) → IsEmptySomewhere net one table → IsEmptySomewhere other twin table
-  of_empty table h = (h.0, subst (λ n. h.0 < n) says.deep h.1, (h.2.0, subst (λ n. h.2.0 < n) same.nets h.2.1, h.2.2))
-
-  of_contradictory : (bits : List Bool) → IsContradictory net one bits → IsContradictory other twin bits
-  of_contradictory bits h = (h.0, of_table bits h.0 h.1, of_empty h.0 h.2)
-
-  of_found : (Fails : (ℕ → BitSet) → Cut → Type 0) (bits : List Bool) → ((table : ℕ → ℕ → BitSet) → IsEmptySomewhere other twin table → IsEmptySomewhere net one table) → IsFound Fails net one bits → IsFound Fails other twin bits
-  of_found Fails bits returned h = (
-    h.0,
-    of_table bits h.0 h.1,
-    (λ empty. h.2 (returned h.0 empty)),
-    (h.3.0, subst (λ n. h.3.0 < n) says.deep h.3.1, subst (λ (cuts : List Cut). Any (Fails (h.0 h.3.0)) cuts) (says.asked bits h.3.0) h.3.2),
-  )
-
-back_says : (one twin : Assertion) → SaysSame one twin → SaysSame twin one
-back_says one twin h = record {
-  name = sym h.name;
-  reset = sym h.reset;
-  deep = sym h.deep;
-  given = λ bits t. sym (h.given bits t);
-  asked = λ bits t. sym (h.asked bits t);
-}
-
--- a verdict from facts that are the same
-verdict_alike : (vars : ℕ) (S W C T V D : List Bool → Type 0) (verdict : Verdict) → ((bits : List Bool) → S bits → T bits) → ((bits : List Bool) → T bits → S bits) → ((bits : List Bool) → W bits → V bits) → ((bits : List Bool) → V bits → W bits) →
-    ((bits : List Bool) → C bits → D bits) → ((bits : List Bool) → D bits → C bits) → IsVerdict vars S W C verdict → IsVerdict vars T V D verdict
-verdict_alike vars S W C T V D Strong s t w v c d h = (h.0, h.1, s h.0 h.2)
-verdict_alike vars S W C T V D Weak s t w v c d h = ((λ some. h.0 (some.0, some.1, t some.0 some.2)), (h.1.0, h.1.1, w h.1.0 h.1.2))
-verdict_alike vars S W C T V D Vacuous s t w v c d h = ((λ some. h.0 (some.0, some.1, t some.0 some.2)), (λ some. h.1 (some.0, some.1, v some.0 some.2)), (λ bits long. c bits (h.2 bits long)))
-verdict_alike vars S W C T V D Pass s t w v c d h = ((λ some. h.0 (some.0, some.1, t some.0 some.2)), (λ some. h.1 (some.0, some.1, v some.0 some.2)), (λ each. h.2 (λ bits long. d bits (each bits long))))
-verdict_alike vars S W C T V D Budget s t w v c d h = absurd h
-
-strong_moved : (net other : RawNet) (one twin : Assertion) → AreSame net other → AreSame other net → SaysSame one twin → (bits : List Bool) → IsStrong net one bits → IsStrong other twin bits
-strong_moved net other one twin same back says bits h =
-    of_found net other one twin same back says FailsStrongly bits (λ table empty. of_empty other net twin one back same (back_says one twin says) table empty) h
-
-weak_moved : (net other : RawNet) (one twin : Assertion) → AreSame net other → AreSame other net → SaysSame one twin → (bits : List Bool) → IsWeak net one bits → IsWeak other twin bits
-weak_moved net other one twin same back says bits h = (
-  (λ strong. h.0 (strong_moved other net twin one back same (back_says one twin says) bits strong)),
-  of_found net other one twin same back says FailsWeakly bits (λ table empty. of_empty other net twin one back same (back_says one twin says) table empty) h.1,
-)
-
-verdict_moved : (net other : RawNet) (vars : ℕ) (one twin : Assertion) (verdict : Verdict) → AreSame net other → AreSame other net → SaysSame one twin → IsVerdictOf net vars one verdict → IsVerdictOf other vars twin verdict
-verdict_moved net other vars one twin verdict same back says h =
-    let returned = back_says one twin says in
-    verdict_alike vars (IsStrong net one) (IsWeak net one) (IsContradictory net one) (IsStrong other twin) (IsWeak other twin) (IsContradictory other twin) verdict
-    (strong_moved net other one twin same back says) (strong_moved other net twin one back same returned)
-    (weak_moved net other one twin same back says) (weak_moved other net twin one back same returned)
-    (of_contradictory net other one twin same back says) (of_contradictory other net twin one back same returned) h
-
--- the verdicts of tasks that say the same, and their lines
-verdicts_same : (net other : RawNet) (vars : ℕ) (tasks twins : List Task) (verdicts others : List Verdict) → AreSame net other → AreSame other net → map task_tree tasks ≡ map task_tree twins →
-    AllZip (IsVerdictOn net vars) tasks verdicts → AllZip (IsVerdictOn other vars) twins others → (verdicts ≡ others) × (flat_map report_line (zip tasks verdicts) ≡ flat_map report_line (zip twins others))
-verdicts_same net other vars [] [] [] [] same back e f g = (refl, refl)
-verdicts_same net other vars [] [] [] (v ∷ others) same back e f g = absurd g
-verdicts_same net other vars [] [] (v ∷ verdicts) others same back e f g = absurd f
-verdicts_same net other vars [] (t ∷ twins) verdicts others same back e f g = absurd (cc e)
-verdicts_same net other vars (t ∷ tasks) [] verdicts others same back e f g = absurd (cc e)
-verdicts_same net other vars (t ∷ tasks) (u ∷ twins) [] others same back e f g = absurd f
-verdicts_same net other vars (t ∷ tasks) (u ∷ twins) (v ∷ verdicts) [] same back e f g = absurd g
-verdicts_same net other vars (Gste t ∷ tasks) (u ∷ twins) (v ∷ verdicts) (w ∷ others) same back e f g = absurd f.0
-verdicts_same net other vars (Ste t ∷ tasks) (Gste u ∷ twins) (v ∷ verdicts) (w ∷ others) same back e f g = absurd g.0
-verdicts_same net other vars (Ste t ∷ tasks) (Ste u ∷ twins) (v ∷ verdicts) (w ∷ others) same back e f g =
-    let first : task_tree (Ste t) ≡ task_tree (Ste u) = cc e in
-    let trees : map task_tree tasks ≡ map task_tree twins = cc e in
-    let says = says_same t u first in
-    let verdict = one_verdict.same other vars u v w (verdict_moved net other vars t u v same back says f.0) g.0 in
-    let rest = verdicts_same net other vars tasks twins verdicts others same back trees f.1 g.1 in
-    let line : report_line (Ste t, v) ≡ report_line (Ste u, w) = line_same t u v w says.name verdict in (
-      ap (λ x. x ∷ verdicts) verdict ∙ ap (λ l. w ∷ l) rest.0,
-      ap (λ l. l ++ flat_map report_line (zip tasks verdicts)) line ∙ ap (λ l. report_line (Ste u, w) ++ l) rest.1,
-    )
-  where
-    line_same : (t u : Assertion) (v w : Verdict) → t.name ≡ u.name → v ≡ w → report_line (Ste t, v) ≡ report_line (Ste u, w)
-    line_same t u v w name verdict =
-        ap (λ (n : List ℕ). n ++ codes ": " ++ verdict_words v ++ codes "\n") name ∙ ap (λ x. u.name ++ codes ": " ++ verdict_words x ++ codes "\n") verdict
-
-pub reports_same : (models : List Model) (net other : RawNet) (tasks twins : Tasks) (passes others : Bool) (bytes others_bytes : List ℕ) → IsFlat models net → IsFlat models other → tasks.vars ≡ twins.vars → map task_tree tasks.tasks ≡ map task_tree twins.tasks →
-    (one : IsReportOn net tasks passes bytes) (two : IsReportOn other twins others others_bytes) → (passes ≡ others) × (bytes ≡ others_bytes) × (one.verdicts ≡ two.verdicts)
-reports_same models net other tasks twins passes others bytes others_bytes f g vars trees one two =
-    let judged = subst (λ (names : List (List ℕ)). AllZip (IsVerdictOn net (length names)) tasks.tasks one.verdicts) vars one.judged in
-    let both = verdicts_same net other (length twins.vars) tasks.tasks twins.tasks one.verdicts two.verdicts (flats_same models net other f g) (flats_same models other net g f) trees judged two.judged in
-    (one.passing ∙ (ap (list_all is_pass) both.0 ∙ sym two.passing), one.written ∙ (both.1 ∙ sym two.written), both.0)
-
--- what stands under a name is one text
+-- what is read of a file is one text
 one_text : (held : Option (List ℕ)) (one other : List ℕ) → held ≡ Some one → held ≡ Some other → one ≡ other
 one_text held one other f g = let both : Some one ≡ Some other = sym f ∙ g in let same : one ≡ other = cc in same
+
+-- a report on texts that are the same
+module _ (asked : Command) (net_text second_text : List ℕ) (passes others : Bool) (bytes others_bytes : List ℕ) (two : IsWritten asked.action asked.steps net_text second_text others others_bytes) where
+  abbrev IsOne : (command : Command) (one_net one_second : List ℕ) → IsWritten command.action command.steps one_net one_second passes bytes → Type 0
+  IsOne command one_net one_second written =
+      (passes ≡ others) × (bytes ≡ others_bytes) × (verdicts_in command.action command.steps one_net one_second passes bytes written ≡ verdicts_in asked.action asked.steps net_text second_text others others_bytes two)
+
+  moved : (command : Command) (one_net one_second : List ℕ) → asked ≡ command → net_text ≡ one_net → second_text ≡ one_second → (written : IsWritten command.action command.steps one_net one_second passes bytes) → IsOne command one_net one_second written
+  moved command one_net one_second same net second =
+      subst (λ (c : Command). (written : IsWritten c.action c.steps one_net one_second passes bytes) → IsOne c one_net one_second written) same
+      (subst (λ (n : List ℕ). (written : IsWritten asked.action asked.steps n one_second passes bytes) → IsOne asked n one_second written) net
+      (subst (λ (t : List ℕ). (written : IsWritten asked.action asked.steps net_text t passes bytes) → IsOne asked net_text t written) second
+      (λ written. written_same asked.action asked.steps net_text second_text passes others bytes others_bytes written two)))
 
 -- a command has one report at most on what the files hold
 pub one_report : OneReport
 one_report command files store told passes others bytes others_bytes one two =
-    let asked : one.asked ≡ two.asked = let both : Some one.asked ≡ Some two.asked = sym one.is ∙ two.is in cc in
-    let p = one.prepared in
-    let q = two.prepared in
-    let net_text = one_text (get store one.asked.net) p.net_text q.net_text (held_where_told one.asked.net files.holds p.net_text p.net_held store told)
-    (ap (λ (c : Command). get store c.net) asked ∙ held_where_told two.asked.net files.holds q.net_text q.net_held store told) in
-    let task_text = one_text (get store one.asked.tasks) p.task_text q.task_text (held_where_told one.asked.tasks files.holds p.task_text p.tasks_held store told)
-    (ap (λ (c : Command). get store c.tasks) asked ∙ held_where_told two.asked.tasks files.holds q.task_text q.tasks_held store told) in
-    let reading = subst (λ (text : List ℕ). IsReading text q.task_text one.models one.net one.tasks) net_text
-    (subst (λ (text : List ℕ). IsReading p.net_text text one.models one.net one.tasks) task_text p.reading) in
-    let readings = one_reading q.net_text q.task_text one.models two.models one.net two.net one.tasks two.tasks reading q.reading in
-    reports_same two.models one.net two.net one.tasks two.tasks passes others bytes others_bytes
-    (subst (λ (ms : List Model). IsFlat ms one.net) readings.0 p.reading.flat) q.reading.flat readings.1 readings.2 one.report two.report
+    let same : two.asked ≡ one.asked = let both : Some two.asked ≡ Some one.asked = sym two.is ∙ one.is in cc in
+    let net = one_text (text_at (net_file one.asked.action) store) two.net_text one.net_text
+    (ap (λ (c : Command). text_at (net_file c.action) store) (sym same) ∙ read_told (net_file two.asked.action) files.holds two.net_text two.net_read store told)
+    (read_told (net_file one.asked.action) files.holds one.net_text one.net_read store told) in
+    let second = one_text (text_at (second_file one.asked.action) store) two.second_text one.second_text
+    (ap (λ (c : Command). text_at (second_file c.action) store) (sym same) ∙ read_told (second_file two.asked.action) files.holds two.second_text two.second_read store told)
+    (read_told (second_file one.asked.action) files.holds one.second_text one.second_read store told) in
+    moved two.asked two.net_text two.second_text passes others bytes others_bytes two.written one.asked one.net_text one.second_text same net second one.written

@@ -1,13 +1,25 @@
 -- Stages in a row: each gives one refusal at most, and so does their order.
 use Rattle.std.proofs.Common.{◌≡◌, List, [], ◌∷◌, inl, inr}
 use Rattle.std.specs.Prelude.{⊤}
+use Rattle.ste_program.specs.Answer.{status_of}
 use Rattle.ste_program.specs.Order.{AllSilent, IsFirst}
+use Rattle.ste_program.specs.declared.run.Status.TheVariants as status
 use Rattle.ste_program.specs.declared.refusal.Refusal.{Refusal}
 
 -- each stage gives one refusal at most
 abbrev pub AllOnce : List (Refusal → Type 0) → Type 0
 AllOnce [] = ⊤
 AllOnce (stage ∷ stages) = ((one other : Refusal) → stage one → stage other → one ≡ other) × AllOnce stages
+
+-- what a stage gives is told with status 2
+abbrev pub AllTold : List (Refusal → Type 0) → Type 0
+AllTold [] = ⊤
+AllTold (stage ∷ stages) = ((found : Refusal) → stage found → status_of found ≡ status.Refused) × AllTold stages
+
+pub first_told : (stages : List (Refusal → Type 0)) (found : Refusal) → AllTold stages → IsFirst stages found → status_of found ≡ status.Refused
+first_told [] found told first = absurd first
+first_told (stage ∷ stages) found told (inl h) = told.0 found h
+first_told (stage ∷ stages) found told (inr h) = first_told stages found told.1 h.1
 
 pub one_first : (stages : List (Refusal → Type 0)) (one other : Refusal) → AllOnce stages → IsFirst stages one → IsFirst stages other → one ≡ other
 one_first [] one other once f g = absurd f

@@ -32,8 +32,8 @@ use Rattle.task_binding.specs.Mentions.{AllNamed, mentions_of, quint_mention, ta
 use Rattle.task_binding.specs.declared.unknown.Mention.{Mention}
 use Rattle.ste_model.specs.declared.verdict.Verdict.{Verdict}
 use Rattle.ste_program.specs.private.Judged.{AreJudged}
-use Rattle.ste_program.specs.Report.{IsVerdictOn, report_line}
-use Rattle.ste_program.specs.private.Prepared.{IsCheckable}
+use Rattle.ste_program.specs.Check.{IsVerdictOn, report_line}
+use Rattle.ste_program.specs.private.Made.{IsCheckable}
 use Rattle.ste_program.specs.Reading.{is_assertion, is_checked_so_far, is_narrow}
 
 -- an antecedent that may be checked

@@ -15,33 +15,10 @@ use Rattle.assert_syntax.specs.declared.form.LineFault.TheVariants.{Bad, Deep, D
 use Rattle.assert_syntax.specs.declared.tasks.RawTasks.{RawTasks}
 use Rattle.assert_syntax.proofs.Whole.{a_parse}
 use Rattle.ste_program.specs.TaskFile.{AreTasks, IsTasksFault, task_lines}
-use Rattle.ste_program.specs.Refused.{tasks_refused}
-use Rattle.ste_program.specs.private.Prepared.{WhyNoTasks}
-use Rattle.ste_program.specs.declared.refusal.Refusal.{Refusal}
 
 -- what the reader of task files gives, of the lines of a text
 pub tasks_read : (text : List ℕ) (lines : List Line) (raw : RawTasks) → lines ≡ lines_of text → ((parse : Parse) → IsParse parse → IsAnswer parse (entries_of lines) (Ok raw)) → AreTasks text raw
 tasks_read text lines raw same h = λ parse is. subst (λ (ls : List Line). IsAnswer parse (entries_of ls) (Ok raw)) same (h parse is)
-
--- why it gives nothing
-tasks_unread : (text : List ℕ) (lines : List Line) (fault : TaskFault) (found : Refusal) → lines ≡ lines_of text → ((parse : Parse) → IsParse parse → IsAnswer parse (entries_of lines) (Err fault)) → found ≡ tasks_refused fault → WhyNoTasks text found
-tasks_unread text lines fault found same h is =
-    subst (λ (f : Refusal). WhyNoTasks text f) (sym is) (told fault (λ parse one. subst (λ (ls : List Line). IsAnswer parse (entries_of ls) (Err fault)) same (h parse one)))
-  where
-    told : (fault : TaskFault) → ((parse : Parse) → IsParse parse → IsAnswer parse (task_lines text) (Err fault)) → WhyNoTasks text (tasks_refused fault)
-    told (BadLine line) h = ((λ e. absurd (cc e)), h)
-    told (TooDeep line) h = ((λ e. absurd (cc e)), h)
-    told (DoubleName line name) h = ((λ e. absurd (cc e)), h)
-    told (UnknownVar line name) h = ((λ e. absurd (cc e)), h)
-    told (TooMany line) h = ((λ e. absurd (cc e)), h)
-    told NoTask h = ((λ e. absurd (cc e)), h)
-    told OutOfMemory h = tt
-
--- the same of an answer that `?` hands on
-pub tasks_told : {T : Type 0} (Q : T → Type 0) (text : List ℕ) (lines : List Line) (fault : TaskFault) (result : Result T Refusal) → lines ≡ lines_of text → ((parse : Parse) → IsParse parse → IsAnswer parse (entries_of lines) (Err fault)) →
-    IsErrAnd result (λ found. found ≡ tasks_refused fault) → MatchResult result Q (λ found. WhyNoTasks text found)
-tasks_told Q text lines fault (Ok x) same h is = absurd is
-tasks_told Q text lines fault (Err found) same h is = tasks_unread text lines fault found same h is
 
 -- the fault of a line, by what is wrong with it
 abbrev fault_of : ℕ → LineFault → TaskFault

@@ -1,8 +1,21 @@
--- What the layers' own answers tell of two texts.
-use Rattle.std.proofs.Common.{◌≡◌, ◌∙◌, ℕ, List, length, Option, Some, Result, Ok, Err, ap, sym, subst, inl, inr}
-use Rattle.std.specs.Prelude.{◌⊎◌, IsErrAnd, MatchResult, slice_get}
+-- What the layers' own answers tell of texts.
+use Rattle.std.proofs.Common.{◌≡◌, ◌∙◌, ℕ, List, [], ◌∷◌, length, map, get_or, Option, Some, Result, Ok, Err, refl, ap, sym, subst, inl, inr}
+use Rattle.std.specs.Prelude.{◌⊎◌, ◌≢◌, ◌<◌, slice_get}
+use Rattle.blif_lines.specs.declared.lines.Line.{Line}
+use Rattle.blif_lines.specs.Lines.{lines_of}
+use Rattle.blif_syntax.specs.Answer as blif_answer
+use Rattle.blif_syntax.specs.declared.fault.BlifFault.{BlifFault}
+use Rattle.blif_syntax.specs.declared.fault.BlifFault.TheVariants as blif
 use Rattle.blif_syntax.specs.declared.models.Model.{Model}
-use Rattle.hierarchy.specs.Faults.{IsRefusal}
+use Rattle.assert_syntax.specs.Answer as task_answer
+use Rattle.assert_syntax.specs.Parses.{IsParse, Parse}
+use Rattle.assert_syntax.specs.declared.fault.TaskFault.{TaskFault}
+use Rattle.assert_syntax.specs.declared.fault.TaskFault.TheVariants as task
+use Rattle.assert_syntax.specs.declared.tasks.RawTasks.{RawTasks}
+use Rattle.clock_step.specs.Answer as input_answer
+use Rattle.clock_step.specs.declared.fault.InputFault.{InputFault}
+use Rattle.clock_step.specs.declared.fault.InputFault.TheVariants as input
+use Rattle.hierarchy.specs.Faults.{IsFree, IsRefusal}
 use Rattle.hierarchy.specs.Names.{net_named}
 use Rattle.hierarchy.specs.Nets.{nets}
 use Rattle.hierarchy.specs.declared.fault.NetFault.{NetFault}
@@ -13,42 +26,88 @@ use Rattle.net_names.specs.Names.{AreNamesOf, named_by}
 use Rattle.net_names.specs.declared.names.NetNames.{NetNames}
 use Rattle.net_names.proofs.Named.{names_are_resolved}
 use Rattle.flat_net.specs.Flat.{IsFlat}
-use Rattle.assert_syntax.specs.declared.tasks.RawTasks.{RawTasks}
 use Rattle.ste_model.specs.declared.task.Tasks.{Tasks}
 use Rattle.task_binding.specs.Answer.{IsAnswer}
 use Rattle.task_binding.specs.declared.fault.BindFault.{BindFault}
 use Rattle.task_binding.specs.declared.fault.BindFault.TheVariants as bind
-use Rattle.ste_program.specs.Netlist.{IsLoop}
-use Rattle.ste_program.specs.Refused.{binding_refused, hierarchy_refused}
-use Rattle.ste_program.specs.private.Prepared.{IsNetOf, WhyNoNet, WhyUnbound}
+use Rattle.ste_program.specs.Netlist.{IsLoop, IsNetlistFault, net_lines}
+use Rattle.ste_program.specs.Order.{has_faulty_tasks, is_faulty}
+use Rattle.ste_program.specs.Refused.{binding_refused, hierarchy_refused, inputs_refused, netlist_refused, tasks_refused}
+use Rattle.ste_program.specs.TaskFile.{IsTasksFault, task_lines}
+use Rattle.ste_program.specs.private.Made.{HasNoNet, IsNetOf, IsNotBound}
+use Rattle.ste_program.specs.private.Simulated.{AreNotGiven}
+use Rattle.ste_program.specs.private.Texts.{OrMemory}
 use Rattle.ste_program.specs.declared.refusal.Refusal.{Refusal}
+use Rattle.ste_program.specs.declared.refusal.Refusal.TheVariants as refusal
+
+-- a netlist's text that is refused
+netlist_told : (text : List ℕ) (fault : BlifFault) → blif_answer.IsAnswer (net_lines text) (Err fault) → OrMemory (is_faulty text) (netlist_refused fault)
+netlist_told text (blif.BadLine line) h = inr (blif.BadLine line, refl, ((λ e. absurd (cc e)), h))
+netlist_told text (blif.UnknownWord line word) h = inr (blif.UnknownWord line word, refl, ((λ e. absurd (cc e)), h))
+netlist_told text (blif.LeftOut line word) h = inr (blif.LeftOut line word, refl, ((λ e. absurd (cc e)), h))
+netlist_told text blif.NoModel h = inr (blif.NoModel, refl, ((λ e. absurd (cc e)), h))
+netlist_told text blif.OutOfMemory h = inl refl
+
+pub no_models : (text : List ℕ) (lines : List Line) (fault : BlifFault) (found : Refusal) → lines ≡ lines_of text → blif_answer.IsAnswer (blif_answer.entries_of lines) (Err fault) → found ≡ netlist_refused fault → OrMemory (is_faulty text) found
+no_models text lines fault found same h is =
+    subst (λ (f : Refusal). OrMemory (is_faulty text) f) (sym is)
+    (netlist_told text fault (subst (λ (ls : List Line). blif_answer.IsAnswer (blif_answer.entries_of ls) (Err fault)) same h))
+
+-- a task file's text that is refused
+tasks_told : (text : List ℕ) (fault : TaskFault) → ((parse : Parse) → IsParse parse → task_answer.IsAnswer parse (task_lines text) (Err fault)) → OrMemory (has_faulty_tasks text) (tasks_refused fault)
+tasks_told text (task.BadLine line) h = inr (task.BadLine line, refl, ((λ e. absurd (cc e)), h))
+tasks_told text (task.TooDeep line) h = inr (task.TooDeep line, refl, ((λ e. absurd (cc e)), h))
+tasks_told text (task.DoubleName line name) h = inr (task.DoubleName line name, refl, ((λ e. absurd (cc e)), h))
+tasks_told text (task.UnknownVar line name) h = inr (task.UnknownVar line name, refl, ((λ e. absurd (cc e)), h))
+tasks_told text (task.TooMany line) h = inr (task.TooMany line, refl, ((λ e. absurd (cc e)), h))
+tasks_told text task.NoTask h = inr (task.NoTask, refl, ((λ e. absurd (cc e)), h))
+tasks_told text task.OutOfMemory h = inl refl
+
+pub no_raw : (text : List ℕ) (lines : List Line) (fault : TaskFault) (found : Refusal) → lines ≡ lines_of text → ((parse : Parse) → IsParse parse → task_answer.IsAnswer parse (task_answer.entries_of lines) (Err fault)) → found ≡ tasks_refused fault → OrMemory (has_faulty_tasks text) found
+no_raw text lines fault found same h is =
+    subst (λ (f : Refusal). OrMemory (has_faulty_tasks text) f) (sym is)
+    (tasks_told text fault (λ parse one. subst (λ (ls : List Line). task_answer.IsAnswer parse (task_answer.entries_of ls) (Err fault)) same (h parse one)))
+
+-- an input file's text that is refused
+inputs_told : (raw : RawNet) (names : NetNames) (text : List ℕ) (fault : InputFault) → input_answer.IsAnswer (named_by names) raw (lines_of text) (Err fault) → OrMemory (AreNotGiven raw names text) (inputs_refused fault)
+inputs_told raw names text (input.BadLine line) h = inr (input.BadLine line, refl, (λ e. absurd (cc e)), h)
+inputs_told raw names text (input.DoubleName line name) h = inr (input.DoubleName line name, refl, (λ e. absurd (cc e)), h)
+inputs_told raw names text (input.UnknownNode line name) h = inr (input.UnknownNode line name, refl, (λ e. absurd (cc e)), h)
+inputs_told raw names text (input.NotAnInput line name) h = inr (input.NotAnInput line name, refl, (λ e. absurd (cc e)), h)
+inputs_told raw names text (input.TooMany line) h = inr (input.TooMany line, refl, (λ e. absurd (cc e)), h)
+inputs_told raw names text input.OutOfMemory h = inl refl
+
+pub no_inputs : (raw : RawNet) (names : NetNames) (text : List ℕ) (lines : List Line) (fault : InputFault) (found : Refusal) → lines ≡ lines_of text → input_answer.IsAnswer (named_by names) raw lines (Err fault) → found ≡ inputs_refused fault → OrMemory (AreNotGiven raw names text) found
+no_inputs raw names text lines fault found same h is =
+    subst (λ (f : Refusal). OrMemory (AreNotGiven raw names text) f) (sym is)
+    (inputs_told raw names text fault (subst (λ (ls : List Line). input_answer.IsAnswer (named_by names) raw ls (Err fault)) same h))
 
 -- a hierarchy that is refused
-hierarchy_told : (models : List Model) (fault : NetFault) → (fault ≡ net.OutOfMemory) ⊎ IsRefusal models fault → WhyNoNet models (hierarchy_refused fault)
-hierarchy_told models net.OutOfMemory h = tt
+hierarchy_told : (models : List Model) (fault : NetFault) → (fault ≡ net.OutOfMemory) ⊎ IsRefusal models fault → OrMemory (HasNoNet models) (hierarchy_refused fault)
+hierarchy_told models net.OutOfMemory h = inl refl
 hierarchy_told models (net.DoubleModel line name) (inl e) = absurd (cc e)
-hierarchy_told models (net.DoubleModel line name) (inr h) = h
+hierarchy_told models (net.DoubleModel line name) (inr h) = inr (inl (net.DoubleModel line name, refl, h))
 hierarchy_told models (net.UnknownModel line name) (inl e) = absurd (cc e)
-hierarchy_told models (net.UnknownModel line name) (inr h) = h
+hierarchy_told models (net.UnknownModel line name) (inr h) = inr (inl (net.UnknownModel line name, refl, h))
 hierarchy_told models (net.Recursive line name) (inl e) = absurd (cc e)
-hierarchy_told models (net.Recursive line name) (inr h) = h
+hierarchy_told models (net.Recursive line name) (inr h) = inr (inl (net.Recursive line name, refl, h))
 hierarchy_told models (net.BadFormal line name) (inl e) = absurd (cc e)
-hierarchy_told models (net.BadFormal line name) (inr h) = h
+hierarchy_told models (net.BadFormal line name) (inr h) = inr (inl (net.BadFormal line name, refl, h))
 hierarchy_told models (net.MissingFormal line name) (inl e) = absurd (cc e)
-hierarchy_told models (net.MissingFormal line name) (inr h) = h
+hierarchy_told models (net.MissingFormal line name) (inr h) = inr (inl (net.MissingFormal line name, refl, h))
 hierarchy_told models (net.GateTooWide line) (inl e) = absurd (cc e)
-hierarchy_told models (net.GateTooWide line) (inr h) = h
+hierarchy_told models (net.GateTooWide line) (inr h) = inr (inl (net.GateTooWide line, refl, h))
 hierarchy_told models net.TooDeep (inl e) = absurd (cc e)
-hierarchy_told models net.TooDeep (inr h) = h
+hierarchy_told models net.TooDeep (inr h) = inr (inl (net.TooDeep, refl, h))
 hierarchy_told models net.TooManyNodes (inl e) = absurd (cc e)
-hierarchy_told models net.TooManyNodes (inr h) = h
+hierarchy_told models net.TooManyNodes (inr h) = inr (inl (net.TooManyNodes, refl, h))
 hierarchy_told models (net.DrivenTwice line name) (inl e) = absurd (cc e)
-hierarchy_told models (net.DrivenTwice line name) (inr h) = h
+hierarchy_told models (net.DrivenTwice line name) (inr h) = inr (inl (net.DrivenTwice line name, refl, h))
 hierarchy_told models (net.MixedClocks line name) (inl e) = absurd (cc e)
-hierarchy_told models (net.MixedClocks line name) (inr h) = h
+hierarchy_told models (net.MixedClocks line name) (inr h) = inr (inl (net.MixedClocks line name, refl, h))
 
-pub no_net : (models : List Model) (fault : NetFault) (found : Refusal) → (fault ≡ net.OutOfMemory) ⊎ IsRefusal models fault → found ≡ hierarchy_refused fault → WhyNoNet models found
-no_net models fault found h is = subst (λ (f : Refusal). WhyNoNet models f) (sym is) (hierarchy_told models fault h)
+pub no_net : (models : List Model) (fault : NetFault) (found : Refusal) → (fault ≡ net.OutOfMemory) ⊎ IsRefusal models fault → found ≡ hierarchy_refused fault → OrMemory (HasNoNet models) found
+no_net models fault found h is = subst (λ (f : Refusal). OrMemory (HasNoNet models) f) (sym is) (hierarchy_told models fault h)
 
 -- by the names of a netlist, texts name what they name in it
 pub by_names : (models : List Model) (names : NetNames) → AreNamesOf models names → named_by names ≡ net_named models
@@ -61,16 +120,15 @@ bound_told models raw names count tasks answer of_net counted h =
     subst (λ n. IsAnswer (net_named models) n tasks answer) (counted ∙ of_net.flat.nets)
     (subst (λ (net_of : List ℕ → Option ℕ). IsAnswer net_of count tasks answer) (by_names models names of_net.named) h)
 
-unbound_told : (models : List Model) (tasks : RawTasks) (fault : BindFault) → IsAnswer (net_named models) (length (nets models)) tasks (Err fault) → WhyUnbound models tasks (binding_refused fault)
-unbound_told models tasks (bind.UnknownNode line name) h = ((λ e. absurd (cc e)), h)
-unbound_told models tasks (bind.TooLarge line) h = ((λ e. absurd (cc e)), h)
-unbound_told models tasks bind.OutOfMemory h = tt
+unbound_told : (models : List Model) (tasks : RawTasks) (fault : BindFault) → IsAnswer (net_named models) (length (nets models)) tasks (Err fault) → OrMemory (IsNotBound models tasks) (binding_refused fault)
+unbound_told models tasks (bind.UnknownNode line name) h = inr (bind.UnknownNode line name, refl, (λ e. absurd (cc e)), h)
+unbound_told models tasks (bind.TooLarge line) h = inr (bind.TooLarge line, refl, (λ e. absurd (cc e)), h)
+unbound_told models tasks bind.OutOfMemory h = inl refl
 
-pub no_tasks : {T : Type 0} (Q : T → Type 0) (models : List Model) (raw : RawNet) (names : NetNames) (count : ℕ) (tasks : RawTasks) (fault : BindFault) (result : Result T Refusal) → IsNetOf models raw names → count ≡ raw.nets →
-    IsAnswer (named_by names) count tasks (Err fault) → IsErrAnd result (λ found. found ≡ binding_refused fault) → MatchResult result Q (λ found. WhyUnbound models tasks found)
-no_tasks Q models raw names count tasks fault (Ok x) of_net counted h is = absurd is
-no_tasks Q models raw names count tasks fault (Err found) of_net counted h is =
-    subst (λ (f : Refusal). WhyUnbound models tasks f) (sym is) (unbound_told models tasks fault (bound_told models raw names count tasks (Err fault) of_net counted h))
+pub no_tasks : (models : List Model) (raw : RawNet) (names : NetNames) (count : ℕ) (tasks : RawTasks) (fault : BindFault) (found : Refusal) → IsNetOf models raw names → count ≡ raw.nets →
+    IsAnswer (named_by names) count tasks (Err fault) → found ≡ binding_refused fault → OrMemory (IsNotBound models tasks) found
+no_tasks models raw names count tasks fault found of_net counted h is =
+    subst (λ (f : Refusal). OrMemory (IsNotBound models tasks) f) (sym is) (unbound_told models tasks fault (bound_told models raw names count tasks (Err fault) of_net counted h))
 
 -- the loop that the order of gates finds
 pub loop_told : (models : List Model) (raw : RawNet) (names : NetNames) (id : ℕ) (name : List ℕ) → IsFlat models raw → AreNamesOf models names → IsLeastUnsettled raw id → slice_get names.own id ≡ Some name → IsLoop models name

@@ -1,12 +1,13 @@
 -- Meaning. How a run of the program ends, from the states of the files (`files`), the output (`out`) and the error sink (`err`)
 -- before it, and after it (`files'`, `out'`, `err'`). Source: this project's own choice.
-use Rattle.std.specs.Prelude.{◌≡◌, ◌<◌, ◌≤◌, ◌⊎◌, ℕ, Bool, List, length, take, Option, Some, None}
+use Rattle.std.specs.Prelude.{◌≡◌, ◌<◌, ◌≤◌, ◌⊎◌, ℕ, Bool, false, List, length, take, Option, Some, None}
+use Rattle.command_line.specs.Command.{Command}
 use Rattle.ste_io.specs.Causes.{Rose}
-use Rattle.ste_program.specs.Command.{Command, files_of, files_up_to}
+use Rattle.ste_io.specs.Outside.{FilesState, IsTooLarge, SinkState, Store, WriteFailed, took, with_names}
+use Rattle.ste_program.specs.Command.{file_of, files_of, files_up_to, is_undone, net_file, second_file}
 use Rattle.ste_program.specs.Message.{cannot_write, message_of, out_of_memory}
-use Rattle.ste_program.specs.Order.{AllSilent, IsFirst, refusals, stages_before, text_stages}
-use Rattle.ste_io.specs.Outside.{FilesState, IsTooLarge, SinkState, StandsAt, Store, WriteFailed, took, with_names}
-use Rattle.ste_program.specs.Report.{IsReport, greatest}
+use Rattle.ste_program.specs.Order.{AllSilent, IsFirst, is_not_done, refusals, stages_before, text_stages}
+use Rattle.ste_program.specs.Report.{IsRead, IsReport, greatest}
 use Rattle.ste_program.specs.declared.refusal.File.{File}
 use Rattle.ste_program.specs.declared.refusal.Refusal.{Refusal}
 use Rattle.ste_program.specs.declared.refusal.Refusal.TheVariants as refusal
@@ -43,41 +44,61 @@ status_of (refusal.CannotRead which) = status.Faulted
 status_of refusal.OutOfMemory = status.NoMemory
 status_of found = status.Refused
 
--- What a refusal stands on, whether or not the files tell what they hold: the words; a file that is too large; or two texts,
--- which stand under the names of the command's files where it is told, and whose first refusal it is.
-abbrev pub IsGrounded : Option Command → FilesState → Refusal → Type 0
-IsGrounded None files found = found ≡ refusal.NotYet
-IsGrounded (Some command) files found =
-    ((found ≡ refusal.NotYet) × (IsTooLarge files.holds command.net greatest ⊎ IsTooLarge files.holds command.tasks greatest))
-    ⊎ ((net_text : List ℕ) × (task_text : List ℕ) × StandsAt files.holds command.net net_text
-    × StandsAt files.holds command.tasks task_text × IsFirst (text_stages net_text task_text) found)
+-- What a refusal of a command that is done stands on: a file of its own that is too large; or two texts, which stand under the
+-- names of its files where it is told, and whose first refusal it is.
+abbrev pub IsGroundedIn : Command → FilesState → Refusal → Type 0
+IsGroundedIn command files found =
+    ((which : File) × (name : List ℕ) × (file_of command.action which ≡ Some name) × (found ≡ refusal.TooLarge which)
+    × IsTooLarge files.holds name greatest)
+    ⊎ ((net_text : List ℕ) × (second_text : List ℕ) × IsRead files.holds (net_file command.action) net_text
+    × IsRead files.holds (second_file command.action) second_text
+    × IsFirst (text_stages command.action command.steps net_text second_text) found)
 
--- Status 2: the first refusal was told, and no more happened.
-pub record WasRefused (command : Option Command) (files files' : FilesState) (out out' err err' : SinkState) : Type 0 where
-  pub found : Refusal
-  pub kind : status_of found ≡ status.Refused
-  pub first : (store : Store) → files.holds ≡ Some store → IsFirst (refusals command store) found
-  pub grounded : IsGrounded command files found
-  pub asking : AskedSome command files files'
-  pub untouched : out' ≡ out
-  pub told : WentOut (message_of command found) err err'
+-- What a refusal stands on, whether or not the files tell what they hold: the words; that the command is not done; or its files.
+abbrev pub IsGrounded : Option Command → FilesState → Refusal → Type 0
+IsGrounded None files found = found ≡ refusal.Usage
+IsGrounded (Some command) files found =
+    is_not_done command found ⊎ ((is_undone command ≡ false) × IsGroundedIn command files found)
 
 -- a file of the command could not be read: the count of faults rose; the files were asked for the names up to its own,
--- and no earlier one is missing or too large
+-- the command is done, and no earlier file is missing or too large
 pub record CannotRead (command : Command) (which : File) (files files' : FilesState) : Type 0 where
+  pub name : List ℕ
+  pub named : file_of command.action which ≡ Some name
+  pub done : is_undone command ≡ false
   pub same : files'.holds ≡ files.holds
   pub asking : files'.asked ≡ with_names files.asked (files_up_to command which)
   pub rose : Rose files.faults files'.faults
   pub later : files.faults ≤ files'.faults
   pub reached : (store : Store) → files.holds ≡ Some store → AllSilent (stages_before which command store)
 
--- why nothing is prepared for a check
-abbrev pub WhyUnprepared : Option Command → FilesState → FilesState → Refusal → Type 0
-WhyUnprepared command files files' (refusal.CannotRead which) = (asked : Command) × (command ≡ Some asked) × CannotRead asked which files files'
-WhyUnprepared command files files' refusal.OutOfMemory = AskedSome command files files'
-WhyUnprepared command files files' found =
-    AskedSome command files files' × ((store : Store) → files.holds ≡ Some store → IsFirst (refusals command store) found)
-    × IsGrounded command files found
+-- a file could not be read
+pub record IsUnread (command : Option Command) (files files' : FilesState) (found : Refusal) : Type 0 where
+  pub asked : Command
+  pub is : command ≡ Some asked
+  pub which : File
+  pub found_is : found ≡ refusal.CannotRead which
+  pub failed : CannotRead asked which files files'
+
+-- the first refusal, which has status 2
+pub record IsFound (command : Option Command) (files files' : FilesState) (found : Refusal) : Type 0 where
+  pub kind : status_of found ≡ status.Refused
+  pub first : (store : Store) → files.holds ≡ Some store → IsFirst (refusals command store) found
+  pub grounded : IsGrounded command files found
+  pub asking : AskedSome command files files'
+
+-- why there is no report
+abbrev pub WhyNoReport : Option Command → FilesState → FilesState → Refusal → Type 0
+WhyNoReport command files files' found =
+    IsUnread command files files' found
+    ⊎ (((found ≡ refusal.OutOfMemory) × AskedSome command files files') ⊎ IsFound command files files' found)
+
+-- Status 2: the first refusal was told, and no more happened.
+pub record WasRefused (command : Option Command) (files files' : FilesState) (out out' err err' : SinkState) : Type 0 where
+  pub found : Refusal
+  pub why : IsFound command files files' found
+  pub untouched : out' ≡ out
+  pub told : WentOut (message_of command found) err err'
 
 -- Status 3, a file could not be read: the message says so, or the error sink failed within it.
 pub record ReadFault (command : Option Command) (files files' : FilesState) (out out' err err' : SinkState) : Type 0 where
@@ -97,10 +118,11 @@ pub record OutFault (command : Option Command) (files files' : FilesState) (out 
   pub broken : BrokeOff bytes out out'
   pub told : WentOut cannot_write err err' ⊎ BrokeOff cannot_write err err'
 
--- Status 3, the error sink failed before the end of a message: that on the first refusal, or on want of memory.
+-- Status 3, the error sink failed before the end of a message: that on the first refusal, on a file that could not be read, or on
+-- want of memory.
 pub record ErrFault (command : Option Command) (files files' : FilesState) (out out' err err' : SinkState) : Type 0 where
   pub message : List ℕ
-  pub cause : (message ≡ out_of_memory) ⊎ ((found : Refusal) × WhyUnprepared command files files' found × (message ≡ message_of command found))
+  pub cause : (message ≡ out_of_memory) ⊎ ((found : Refusal) × WhyNoReport command files files' found × (message ≡ message_of command found))
   pub untouched : out' ≡ out
   pub broken : BrokeOff message err err'
 

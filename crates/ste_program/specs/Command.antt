@@ -1,43 +1,49 @@
--- Meaning. What the words of the command line ask for. Source: this project's own choice.
-use Rattle.std.specs.Prelude.{ℕ, List, [], ◌∷◌, length, codes, Option, Some, None, String, string_bytes, nat_eq, slice_get, cond}
-use Rattle.std.specs.Str.{bytes_eq}
-use Rattle.std.specs.declared.alloc.Global.{Global}
+-- Meaning. The files that a command reads, and which commands are not done so far. Source: this project's own choice.
+use Rattle.std.specs.Prelude.{ℕ, Bool, true, false, List, [], ◌++◌, Option, Some, None, option_to_list, unwrap_or}
+use Rattle.command_line.specs.Command.{Action, Command, bench, check, info, sim}
 use Rattle.ste_program.specs.declared.refusal.File.{File}
-use Rattle.ste_program.specs.declared.refusal.File.TheVariants.{Net, Tasks}
+use Rattle.ste_program.specs.declared.refusal.File.TheVariants.{Net, Second}
 
--- a check: the names of the netlist's file and of the tasks' file
-pub record Command : Type 0 where
-  pub net : List ℕ
-  pub tasks : List ℕ
+-- the name of the netlist's file; `bench` reads none
+abbrev pub net_file : Action → Option (List ℕ)
+net_file (check net tasks) = Some net
+net_file (info net) = Some net
+net_file (sim net inputs) = Some net
+net_file (bench stages) = None
 
--- the bytes of a word; none where there is no word
-abbrev pub word_or_nothing : Option (String Global) → List ℕ
-word_or_nothing (Some word) = string_bytes word
-word_or_nothing None = []
+-- the name of the second file: the tasks' of a check, the inputs' of a simulation; the other actions read none
+abbrev pub second_file : Action → Option (List ℕ)
+second_file (check net tasks) = Some tasks
+second_file (info net) = None
+second_file (sim net inputs) = Some inputs
+second_file (bench stages) = None
 
--- the bytes of the word at a place
-abbrev pub word_at : List (String Global) → ℕ → List ℕ
-word_at words place = word_or_nothing (slice_get words place)
+-- the name of a file of the action
+abbrev pub file_of : Action → File → Option (List ℕ)
+file_of action Net = net_file action
+file_of action Second = second_file action
 
--- four words ask for a check where the second is `check`: the program's name, `check`, and the names of the two files
-abbrev pub command_of : List (String Global) → Option Command
-command_of words =
-    cond (nat_eq (length words) 4)
-    (cond (bytes_eq (word_at words 1) (codes "check")) (Some (record { net = word_at words 2; tasks = word_at words 3 })) None)
-    None
-
--- the name of a file
+-- the name of a file as messages have it
 abbrev pub file_name : Option Command → File → List ℕ
 file_name None which = []
-file_name (Some command) Net = command.net
-file_name (Some command) Tasks = command.tasks
+file_name (Some command) which = unwrap_or (file_of command.action which) []
 
 -- the names of the files that are read, in order
 abbrev pub files_of : Option Command → List (List ℕ)
 files_of None = []
-files_of (Some command) = command.net ∷ command.tasks ∷ []
+files_of (Some command) = option_to_list (net_file command.action) ++ option_to_list (second_file command.action)
 
 -- the names up to a file's, in order
 abbrev pub files_up_to : Command → File → List (List ℕ)
-files_up_to command Net = command.net ∷ []
-files_up_to command Tasks = command.net ∷ command.tasks ∷ []
+files_up_to command Net = option_to_list (net_file command.action)
+files_up_to command Second = files_of (Some command)
+
+-- what is not done so far: `bench`, and a check with `--nodes`
+abbrev pub is_undone_action : Action → Bool → Bool
+is_undone_action (check net tasks) nodes = nodes
+is_undone_action (info net) nodes = false
+is_undone_action (sim net inputs) nodes = false
+is_undone_action (bench stages) nodes = true
+
+abbrev pub is_undone : Command → Bool
+is_undone command = is_undone_action command.action command.nodes

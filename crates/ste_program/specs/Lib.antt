@@ -5,6 +5,9 @@ pub mod Netlist
 pub mod TaskFile
 pub mod Reading
 pub mod Holds
+pub mod Check
+pub mod Info
+pub mod Simulated
 pub mod Report
 pub mod Order
 pub mod Answer

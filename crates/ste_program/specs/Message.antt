@@ -10,10 +10,13 @@ use Rattle.assert_syntax.specs.declared.fault.TaskFault.{TaskFault}
 use Rattle.assert_syntax.specs.declared.fault.TaskFault.TheVariants as task
 use Rattle.task_binding.specs.declared.fault.BindFault.{BindFault}
 use Rattle.task_binding.specs.declared.fault.BindFault.TheVariants as bind
-use Rattle.ste_program.specs.Command.{Command, file_name}
+use Rattle.clock_step.specs.declared.fault.InputFault.{InputFault}
+use Rattle.clock_step.specs.declared.fault.InputFault.TheVariants as input
+use Rattle.command_line.specs.Command.{Command}
+use Rattle.ste_program.specs.Command.{file_name}
 use Rattle.ste_program.specs.declared.refusal.File.TheVariants as file
 use Rattle.ste_program.specs.declared.refusal.Refusal.{Refusal}
-use Rattle.ste_program.specs.declared.refusal.Refusal.TheVariants.{NotYet, CannotRead, Netlist, Tasks, Hierarchy, Loop, Binding, OutOfMemory}
+use Rattle.ste_program.specs.declared.refusal.Refusal.TheVariants.{Usage, NotYet, CannotRead, TooLarge, Netlist, Tasks, Hierarchy, Loop, Binding, Inputs, TooManySteps, OutOfMemory}
 
 -- want of memory
 abbrev pub out_of_memory : List ℕ
@@ -69,13 +72,30 @@ binding_message name (bind.UnknownNode line word) = line_message name line (code
 binding_message name (bind.TooLarge line) = line_message name line (codes "task too large")
 binding_message name bind.OutOfMemory = out_of_memory
 
+-- the message on an input file's text that is refused
+abbrev pub inputs_message : List ℕ → InputFault → List ℕ
+inputs_message name (input.BadLine line) = line_message name line (codes "bad line")
+inputs_message name (input.DoubleName line word) = line_message name line (codes "double name " ++ word)
+inputs_message name (input.UnknownNode line word) = line_message name line (codes "unknown node " ++ word)
+inputs_message name (input.NotAnInput line word) = line_message name line (codes "not an input: " ++ word)
+inputs_message name (input.TooMany line) = line_message name line (codes "too many")
+inputs_message name input.OutOfMemory = out_of_memory
+
+-- the words ask for nothing that is done
+abbrev pub usage : List ℕ
+usage = codes "usage: stework (check NET TASKS or info NET or sim NET INPUTS or bench N)" ++ codes " [--workers W] [--steps S] [--cubes C] [--wave] [--nodes]\n"
+
 -- the message on a refusal
 abbrev pub message_of : Option Command → Refusal → List ℕ
+message_of command Usage = usage
 message_of command NotYet = codes "stework: not yet\n"
 message_of command (CannotRead which) = codes "stework: cannot read " ++ file_name command which ++ codes "\n"
+message_of command (TooLarge which) = file_message (file_name command which) (codes "too large")
 message_of command (Netlist found) = netlist_message (file_name command file.Net) found
-message_of command (Tasks found) = tasks_message (file_name command file.Tasks) found
+message_of command (Tasks found) = tasks_message (file_name command file.Second) found
 message_of command (Hierarchy found) = hierarchy_message (file_name command file.Net) found
 message_of command (Loop name) = file_message (file_name command file.Net) (codes "loop at " ++ name)
-message_of command (Binding found) = binding_message (file_name command file.Tasks) found
+message_of command (Binding found) = binding_message (file_name command file.Second) found
+message_of command (Inputs found) = inputs_message (file_name command file.Second) found
+message_of command TooManySteps = codes "stework: too many steps\n"
 message_of command OutOfMemory = out_of_memory

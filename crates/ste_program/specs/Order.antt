@@ -1,25 +1,30 @@
 -- Meaning, and two laws. The order of refusals: stages, of which each gives a refusal or nothing; the first that gives
 -- one decides. Source: this project's own choice.
-use Rattle.std.specs.Prelude.{◌≡◌, ◌≢◌, ◌<◌, ◌⊎◌, ◌∷◌, [], ℕ, List, length, false, Option, Some, None, Err, IsSomeAnd, ⊤}
-use Rattle.std.specs.FinMap.{get}
+use Rattle.std.specs.Prelude.{◌≡◌, ◌≢◌, ◌<◌, ◌⊎◌, ◌∷◌, [], ⊤, ℕ, Bool, List, length, true, false, Option, Some, None, Err, IsSomeAnd}
+use Rattle.blif_lines.specs.Lines.{lines_of}
 use Rattle.blif_syntax.specs.declared.fault.BlifFault.{BlifFault}
 use Rattle.blif_syntax.specs.declared.models.Model.{Model}
+use Rattle.clock_step.specs.Answer as inputs
+use Rattle.clock_step.specs.declared.fault.InputFault.{InputFault}
+use Rattle.clock_step.specs.declared.fault.InputFault.TheVariants as input
+use Rattle.command_line.specs.Command.{Action, Command, bench, check, info, sim}
 use Rattle.hierarchy.specs.Faults.{IsRefusal}
 use Rattle.hierarchy.specs.Names.{net_named}
 use Rattle.hierarchy.specs.Nets.{nets}
 use Rattle.hierarchy.specs.declared.fault.NetFault.{NetFault}
 use Rattle.net_core.specs.declared.raw.RawNet.{RawNet}
+use Rattle.flat_net.specs.Flat.{IsFlat}
 use Rattle.assert_syntax.specs.declared.fault.TaskFault.{TaskFault}
 use Rattle.assert_syntax.specs.declared.tasks.RawTasks.{RawTasks}
-use Rattle.ste_model.specs.declared.task.Tasks.{Tasks}
 use Rattle.task_binding.specs.Answer.{IsAnswer}
 use Rattle.task_binding.specs.declared.fault.BindFault.{BindFault}
 use Rattle.task_binding.specs.declared.fault.BindFault.TheVariants as bind
-use Rattle.ste_program.specs.Command.{Command}
-use Rattle.ste_program.specs.Netlist.{IsLoop, IsNetlist, IsNetlistFault}
 use Rattle.ste_io.specs.Outside.{FilesState, Store}
+use Rattle.ste_program.specs.Check.{are_too_many}
+use Rattle.ste_program.specs.Command.{file_of, is_undone, net_file, second_file}
+use Rattle.ste_program.specs.Netlist.{IsLoop, IsNetlist, IsNetlistFault}
 use Rattle.ste_program.specs.Reading.{is_checked_so_far}
-use Rattle.ste_program.specs.Report.{IsPrepared, greatest}
+use Rattle.ste_program.specs.Report.{IsReport, greatest, text_at}
 use Rattle.ste_program.specs.TaskFile.{AreTasks, IsTasksFault}
 use Rattle.ste_program.specs.declared.refusal.File.{File}
 use Rattle.ste_program.specs.declared.refusal.File.TheVariants as file
@@ -67,6 +72,26 @@ pub record CannotBind (net_text task_text : List ℕ) (fault : BindFault) : Type
 abbrev pub is_unbound : List ℕ → List ℕ → Refusal → Type 0
 is_unbound net_text task_text found = (fault : BindFault) × (found ≡ refusal.Binding fault) × CannotBind net_text task_text fault
 
+-- an input file cannot be read over the netlist's net: the fault of its first faulty line
+pub record IsFaultyFor (net_text input_text : List ℕ) (fault : InputFault) : Type 0 where
+  pub models : List Model
+  pub netlist : IsNetlist net_text models
+  pub net : RawNet
+  pub flat : IsFlat models net
+  pub told : fault ≢ input.OutOfMemory
+  pub answer : inputs.IsAnswer (net_named models) net (lines_of input_text) (Err fault)
+
+abbrev pub has_faulty_inputs : List ℕ → List ℕ → Refusal → Type 0
+has_faulty_inputs net_text input_text found =
+    (fault : InputFault) × (found ≡ refusal.Inputs fault) × IsFaultyFor net_text input_text fault
+
+-- the steps of all tasks together are too many
+pub record HasTooManySteps (steps : Option ℕ) (task_text : List ℕ) (found : Refusal) : Type 0 where
+  pub is : found ≡ refusal.TooManySteps
+  pub raw : RawTasks
+  pub spelled : AreTasks task_text raw
+  pub many : are_too_many steps (length raw.tasks) ≡ true
+
 -- the netlist and the tasks are not of the kinds that are checked so far
 pub record IsUnchecked (net_text task_text : List ℕ) (found : Refusal) : Type 0 where
   pub is : found ≡ refusal.NotYet
@@ -76,37 +101,62 @@ pub record IsUnchecked (net_text task_text : List ℕ) (found : Refusal) : Type 
   pub spelled : AreTasks task_text raw
   pub unchecked : is_checked_so_far models raw ≡ false
 
--- The stages of two texts, in their order: the netlist's lines, the tasks' lines, the hierarchy, loops of gates, the tasks' nodes
--- and sizes, what is not checked so far.
-abbrev pub text_stages : List ℕ → List ℕ → List (Refusal → Type 0)
-text_stages net_text task_text =
+-- The stages of a check's texts, in their order: the netlist's lines, the tasks' lines, the hierarchy, loops of gates, the tasks'
+-- nodes and sizes, the steps, what is not checked so far.
+abbrev pub check_stages : Option ℕ → List ℕ → List ℕ → List (Refusal → Type 0)
+check_stages steps net_text task_text =
     is_faulty net_text ∷ has_faulty_tasks task_text ∷ has_faulty_hierarchy net_text ∷ has_loop net_text
-    ∷ is_unbound net_text task_text ∷ IsUnchecked net_text task_text ∷ []
+    ∷ is_unbound net_text task_text ∷ HasTooManySteps steps task_text ∷ IsUnchecked net_text task_text ∷ []
 
--- no file has the name
-abbrev pub is_missing : File → List ℕ → Store → Refusal → Type 0
-is_missing which name store found = (found ≡ refusal.CannotRead which) × (get store name ≡ None)
+-- those of the text of `info`: the netlist's lines, the hierarchy, loops of gates
+abbrev pub info_stages : List ℕ → List (Refusal → Type 0)
+info_stages net_text = is_faulty net_text ∷ has_faulty_hierarchy net_text ∷ has_loop net_text ∷ []
 
--- the file has more bytes than are read so far
-abbrev pub is_large : List ℕ → Store → Refusal → Type 0
-is_large name store found = (found ≡ refusal.NotYet) × IsSomeAnd (get store name) (λ bytes. greatest < length bytes)
+-- those of the texts of a simulation: the netlist's, then the inputs' lines
+abbrev pub sim_stages : List ℕ → List ℕ → List (Refusal → Type 0)
+sim_stages net_text input_text =
+    is_faulty net_text ∷ has_faulty_hierarchy net_text ∷ has_loop net_text ∷ has_faulty_inputs net_text input_text ∷ []
 
--- it is the first refusal of the two texts
+-- the stages of an action's two texts
+abbrev pub text_stages : Action → Option ℕ → List ℕ → List ℕ → List (Refusal → Type 0)
+text_stages (check net tasks) steps net_text second_text = check_stages steps net_text second_text
+text_stages (info net) steps net_text second_text = info_stages net_text
+text_stages (sim net inputs) steps net_text second_text = sim_stages net_text second_text
+text_stages (bench stages) steps net_text second_text = []
+
+-- what the command asks for is not done so far
+abbrev pub is_not_done : Command → Refusal → Type 0
+is_not_done command found = (found ≡ refusal.NotYet) × (is_undone command ≡ true)
+
+-- nothing stands under the name of the file
+abbrev pub is_missing : File → Action → Store → Refusal → Type 0
+is_missing which action store found = (found ≡ refusal.CannotRead which) × (text_at (file_of action which) store ≡ None)
+
+-- the file has too many bytes
+abbrev pub is_large : File → Action → Store → Refusal → Type 0
+is_large which action store found =
+    (found ≡ refusal.TooLarge which) × IsSomeAnd (text_at (file_of action which) store) (λ bytes. greatest < length bytes)
+
+-- it is the first refusal of the texts
 abbrev pub is_in_texts : Command → Store → Refusal → Type 0
 is_in_texts command store found =
-    IsSomeAnd (get store command.net) (λ net_text. IsSomeAnd (get store command.tasks) (λ task_text. IsFirst (text_stages net_text task_text) found))
+    IsSomeAnd (text_at (net_file command.action) store) (λ net_text.
+    IsSomeAnd (text_at (second_file command.action) store) (λ second_text.
+    IsFirst (text_stages command.action command.steps net_text second_text) found))
 
--- the stages before a file is fetched: an earlier file is missing, or too large
+-- the stages before a file is fetched: what is not done; an earlier file is missing, or too large
 abbrev pub stages_before : File → Command → Store → List (Refusal → Type 0)
-stages_before file.Net command store = []
-stages_before file.Tasks command store = is_missing file.Net command.net store ∷ is_large command.net store ∷ []
+stages_before file.Net command store = is_not_done command ∷ []
+stages_before file.Second command store =
+    is_not_done command ∷ is_missing file.Net command.action store ∷ is_large file.Net command.action store ∷ []
 
--- The stages in their order: the words; each file in turn, missing or too large; those of the texts.
+-- The stages in their order: the words; what is not done; each file in turn, missing or too large; those of the texts.
 abbrev pub refusals : Option Command → Store → List (Refusal → Type 0)
-refusals None store = (λ found. found ≡ refusal.NotYet) ∷ []
+refusals None store = (λ found. found ≡ refusal.Usage) ∷ []
 refusals (Some command) store =
-    is_missing file.Net command.net store ∷ is_large command.net store
-    ∷ is_missing file.Tasks command.tasks store ∷ is_large command.tasks store
+    is_not_done command
+    ∷ is_missing file.Net command.action store ∷ is_large file.Net command.action store
+    ∷ is_missing file.Second command.action store ∷ is_large file.Second command.action store
     ∷ is_in_texts command store ∷ []
 
 -- Law: at most one refusal is the first.
@@ -115,8 +165,8 @@ OneRefusal =
     (command : Option Command) (store : Store) (one other : Refusal) →
     IsFirst (refusals command store) one → IsFirst (refusals command store) other → one ≡ other
 
--- Law: what is prepared is not refused.
-abbrev pub PreparedIsNotRefused : Type 0
-PreparedIsNotRefused =
-    (command : Command) (files : FilesState) (store : Store) (models : List Model) (net : RawNet) (tasks : Tasks) →
-    files.holds ≡ Some store → IsPrepared command files models net tasks → AllSilent (refusals (Some command) store)
+-- Law: what is reported is not refused.
+abbrev pub ReportedIsNotRefused : Type 0
+ReportedIsNotRefused =
+    (command : Option Command) (files : FilesState) (store : Store) (passes : Bool) (bytes : List ℕ) →
+    files.holds ≡ Some store → IsReport command files passes bytes → AllSilent (refusals command store)

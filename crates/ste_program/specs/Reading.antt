@@ -3,20 +3,17 @@
 use Rattle.std.specs.Prelude.{◌≡◌, ℕ, ◌&&◌, Bool, true, false, List, length, map, nat_le, IsTrue, Ok}
 use Rattle.std.specs.List.{list_all}
 use Rattle.blif_syntax.specs.declared.models.Model.{Model}
-use Rattle.hierarchy.specs.Faults.{IsFree, IsRefusal}
 use Rattle.hierarchy.specs.Lines.{GateLine}
 use Rattle.hierarchy.specs.Names.{net_named}
 use Rattle.hierarchy.specs.Nets.{gates, nets}
-use Rattle.net_core.specs.Run.{IsSettled}
 use Rattle.net_core.specs.declared.raw.RawNet.{RawNet}
-use Rattle.flat_net.specs.Flat.{IsFlat}
 use Rattle.assert_syntax.specs.declared.tasks.RawTask.{RawTask}
 use Rattle.assert_syntax.specs.declared.tasks.RawTask.TheVariants.{Ste, Gste}
 use Rattle.assert_syntax.specs.declared.tasks.RawTasks.{RawTasks}
 use Rattle.ste_model.specs.declared.task.Tasks.{Tasks}
 use Rattle.ste_model.specs.Trees.{task_tree}
 use Rattle.task_binding.specs.Answer.{IsAnswer}
-use Rattle.ste_program.specs.Netlist.{IsNetlist}
+use Rattle.ste_program.specs.Netlist.{IsFlattened}
 use Rattle.ste_program.specs.TaskFile.{AreTasks}
 
 -- the task is an assertion, not a graph
@@ -32,16 +29,12 @@ is_narrow at = nat_le (length at.1.inputs) 8
 abbrev pub is_checked_so_far : List Model → RawTasks → Bool
 is_checked_so_far models raw = nat_le (length raw.vars) 8 && (list_all is_assertion raw.tasks && list_all is_narrow (gates models))
 
--- The reading of two texts: the models that the one spells, whose hierarchy has no fault, and their flat net, in which no gates
--- form a loop; and the tasks that the other spells, over this net: each of their nodes names one of its nets. The net's covers are
--- numbered freely, and an expression is known by its tree.
+-- The reading of two texts: the models that the one spells, with their flat net; and the tasks that the other spells, over this
+-- net: each of their nodes names one of its nets. An expression is known by its tree.
 pub record IsReading (net_text task_text : List ℕ) (models : List Model) (net : RawNet) (tasks : Tasks) : Type 0 where
-  pub netlist : IsNetlist net_text models
+  pub flattened : IsFlattened net_text models net
   pub raw : RawTasks
   pub spelled : AreTasks task_text raw
-  pub sound : IsFree (IsRefusal models)
-  pub flat : IsFlat models net
-  pub settled : IsSettled net
   pub bound : IsAnswer (net_named models) (length (nets models)) raw (Ok tasks)
   pub checked : IsTrue (is_checked_so_far models raw)
 

@@ -7,6 +7,8 @@ use Rattle.assert_syntax.specs.declared.fault.TaskFault.{TaskFault}
 use Rattle.assert_syntax.specs.declared.fault.TaskFault.TheVariants as task
 use Rattle.task_binding.specs.declared.fault.BindFault.{BindFault}
 use Rattle.task_binding.specs.declared.fault.BindFault.TheVariants as bind
+use Rattle.clock_step.specs.declared.fault.InputFault.{InputFault}
+use Rattle.clock_step.specs.declared.fault.InputFault.TheVariants as input
 use Rattle.ste_program.specs.declared.refusal.Refusal.{Refusal}
 use Rattle.ste_program.specs.declared.refusal.Refusal.TheVariants as refusal
 
@@ -29,3 +31,8 @@ hierarchy_refused found = refusal.Hierarchy found
 abbrev pub binding_refused : BindFault → Refusal
 binding_refused bind.OutOfMemory = refusal.OutOfMemory
 binding_refused found = refusal.Binding found
+
+-- a fault of an input file's text
+abbrev pub inputs_refused : InputFault → Refusal
+inputs_refused input.OutOfMemory = refusal.OutOfMemory
+inputs_refused found = refusal.Inputs found

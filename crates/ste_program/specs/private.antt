@@ -1,4 +1,6 @@
 pub mod Texts
 pub mod Judged
+pub mod Made
 pub mod Prepared
+pub mod Simulated
 pub mod Endings

@@ -1,22 +1,153 @@
 //! The report of a check: `check` gives its bytes, and whether every task passes.
-ghost use Rattle.std.specs.Prelude.{◌≡◌, ◌≤◌, All, IfOk, length};
+ghost use Rattle.std.specs.Prelude.{◌≡◌, ◌≤◌, List, All, IfOk, MatchResult, Ok, length, nat_le};
 ghost use Rattle.std.specs.List.{list_all};
+ghost use Rattle.blif_syntax.specs.declared.models.Model.{Model};
+ghost use Rattle.flat_net.specs.Flat.{IsFlat};
+ghost use Rattle.hierarchy.specs.Names.{net_named};
+ghost use Rattle.hierarchy.specs.Nets.{nets};
+ghost use Rattle.task_binding.specs.Answer.{IsAnswer};
+ghost use Rattle.ste_program.specs.Check.{IsCheck, IsReportOn, IsVerdictOn, are_too_many, is_pass, report_line, task_name, verdict_words};
+ghost use Rattle.ste_program.specs.Order.{IsFirst, check_stages, has_faulty_tasks};
+ghost use Rattle.ste_program.specs.Reading.{is_assertion, is_checked_so_far};
+ghost use Rattle.ste_program.specs.Report.{greatest};
+ghost use Rattle.ste_program.specs.TaskFile.{AreTasks};
 ghost use Rattle.ste_program.specs.private.Judged.{AreJudged};
-ghost use Rattle.ste_program.specs.private.Prepared.{IsCheckable};
-ghost use Rattle.ste_program.specs.Report.{IsReportOn, IsVerdictOn, is_pass, report_line, task_name, verdict_words};
+ghost use Rattle.ste_program.specs.private.Made.{IsCheckable, IsNetOf, IsNotBound};
+ghost use Rattle.ste_program.specs.private.Prepared.{IsPrepared};
+ghost use Rattle.ste_program.specs.private.Texts.{OrMemory};
 
-use crate::prepare::Prepared;
-use net_core::Net;
+use crate::netlist::{FlatNet, models_of, net_of};
+use crate::refusal::Refusal;
+use crate::report::Report;
+use assert_syntax::{RawTask, RawTasks, read_tasks};
+use blif_lines::logical_lines;
+use net_core::{Gate, Net};
 use plain_check::verdict;
 use std::alloc::{AllocError, Global};
-use ste_base::Items;
-use ste_model::{Task, Verdict};
+use ste_model::{Task, Tasks, Verdict};
+use task_binding::bind_tasks;
 
-/// What the program writes, and whether every task passes.
+/// What is checked: a net, and assertions over it.
 #[derive(Drop)]
-pub struct Report {
-    pub bytes: Items<u8>,
-    pub passes: bool,
+struct Prepared {
+    net: Net,
+    tasks: Tasks,
+    ghost narrow: { All (λ gate. length gate.inputs ≤ 8) net.raw.gates },
+    ghost checkable: { All (IsCheckable net.raw.nets) tasks.tasks },
+    ghost few: { length tasks.vars ≤ 8 },
+}
+
+/// The tasks that the text of a task file spells, whose nodes are names. The text is let go once its lines are there.
+fn tasks_of(alloc: Global, text: Vec<u8>) -> Result<RawTasks, Refusal>
+    requires { length text.items ≤ greatest }
+    ensures { MatchResult result
+        (λ raw. AreTasks text.items raw)
+        (λ found. OrMemory (has_faulty_tasks text.items) found) }
+{
+    let lines = match logical_lines(alloc, &text) {
+        Ok(lines) => lines,
+        Err(_) => return Err(Refusal::OutOfMemory),
+    };
+    drop(text);
+    match read_tasks(alloc, lines.as_slice()) {
+        Ok(raw) => Ok(raw),
+        Err(fault) => Err(Refusal::from(fault)),
+    }
+}
+
+/// The tasks over a netlist's net.
+fn bound(alloc: Global, flat: &FlatNet, raw: &RawTasks) -> Result<Tasks, Refusal>
+    ensures { (models : List Model) → IsNetOf models flat.now.net.raw flat.now.names →
+        MatchResult result
+        (λ tasks. IsAnswer (net_named models) (length (nets models)) raw.now (Ok tasks))
+        (λ found. OrMemory (IsNotBound models raw.now) found) }
+{
+    match bind_tasks(alloc, raw, &flat.names, flat.net.nets()) {
+        Ok(tasks) => Ok(tasks),
+        Err(fault) => Err(Refusal::from(fault)),
+    }
+}
+
+/// Whether these node steps of each task, where they are given, are too many over so many tasks.
+fn are_too_many(steps: Option<u64>, tasks: usize) -> bool
+    ensures { result ≡ are_too_many steps tasks }
+{
+    match steps {
+        None => false,
+        Some(steps) => steps.saturating_mul(tasks as u64) > 16_000_000,
+    }
+}
+
+/// Whether a task is an assertion.
+fn is_assertion(task: &RawTask) -> bool
+    ensures { result ≡ is_assertion task.now }
+{
+    matches!(task, RawTask::Ste { .. })
+}
+
+/// Whether all tasks are assertions.
+fn are_assertions(tasks: &[RawTask]) -> bool
+    ensures { result ≡ list_all is_assertion tasks.now }
+{
+    tasks.iter().all(|task| is_assertion(task))
+}
+
+/// Whether all gates have at most eight inputs.
+fn are_narrow(gates: &[Gate]) -> bool
+    ensures { result ≡ list_all (λ gate. nat_le (length gate.inputs) 8) gates.now }
+{
+    gates.iter().all(|gate| gate.inputs.len() <= 8)
+}
+
+/// Whether the tasks, over the net, are of the kinds that are checked so far.
+fn is_checked_so_far(net: &Net, raw: &RawTasks) -> bool
+    ensures { (models : List Model) → IsFlat models net.now.raw →
+        result ≡ is_checked_so_far models raw.now }
+{
+    let few = raw.vars.len() <= 8;
+    let assertions = are_assertions(raw.tasks.as_slice());
+    let narrow = are_narrow(net.gates());
+    few & (assertions & narrow)
+}
+
+/// What a check with these node steps of each task needs, from its texts; or why there is nothing to check.
+fn prepare(
+    alloc: Global,
+    steps: Option<u64>,
+    net_text: Vec<u8>,
+    task_text: Vec<u8>,
+) -> Result<Prepared, Refusal>
+    requires net { length net_text.items ≤ greatest }
+    requires tasks { length task_text.items ≤ greatest }
+    ensures { MatchResult result
+        (λ made. IsPrepared steps net_text.items task_text.items made.net.raw made.tasks)
+        (λ found. OrMemory (IsFirst (check_stages steps net_text.items task_text.items)) found) }
+{
+    let models = match models_of(alloc, net_text) {
+        Ok(models) => models,
+        Err(found) => return Err(found),
+    };
+    let raw = match tasks_of(alloc, task_text) {
+        Ok(raw) => raw,
+        Err(found) => return Err(found),
+    };
+    let flat = match net_of(alloc, models) {
+        Ok(flat) => flat,
+        Err(found) => return Err(found),
+    };
+    let tasks = match bound(alloc, &flat, &raw) {
+        Ok(tasks) => tasks,
+        Err(found) => return Err(found),
+    };
+    if are_too_many(steps, raw.tasks.len()) {
+        return Err(Refusal::TooManySteps);
+    }
+    let FlatNet { net, names: _ } = flat;
+    if is_checked_so_far(&net, &raw) {
+        Ok(Prepared { net, tasks })
+    } else {
+        Err(Refusal::NotYet)
+    }
 }
 
 /// Whether the verdict is pass.
@@ -105,8 +236,8 @@ fn all_pass(verdicts: &[Verdict]) -> bool
     verdicts.iter().all(|verdict| is_pass(*verdict))
 }
 
-/// The report on what is prepared. The only error is want of memory.
-pub fn check(alloc: Global, prepared: &Prepared) -> Result<Report, AllocError>
+/// The report on what is prepared.
+fn report_on(alloc: Global, prepared: &Prepared) -> Result<Report, AllocError>
     ensures { IfOk result (λ report.
         IsReportOn prepared.now.net.raw prepared.now.tasks report.passes report.bytes) }
 {
@@ -117,4 +248,27 @@ pub fn check(alloc: Global, prepared: &Prepared) -> Result<Report, AllocError>
         bytes: lines.into(),
         passes: all_pass(&verdicts),
     })
+}
+
+/// What a check with these node steps of each task writes on the texts of a netlist and of a task file.
+pub fn check(
+    alloc: Global,
+    steps: Option<u64>,
+    net_text: Vec<u8>,
+    task_text: Vec<u8>,
+) -> Result<Report, Refusal>
+    requires net { length net_text.items ≤ greatest }
+    requires tasks { length task_text.items ≤ greatest }
+    ensures { MatchResult result
+        (λ report. IsCheck steps net_text.items task_text.items report.passes report.bytes)
+        (λ found. OrMemory (IsFirst (check_stages steps net_text.items task_text.items)) found) }
+{
+    let prepared = match prepare(alloc, steps, net_text, task_text) {
+        Ok(prepared) => prepared,
+        Err(found) => return Err(found),
+    };
+    match report_on(alloc, &prepared) {
+        Ok(report) => Ok(report),
+        Err(_) => Err(Refusal::OutOfMemory),
+    }
 }

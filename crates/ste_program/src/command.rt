@@ -1,35 +1,72 @@
-//! What the words of the command line ask for: `command_of`.
-ghost use Rattle.std.specs.Prelude.{◌≡◌, Some, None, IfSome, IfNone};
-ghost use Rattle.ste_program.specs.Command.{Command as Asked, command_of};
+//! The files that a command reads, and which commands are not done so far.
+ghost use Rattle.std.specs.Prelude.{◌≡◌, option_map};
+ghost use Rattle.command_line.specs.View.{view_of};
+ghost use Rattle.ste_program.specs.Command.{file_name, file_of, is_undone, is_undone_action, net_file, second_file};
 
-use std::marker::Model;
+use crate::refusal::File;
+use command_line::{Action, Command};
 
-/// A check: the names of the netlist's file and of the tasks' file.
-#[derive(Debug, Drop)]
-pub struct Command<'a> {
-    pub net: &'a str,
-    pub tasks: &'a str,
-}
-
-impl<'a> Model for Command<'a> {
-    ghost Value = { Asked };
-
-    ghost view = { λ command. record { net = command.net.now; tasks = command.tasks.now } };
-}
-
-/// The command that the words ask for; none where they ask for none that is done. The first word is the program's name.
-pub fn command_of<'a>(words: &'a [String]) -> Option<Command<'a>>
-    ensures { result ≡ command_of words.now }
+/// The name of the netlist's file of an action.
+fn net_file<'a>(action: &Action<'a>) -> Option<&'a str>
+    ensures { option_map (λ name. name.now) result ≡ net_file (view_of action.now) }
 {
-    if words.len() != 4 {
-        return None;
+    match action {
+        Action::Check { net, .. } => Some(*net),
+        Action::Info { net } => Some(*net),
+        Action::Sim { net, .. } => Some(*net),
+        Action::Bench { .. } => None,
     }
-    if words[1].as_str() == "check" {
-        Some(Command {
-            net: words[2].as_str(),
-            tasks: words[3].as_str(),
-        })
-    } else {
-        None
+}
+
+/// The name of the second file of an action.
+fn second_file<'a>(action: &Action<'a>) -> Option<&'a str>
+    ensures { option_map (λ name. name.now) result ≡ second_file (view_of action.now) }
+{
+    match action {
+        Action::Check { tasks, .. } => Some(*tasks),
+        Action::Info { .. } => None,
+        Action::Sim { inputs, .. } => Some(*inputs),
+        Action::Bench { .. } => None,
     }
+}
+
+/// The name of a file of a command; none where its action has no such file.
+pub fn file_of<'a>(command: &Command<'a>, which: File) -> Option<&'a str>
+    ensures { option_map (λ name. name.now) result ≡ file_of command.now.action which }
+{
+    match which {
+        File::Net => net_file(&command.action),
+        File::Second => second_file(&command.action),
+    }
+}
+
+/// The name of a file as messages have it.
+pub fn file_name<'a>(command: &Option<Command<'a>>, which: File) -> &'a str
+    ensures { result.now ≡ file_name command.now which }
+{
+    match command {
+        None => "",
+        Some(command) => match file_of(command, which) {
+            None => "",
+            Some(name) => name,
+        },
+    }
+}
+
+/// Whether what an action asks for is not done so far.
+fn is_undone_action(action: &Action<'_>, nodes: bool) -> bool
+    ensures { result ≡ is_undone_action (view_of action.now) nodes }
+{
+    match action {
+        Action::Check { .. } => nodes,
+        Action::Info { .. } | Action::Sim { .. } => false,
+        Action::Bench { .. } => true,
+    }
+}
+
+/// Whether what a command asks for is not done so far.
+pub fn is_undone(command: &Command<'_>) -> bool
+    ensures { result ≡ is_undone command.now }
+{
+    is_undone_action(&command.action, command.nodes)
 }

@@ -1,5 +1,5 @@
 //! Laws over the definitions alone, each the contract of a function that does nothing.
-ghost use Rattle.ste_program.specs.Order.{OneRefusal, PreparedIsNotRefused};
+ghost use Rattle.ste_program.specs.Order.{OneRefusal, ReportedIsNotRefused};
 ghost use Rattle.ste_program.specs.Reading.{OneReading};
 ghost use Rattle.ste_program.specs.Report.{OneReport};
 
@@ -13,9 +13,9 @@ pub fn one_refusal()
     ensures { OneRefusal }
 {}
 
-/// What is prepared is not refused.
-pub fn prepared_is_not_refused()
-    ensures { PreparedIsNotRefused }
+/// What is reported is not refused.
+pub fn reported_is_not_refused()
+    ensures { ReportedIsNotRefused }
 {}
 
 /// On what the files hold, where they tell it, a command has one report at most.

@@ -2,10 +2,13 @@
 #![tactic(auto)]
 
 mod check;
-pub mod command;
+mod command;
+mod info;
 pub mod laws;
 mod message;
-pub mod prepare;
+mod netlist;
 pub mod refusal;
+mod report;
 pub mod run;
+mod simulated;
 mod texts;

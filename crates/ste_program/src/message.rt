@@ -1,13 +1,14 @@
 //! The one line that tells of a refusal: `message_of`.
 ghost use Rattle.std.specs.Prelude.{◌≡◌, ◌++◌, codes, IfOk};
 ghost use Rattle.std.specs.Fmt.{decimal};
-ghost use Rattle.ste_program.specs.Command.{file_name};
-ghost use Rattle.ste_program.specs.Message.{binding_message, file_message, hierarchy_message, line_message, message_of, netlist_message, out_of_memory, tasks_message};
+ghost use Rattle.ste_program.specs.Message.{binding_message, file_message, hierarchy_message, inputs_message, line_message, message_of, netlist_message, out_of_memory, tasks_message, usage};
 
-use crate::command::Command;
+use crate::command::file_name;
 use crate::refusal::{File, Refusal};
 use assert_syntax::TaskFault;
 use blif_syntax::BlifFault;
+use clock_step::InputFault;
+use command_line::Command;
 use hierarchy::NetFault;
 use std::alloc::{AllocError, Global};
 use ste_base::Items;
@@ -164,17 +165,34 @@ fn cannot_read(alloc: Global, name: &str) -> Result<Items<u8>, AllocError>
     Ok(Items::from(message))
 }
 
-/// The name of a file of the command; nothing where there is no command.
-fn file_name<'a>(command: &'a Option<Command<'_>>, which: File) -> &'a str
-    ensures { result.now ≡ file_name command.now which }
+/// The message on an input file's text that is refused.
+fn inputs_message(alloc: Global, name: &str, fault: &InputFault) -> Result<Items<u8>, AllocError>
+    ensures { IfOk result (λ message. message ≡ inputs_message name.now fault.now) }
 {
-    match command {
-        None => "",
-        Some(command) => match which {
-            File::Net => command.net,
-            File::Tasks => command.tasks,
-        },
+    match fault {
+        InputFault::BadLine { line } => on_line(alloc, name, *line, b"bad line"),
+        InputFault::DoubleName { line, name: word } => {
+            on_word(alloc, name, *line, b"double name ", word.bytes())
+        }
+        InputFault::UnknownNode { line, name: word } => {
+            on_word(alloc, name, *line, b"unknown node ", word.bytes())
+        }
+        InputFault::NotAnInput { line, name: word } => {
+            on_word(alloc, name, *line, b"not an input: ", word.bytes())
+        }
+        InputFault::TooMany { line } => on_line(alloc, name, *line, b"too many"),
+        InputFault::OutOfMemory => out_of_memory(alloc),
     }
+}
+
+/// The message on words that are no command.
+fn usage(alloc: Global) -> Result<Items<u8>, AllocError>
+    ensures { IfOk result (λ message. message ≡ usage) }
+{
+    let mut message =
+        b"usage: stework (check NET TASKS or info NET or sim NET INPUTS or bench N)".to_vec(alloc)?;
+    message.extend_from_slice(b" [--workers W] [--steps S] [--cubes C] [--wave] [--nodes]\n")?;
+    Ok(Items::from(message))
 }
 
 /// The message on a refusal.
@@ -186,13 +204,17 @@ pub fn message_of(
     ensures { IfOk result (λ message. message ≡ message_of command.now refusal.now) }
 {
     match refusal {
+        Refusal::Usage => usage(alloc),
         Refusal::NotYet => Ok(Items::from(b"stework: not yet\n".to_vec(alloc)?)),
         Refusal::CannotRead(which) => cannot_read(alloc, file_name(command, *which)),
+        Refusal::TooLarge(which) => on_file(alloc, file_name(command, *which), b"too large"),
         Refusal::Netlist(fault) => netlist_message(alloc, file_name(command, File::Net), fault),
-        Refusal::Tasks(fault) => tasks_message(alloc, file_name(command, File::Tasks), fault),
+        Refusal::Tasks(fault) => tasks_message(alloc, file_name(command, File::Second), fault),
         Refusal::Hierarchy(fault) => hierarchy_message(alloc, file_name(command, File::Net), fault),
         Refusal::Loop(net) => loop_message(alloc, file_name(command, File::Net), net.bytes()),
-        Refusal::Binding(fault) => binding_message(alloc, file_name(command, File::Tasks), fault),
+        Refusal::Binding(fault) => binding_message(alloc, file_name(command, File::Second), fault),
+        Refusal::Inputs(fault) => inputs_message(alloc, file_name(command, File::Second), fault),
+        Refusal::TooManySteps => Ok(Items::from(b"stework: too many steps\n".to_vec(alloc)?)),
         Refusal::OutOfMemory => out_of_memory(alloc),
     }
 }

@@ -1,32 +1,37 @@
 //! Why there is no report: `Refusal`, one variant for each cause.
 ghost use Rattle.std.specs.Prelude.{◌≡◌};
 ghost use Rattle.ste_program.specs.declared.refusal.Refusal.TheVariants as refusal;
-ghost use Rattle.ste_program.specs.Refused.{binding_refused, hierarchy_refused, netlist_refused, tasks_refused};
+ghost use Rattle.ste_program.specs.Refused.{binding_refused, hierarchy_refused, inputs_refused, netlist_refused, tasks_refused};
 
 use assert_syntax::TaskFault;
 use blif_syntax::BlifFault;
+use clock_step::InputFault;
 use hierarchy::NetFault;
-use std::alloc::{AllocError, AllocFailed};
+use std::alloc::AllocError;
 use ste_base::Name;
 use task_binding::BindFault;
 
-/// Which file of a check.
+/// Which file of a command.
 #[derive(Clone, Copy, Debug, PartialEq, Eq)]
 pub enum File {
     /// The netlist's.
     Net,
-    /// The tasks'.
-    Tasks,
+    /// The tasks' of a check, or the inputs' of a simulation.
+    Second,
 }
 
 /// Why there is no report. Each refusal has one line on the error sink. The faults that are carried are never want of memory,
 /// which is `OutOfMemory`.
 #[derive(Debug, Drop)]
 pub enum Refusal {
-    /// The words, or what the files hold, are not of the forms that are checked so far.
+    /// The words are no command.
+    Usage,
+    /// What the words ask for, or what the files hold, is not done so far.
     NotYet,
     /// The file could not be read, or is not there.
     CannotRead(File),
+    /// The file has more bytes than are read.
+    TooLarge(File),
     /// The netlist's text has a faulty line, or no model.
     Netlist(BlifFault),
     /// The tasks' text has a faulty line, or no task.
@@ -37,6 +42,10 @@ pub enum Refusal {
     Loop(Name),
     /// A node of the tasks names no net, or the tasks are too large.
     Binding(BindFault),
+    /// The inputs' text has a faulty line.
+    Inputs(InputFault),
+    /// The node steps of all tasks together are too many.
+    TooManySteps,
     OutOfMemory,
 }
 
@@ -80,6 +89,17 @@ impl From<BindFault> for Refusal {
         match fault {
             BindFault::OutOfMemory => Refusal::OutOfMemory,
             fault => Refusal::Binding(fault),
+        }
+    }
+}
+
+impl From<InputFault> for Refusal {
+    ghost from_gives = { λ fault found. found ≡ inputs_refused fault };
+
+    fn from(fault: InputFault) -> Refusal {
+        match fault {
+            InputFault::OutOfMemory => Refusal::OutOfMemory,
+            fault => Refusal::Inputs(fault),
         }
     }
 }

@@ -2,25 +2,25 @@
 ghost use Rattle.std.specs.Prelude.{◌≡◌, ◌≢◌, ◌≤◌, ◌⊎◌, ℕ, true, false, cond, Some, take};
 ghost use Rattle.ste_program.specs.Answer.{BrokeOff, IsDecided, NoneFell, NoneMoved, NoneRose, Reported, WantedMemory, WasFaulted, WasRefused, WentOut};
 ghost use Rattle.ste_program.specs.private.Endings.{IsEnded, IsTold};
-ghost use Rattle.ste_program.specs.Command.{command_of, files_of};
+ghost use Rattle.command_line.specs.Command.{command_of};
+ghost use Rattle.ste_program.specs.Command.{files_of};
 ghost use Rattle.ste_program.specs.Message.{cannot_write};
 ghost use Rattle.ste_io.specs.Outside.{Store, with_names};
 ghost use Rattle.ste_program.specs.Report.{PassHolds};
 
-use crate::check::{Report, check};
-use crate::command::{Command, command_of};
 use crate::message::message_of;
-use crate::prepare::prepare;
 use crate::refusal::Refusal;
+use crate::report::{Report, report_of};
+use command_line::{Command, command_of};
 use std::alloc::Global;
 use ste_io::{Files, Sink, write_whole};
 
 /// How the program ended; its number is the exit status.
 #[derive(Clone, Copy, Debug, PartialEq, Eq)]
 pub enum Status {
-    /// Every task has the verdict pass.
+    /// The report was written, and no task of a check has another verdict than pass.
     Passed = 0,
-    /// The report was written, and some verdict is not pass.
+    /// The report of a check was written, and some verdict is not pass.
     NotPassed = 1,
     /// The words or the texts were refused.
     Refused = 2,
@@ -111,17 +111,15 @@ fn answer<F: Files, O: Sink, E: Sink>(
     ensures no_memory { result ≡ Status.NoMemory → WantedMemory
         (O.state out.old) (O.state out.new) (E.state err.old) (E.state err.new) }
 {
-    match prepare(alloc, command, files) {
-        Ok(prepared) => match check(alloc, &prepared) {
-            Ok(report) => write_report(&report, out, err),
-            Err(_) => refuse(alloc, command, &Refusal::OutOfMemory, err),
-        },
+    match report_of(alloc, command, files) {
+        Ok(report) => write_report(&report, out, err),
         Err(refusal) => refuse(alloc, command, &refusal, err),
     }
 }
 
-/// Does what the words ask for: checks the tasks of one file on the netlist of another, and writes the report to `out`,
-/// or one message to `err`; answers how it ended. The words begin with the program's name.
+/// Does what the words ask for: checks the tasks of one file on the netlist of another, counts the parts of a netlist, or runs it
+/// on the inputs of a file; writes the report to `out`, or one message to `err`, and answers how it ended. The words begin with the
+/// program's name.
 pub fn run<F: Files, O: Sink, E: Sink>(
     alloc: Global,
     words: &[String],
@@ -134,7 +132,7 @@ pub fn run<F: Files, O: Sink, E: Sink>(
     ensures asked { (n : ℕ) × ((F.state files.new).asked
         ≡ with_names (F.state files.old).asked (take n (files_of (command_of words.now)))) }
 
-    // Status 0 and 1: the whole report was written, and every task passes, or some task does not.
+    // Status 0 and 1: the whole report was written, and every task of a check passes, or some task does not.
     ensures passed { result ≡ Status.Passed → Reported (command_of words.now) true
         (F.state files.old) (F.state files.new) (O.state out.old) (O.state out.new)
         (E.state err.old) (E.state err.new) }
@@ -173,5 +171,8 @@ pub fn run<F: Files, O: Sink, E: Sink>(
         (O.state out.new) (E.state err.old) (E.state err.new) → IsDecided (command_of words.now)
         (F.state files.old) result (E.state err.old) (E.state err.new) }
 {
-    answer(alloc, &command_of(words), files, out, err)
+    match command_of(alloc, words) {
+        Ok(command) => answer(alloc, &command, files, out, err),
+        Err(_) => tell(err, b"stework: out of memory\n", Status::NoMemory),
+    }
 }

@@ -1,23 +1,23 @@
-//! The texts of a check: `texts_of` fetches both files, in order.
-ghost use Rattle.std.specs.Prelude.{◌≡◌, ◌≤◌, Some, length, MatchResult};
-ghost use Rattle.ste_program.specs.Answer.{WhyUnprepared};
-ghost use Rattle.ste_program.specs.Report.{greatest};
-ghost use Rattle.ste_io.specs.Outside.{IsFetched};
-ghost use Rattle.ste_program.specs.private.Texts.{AreTexts, WhyNoFile};
+//! The texts of a command: `texts_of` fetches its files, in order.
+ghost use Rattle.std.specs.Prelude.{◌≡◌, false, MatchResult, Some, option_map};
+ghost use Rattle.ste_program.specs.Answer.{WhyNoReport};
+ghost use Rattle.ste_program.specs.Command.{is_undone};
+ghost use Rattle.ste_program.specs.private.Texts.{AreTexts, FileFails, IsAtHand, WhyNoFile};
 
-use crate::command::Command;
+use crate::command::file_of;
 use crate::refusal::{File, Refusal};
+use command_line::Command;
 use std::alloc::Global;
 use ste_io::{FetchFault, Files};
 
-/// The greatest size of a file that is read so far, in bytes.
-const GREATEST: u64 = 65536;
+/// The greatest size of a file, in bytes.
+const GREATEST: u64 = 67_108_864;
 
-/// The texts of a check.
+/// The texts of a command: the netlist's, and that of its second file, or nothing where it has none.
 #[derive(Drop)]
 pub struct Texts {
     pub net: Vec<u8>,
-    pub tasks: Vec<u8>,
+    pub second: Vec<u8>,
 }
 
 /// The bytes of a file.
@@ -28,14 +28,33 @@ fn fetch<F: Files>(
     name: &str,
 ) -> Result<Vec<u8>, Refusal>
     ensures { MatchResult result
-        (λ bytes. IsFetched (F.state files.old) (F.state files.new) name.now greatest bytes.items)
-        (λ found. WhyNoFile which name.now (F.state files.old) (F.state files.new) found) }
+        (λ bytes. IsAtHand (Some name.now) (F.state files.old) (F.state files.new) bytes.items)
+        (λ found. FileFails which name.now (F.state files.old) (F.state files.new) found) }
 {
     match files.fetch(alloc, name, GREATEST) {
         Ok(bytes) => Ok(bytes),
         Err(FetchFault::Failed) => Err(Refusal::CannotRead(which)),
-        Err(FetchFault::TooLarge { .. }) => Err(Refusal::NotYet),
+        Err(FetchFault::TooLarge { .. }) => Err(Refusal::TooLarge(which)),
         Err(FetchFault::OutOfMemory) => Err(Refusal::OutOfMemory),
+    }
+}
+
+/// The bytes of a file where there is such a file, and nothing where there is none.
+fn text_of<F: Files>(
+    alloc: Global,
+    files: &mut F,
+    which: File,
+    name: Option<&str>,
+) -> Result<Vec<u8>, Refusal>
+    ensures { MatchResult result
+        (λ bytes. IsAtHand (option_map (λ n. n.now) name.entry) (F.state files.old) (F.state files.new)
+        bytes.items)
+        (λ found. WhyNoFile which (option_map (λ n. n.now) name.entry)
+        (F.state files.old) (F.state files.new) found) }
+{
+    match name {
+        None => Ok(Vec::new(alloc)),
+        Some(name) => fetch(alloc, files, which, name),
     }
 }
 
@@ -45,12 +64,18 @@ pub fn texts_of<F: Files>(
     command: &Command<'_>,
     files: &mut F,
 ) -> Result<Texts, Refusal>
+    requires done { is_undone command.now ≡ false }
     ensures { MatchResult result
         (λ texts. AreTexts command.now (F.state files.old) (F.state files.new)
-        texts.net.items texts.tasks.items)
-        (λ found. WhyUnprepared (Some command.now) (F.state files.old) (F.state files.new) found) }
+        texts.net.items texts.second.items)
+        (λ found. WhyNoReport (Some command.now) (F.state files.old) (F.state files.new) found) }
 {
-    let net = fetch(alloc, files, File::Net, command.net)?;
-    let tasks = fetch(alloc, files, File::Tasks, command.tasks)?;
-    Ok(Texts { net, tasks })
+    let net = match text_of(alloc, files, File::Net, file_of(command, File::Net)) {
+        Ok(net) => net,
+        Err(found) => return Err(found),
+    };
+    match text_of(alloc, files, File::Second, file_of(command, File::Second)) {
+        Ok(second) => Ok(Texts { net, second }),
+        Err(found) => Err(found),
+    }
 }

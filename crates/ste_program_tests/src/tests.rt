@@ -424,11 +424,11 @@ fn what_fails(rt: HostRuntime) -> Result<(), Fail> {
     Ok(())
 }
 
-/// A text of 65,537 bytes, one more than a file may have.
+/// A text of 67,108,865 bytes, one more than a file may have.
 fn large_text(alloc: Global) -> Result<Vec<u8>, AllocError> {
     let mut text = Vec::new(alloc);
     text.push(b'.')?;
-    for _ in 0..16 {
+    for _ in 0..26 {
         let half = text.as_slice().to_vec(alloc)?;
         text.extend_from_slice(&half)?;
     }
@@ -437,31 +437,43 @@ fn large_text(alloc: Global) -> Result<Vec<u8>, AllocError> {
 }
 
 #[test]
-fn words_and_sizes(rt: HostRuntime) -> Result<(), Fail> {
+fn files_that_are_too_large(rt: HostRuntime) -> Result<(), Fail> {
     let alloc = rt.alloc();
+    let words = check_words(alloc)?;
     let large = large_text(alloc)?;
-    for (texts, large_file) in [
-        (&["stework", "check", "n"] as &[&str], false),
-        (&["stework", "check", "n", "t", "t"], false),
-        (&["stework", "Check", "n", "t"], false),
-        (&[], false),
-        (&["stework", "check", "n", "t"], true),
+    for (name, err) in [
+        ("n", "stework: n: too large\n"),
+        ("t", "stework: t: too large\n"),
     ] {
-        let mut words = Vec::new(alloc);
-        for text in texts {
-            words.push(String::from_str(alloc, text)?)?;
-        }
         let mut files = files(alloc, INVERTER, INVERTS, &[])?;
-        if large_file {
-            files.add("t", &large)?;
-        }
+        files.add(name, &large)?;
         let mut output = MemorySink::new(alloc, 100, 100, Vec::new(alloc))?;
         let mut errors = MemorySink::new(alloc, 100, 100, Vec::new(alloc))?;
         let found = run(alloc, &words, &mut files, &mut output, &mut errors);
         assert_eq!(&rt; found, Status::Refused);
         assert_eq!(&rt; output.bytes().len(), 0);
-        assert_eq!(&rt; errors.bytes(), NOT_YET.as_bytes());
+        assert_eq!(&rt; errors.bytes(), err.as_bytes());
     }
+    Ok(())
+}
+
+#[test]
+fn an_output_that_fails_within_a_line(rt: HostRuntime) -> Result<(), Fail> {
+    let alloc = rt.alloc();
+    let words = check_words(alloc)?;
+    let mut tasks = String::from_str(alloc, ".vars p\n")?;
+    for name in ["t1", "t2", "t3", "t4", "t5", "t6", "t7", "t8", "t9", "t10"] {
+        tasks.push_str(".ste ")?;
+        tasks.push_str(name)?;
+        tasks.push_str("\n.ant a = p from 0 to 1\n.con y = !p from 0 to 1\n.end\n")?;
+    }
+    let mut files = files(alloc, INVERTER, &tasks, &[])?;
+    let mut output = MemorySink::new(alloc, 1000, 4, [3].to_vec(alloc)?)?;
+    let mut errors = MemorySink::new(alloc, 100, 100, Vec::new(alloc))?;
+    let found = run(alloc, &words, &mut files, &mut output, &mut errors);
+    assert_eq!(&rt; found, Status::Faulted);
+    assert_eq!(&rt; output.bytes(), b"t1: pass" as &[u8]);
+    assert_eq!(&rt; errors.bytes(), b"stework: cannot write the report\n" as &[u8]);
     Ok(())
 }
 

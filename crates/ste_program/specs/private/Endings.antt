@@ -1,7 +1,7 @@
 -- For private functions. How a message goes out, and how a run ends on a refusal.
 use Rattle.std.specs.Prelude.{◌≡◌, ◌⊎◌, ℕ, List, Option}
 use Rattle.ste_program.specs.Answer.{BrokeOff, WentOut, status_of}
-use Rattle.ste_program.specs.Command.{Command}
+use Rattle.command_line.specs.Command.{Command}
 use Rattle.ste_program.specs.Message.{message_of, out_of_memory}
 use Rattle.ste_io.specs.Outside.{SinkState}
 use Rattle.ste_program.specs.declared.refusal.Refusal.{Refusal}

@@ -4,7 +4,7 @@ use Rattle.std.specs.List.{AllZip, flat_map}
 use Rattle.net_core.specs.declared.raw.RawNet.{RawNet}
 use Rattle.ste_model.specs.declared.task.Task.{Task}
 use Rattle.ste_model.specs.declared.verdict.Verdict.{Verdict}
-use Rattle.ste_program.specs.Report.{IsVerdictOn, report_line}
+use Rattle.ste_program.specs.Check.{IsVerdictOn, report_line}
 
 -- these are the verdicts of the tasks, and these their lines
 abbrev pub AreJudged : RawNet → ℕ → List Task → List Verdict → List ℕ → Type 0

@@ -1,4 +1,4 @@
-use Rattle.ste_program.proofs.Refusals.{one_reading}
+use Rattle.ste_program.proofs.TextStages.{one_reading}
 use Rattle.ste_program.proofs.laws.one_reading.Goals as goal
 
 pub returns : goal.returns

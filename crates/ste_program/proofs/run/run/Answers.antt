@@ -1,16 +1,22 @@
-use Rattle.ste_program.proofs.Ends.{decided_of, passes_hold, sinks_later}
+use Rattle.ste_program.proofs.Ends.{decided_of, passes_hold, sinks_later, told_wanting}
 use Rattle.ste_program.proofs.run.run.Goals as goal
 
-pub returns-clause-pass_holds : goal.returns-clause-pass_holds
-returns-clause-pass_holds g c = passes_hold _ _
+pub returns-in-Ok-clause-pass_holds : goal.returns-in-Ok-clause-pass_holds
+returns-in-Ok-clause-pass_holds g c = passes_hold _ _
 
-pub returns-clause-later : goal.returns-clause-later
-returns-clause-later g c =
+pub returns-in-Ok-clause-later : goal.returns-in-Ok-clause-later
+returns-in-Ok-clause-later g c =
     let ends = c.answer.ensures in
-    let sinks = sinks_later c.command_of.result _ _ _ _ _ _ c.answer.result ends.passed ends.not_passed ends.refused ends.faulted ends.no_memory in
+    let sinks = sinks_later c.in-Ok.command _ _ _ _ _ _ c.answer.result ends.passed ends.not_passed ends.refused ends.faulted ends.no_memory in
     (ends.later, sinks.0, sinks.1)
 
-pub returns-clause-decided : goal.returns-clause-decided
-returns-clause-decided g c = λ none.
+pub returns-in-Ok-clause-decided : goal.returns-in-Ok-clause-decided
+returns-in-Ok-clause-decided g c = λ none.
     let ends = c.answer.ensures in
-    decided_of c.command_of.result _ _ _ _ _ _ _ c.answer.result c.command_of.ensures ends.passed ends.not_passed ends.refused ends.faulted none
+    decided_of c.in-Ok.command _ _ _ _ _ _ _ c.answer.result c.in-Ok.ensures ends.passed ends.not_passed ends.refused ends.faulted none
+
+pub returns-in-Err-clause-pass_holds : goal.returns-in-Err-clause-pass_holds
+returns-in-Err-clause-pass_holds g c = passes_hold _ _
+
+pub returns-in-Err-clause-no_memory : goal.returns-in-Err-clause-no_memory
+returns-in-Err-clause-no_memory g c = λ e. told_wanting _ _ _ c.tell.result c.tell.ensures e

@@ -1,0 +1,10 @@
+pub mod Asked
+pub mod Exprs
+pub mod Family
+pub mod Found
+pub mod Kept
+pub mod Lines
+pub mod Merged
+pub mod Times
+pub mod Turned
+pub mod Verdicts

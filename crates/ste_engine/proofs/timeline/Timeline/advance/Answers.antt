@@ -1,0 +1,20 @@
+use Rattle.std.proofs.Common.{◌≡◌, [], ◌∙◌, ap, arith, filter, List}
+use Rattle.std.specs.Prelude.{nat_lt}
+use Rattle.std.proofs.lemmas.List.{get_or_default}
+use Rattle.ste_engine.specs.declared.asks.Ask.{Ask}
+use Rattle.ste_engine.specs.private.Asks.{begins_at, merge as merge_of, ran_before}
+use Rattle.ste_engine.proofs.Merged.{runs_on}
+use Rattle.ste_engine.proofs.timeline.Timeline.advance.Goals as goal
+
+pub returns : goal.returns
+returns c = λ ok asks depth is lt placed.
+    let t = c.args.t in
+    let lasts : List Ask → List Ask = λ xs. filter (λ ask. nat_lt t ask.to) xs in
+    let begins : List Ask = filter (begins_at t) asks in
+    let long = is.starts.long in
+    let running : c.deref-2.result.now ≡ lasts (filter (ran_before t) asks) = c.deref-2.ensures.value ∙ c.in_ok-lasting.ensures ∙ ap lasts (c.deref.ensures.value ∙ is.running) in
+    let beginning : c.as_slice.result.now ≡ begins = c.as_slice.ensures ∙ c.index.ensures ∙ get_or_default c.args.self.now.starts.items t c.index.result.now [] (omega (arith, lt, long)) ∙ is.starts.each t lt in
+    record {
+      starts = is.starts;
+      running = c.in_ok-self.ensures ∙ ap (λ xs. merge_of xs c.as_slice.result.now) running ∙ ap (λ xs. merge_of (lasts (filter (ran_before t) asks)) xs) beginning ∙ runs_on t 0 asks placed;
+    }

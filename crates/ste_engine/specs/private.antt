@@ -1,0 +1,4 @@
+pub mod Asks
+pub mod Finds
+pub mod Times
+pub mod Turns

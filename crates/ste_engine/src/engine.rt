@@ -1,0 +1,143 @@
+//! The engine; begin with `check_ste`.
+
+ghost use Rattle.std.specs.Prelude.{◌≡◌, ◌≢◌, ◌<◌, ◌≤◌, ℕ, List, All, IfOk, Ok, map};
+ghost use Rattle.dd_nodes.specs.Functions.{IsCofactorOf};
+ghost use Rattle.dd_nodes.specs.Stores.{Builds, Keeps};
+ghost use Rattle.net_core.specs.Work.{SymbolicSet};
+ghost use Rattle.dual_rail.specs.Rail.{Built};
+ghost use Rattle.sym_step.specs.Step.{rows_of};
+ghost use Rattle.ste_model.specs.declared.verdict.Verdict.TheVariants.{Budget};
+ghost use Rattle.ste_model.specs.Found.{IsVerdictOf};
+ghost use Rattle.ste_model.specs.Need.{IsWholeTable, ReadBelow};
+ghost use Rattle.ste_model.specs.Work.{quints_work, task_work};
+ghost use Rattle.ste_engine.specs.Engine.{IsBudget, IsKept};
+ghost use Rattle.ste_engine.specs.private.Turns.{AreResults, IsLine};
+
+use crate::asks::asks_of;
+use crate::finish::{finish, verdict_of};
+use crate::results::Results;
+use crate::timeline::Timeline;
+use crate::turn::{at_start, turn};
+use dd_nodes::Nodes;
+use dd_ops::{OpFault, Ops};
+use net_core::Net;
+use std::alloc::{AllocError, Global};
+use ste_base::Time;
+use ste_model::{Assertion, Quint, Verdict, depth};
+use sym_step::GateRows;
+
+/// The references of quintuples, as a timeline before time 0.
+fn line_of<N: Nodes>(
+    alloc: Global,
+    ops: &Ops,
+    nodes: &mut N,
+    quints: &[Quint],
+    depth: Time,
+) -> Result<Timeline, OpFault>
+    requires reads { ReadBelow (N.store nodes.old).vars quints.now }
+    requires within { All (λ quint. quint.to ≤ depth) quints.now }
+    ensures { Built (quints_work quints.now) (λ t line. IsLine t quints.now depth 0 line)
+        (N.store nodes.old) (N.store nodes.new) result }
+{
+    let asks = asks_of(alloc, ops, nodes, quints)?;
+    match Timeline::of(alloc, asks.as_slice(), depth) {
+        Ok(line) => Ok(line),
+        Err(_) => Err(OpFault::OutOfMemory),
+    }
+}
+
+/// The strong, the weak and the contradictory assignments. Every guard and value is built before the first time.
+fn results<N: Nodes>(
+    alloc: Global,
+    ops: &Ops,
+    nodes: &mut N,
+    net: &Net,
+    rows: &GateRows,
+    task: &Assertion,
+) -> Result<Results, OpFault>
+    requires rows { rows.now.covers ≡ map rows_of net.now.raw.covers }
+    requires ant { All (λ quint. quint.node.0 < net.now.raw.nets) task.now.ant }
+    requires con { All (λ quint. quint.node.0 < net.now.raw.nets) task.now.con }
+    requires reads_ant { ReadBelow (N.store nodes.old).vars task.now.ant }
+    requires reads_con { ReadBelow (N.store nodes.old).vars task.now.con }
+    ensures { (table : ℕ → ℕ → SymbolicSet)
+        → IsWholeTable net.now.raw (N.store nodes.old).vars task.now table
+        → Built (task_work net.now.raw task.now table) (AreResults net.now.raw task.now table)
+        (N.store nodes.old) (N.store nodes.new) result }
+{
+    let depth = depth(task);
+    let mut ant = line_of(alloc, ops, nodes, task.ant.as_slice(), depth)?;
+    let mut con = line_of(alloc, ops, nodes, task.con.as_slice(), depth)?;
+    let mut reached = match at_start(alloc, net, task.reset) {
+        Ok(reached) => reached,
+        Err(_) => return Err(OpFault::OutOfMemory),
+    };
+    for t in 0..depth {
+        let asked = match ant.cuts_at(alloc, t) {
+            Ok(cuts) => cuts,
+            Err(_) => return Err(OpFault::OutOfMemory),
+        };
+        let wanted = match con.cuts_at(alloc, t) {
+            Ok(cuts) => cuts,
+            Err(_) => return Err(OpFault::OutOfMemory),
+        };
+        reached = turn(
+            alloc,
+            ops,
+            nodes,
+            net,
+            rows,
+            asked.as_slice(),
+            wanted.as_slice(),
+            &reached,
+        )?;
+    }
+    finish(ops, nodes, reached.contradictory, reached.found)
+}
+
+/// The verdict of an assertion over the variables of the store, for all assignments at once. `rows` are those of the net,
+/// the task's nodes are nets of it, and its variables are below the store's.
+///
+/// `Budget` comes only where all steps are spent, and fewer were left at the start than the assertion needs. With every
+/// other verdict each node of the kept functions has a reference afterwards. Whatever the answer, each node that is made is a
+/// node of the work functions, and what was held stays.
+pub fn check_ste<N: Nodes>(
+    alloc: Global,
+    nodes: &mut N,
+    net: &Net,
+    rows: &GateRows,
+    task: &Assertion,
+) -> Result<Verdict, AllocError>
+    requires rows { rows.now.covers ≡ map rows_of net.now.raw.covers }
+    requires ant { All (λ quint. quint.node.0 < net.now.raw.nets) task.now.ant }
+    requires con { All (λ quint. quint.node.0 < net.now.raw.nets) task.now.con }
+    requires reads_ant { ReadBelow (N.store nodes.old).vars task.now.ant }
+    requires reads_con { ReadBelow (N.store nodes.old).vars task.now.con }
+
+    // The verdict is that of the definition.
+    ensures verdict { IfOk result (λ verdict. verdict ≢ Budget
+        → IsVerdictOf net.now.raw (N.store nodes.old).vars task.now verdict) }
+
+    // There is no verdict where steps were out, and they were too few.
+    ensures budget { result ≡ Ok Budget
+        → IsBudget net.now.raw task.now (N.store nodes.old) (N.store nodes.new) }
+
+    // What was held stays, and so does the limit; only nodes of the work functions are made.
+    ensures keeps { Keeps (N.store nodes.old) (N.store nodes.new) }
+    ensures limit { (N.store nodes.new).limit ≡ (N.store nodes.old).limit }
+    ensures builds { (table : ℕ → ℕ → SymbolicSet)
+        → IsWholeTable net.now.raw (N.store nodes.old).vars task.now table
+        → Builds (IsCofactorOf (N.store nodes.old).vars (task_work net.now.raw task.now table))
+        (N.store nodes.old) (N.store nodes.new) }
+
+    // The nodes of the kept functions are there.
+    ensures kept { IfOk result (λ verdict. verdict ≢ Budget
+        → IsKept net.now.raw task.now (N.store nodes.new)) }
+{
+    let ops = Ops::new(alloc);
+    match results(alloc, &ops, nodes, net, rows, task) {
+        Ok(r) => Ok(verdict_of(&ops, nodes, r)),
+        Err(OpFault::StepsOut) => Ok(Verdict::Budget),
+        Err(OpFault::OutOfMemory) => Err(AllocError),
+    }
+}

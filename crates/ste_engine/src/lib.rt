@@ -1,0 +1,15 @@
+//! The symbolic engine for assertions: the verdict of an assertion over all assignments at once, time after time, on
+//! decision diagrams. Begin with `check_ste`.
+#![tactic(auto)]
+
+mod asks;
+pub mod engine;
+mod expr;
+mod find;
+mod finish;
+mod merge;
+mod results;
+mod timeline;
+mod turn;
+
+pub use engine::check_ste;

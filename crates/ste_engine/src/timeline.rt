@@ -1,0 +1,105 @@
+//! What is asked, time after time, without a look at what is not; begin with `Timeline`.
+
+ghost use Rattle.std.specs.Prelude.{◌≡◌, ◌≤◌, ◌<◌, ◌+◌, ℕ, List, [], All, IfOk, IsOk, filter, length, nat_lt, replicate};
+ghost use Rattle.ste_engine.specs.private.Asks.{ArePlaced, cuts_of};
+ghost use Rattle.ste_engine.specs.private.Times.{AreStarts, HasTurned, IsTimeline};
+
+use crate::asks::Ask;
+use crate::merge::merge;
+use std::alloc::{AllocError, Global};
+use ste_base::{Items, Time};
+use sym_step::Cut;
+
+/// What is asked, by time: for each time what begins then, in text order; and what has begun and not ended so far, in
+/// text order too.
+#[derive(Drop)]
+pub struct Timeline {
+    starts: Vec<Items<Ask>>,
+    running: Vec<Ask>,
+}
+
+/// Nothing, for each time below the depth.
+fn no_starts(alloc: Global, depth: Time) -> Result<Vec<Items<Ask>>, AllocError>
+    ensures { IfOk result (λ starts. starts.items ≡ replicate depth []) }
+{
+    let mut starts = Vec::with_capacity(alloc, depth as usize)?;
+    for _ in 0..depth {
+        starts.push(Items::new(alloc))?;
+    }
+    Ok(starts)
+}
+
+/// For each time below the depth what begins then, in text order.
+fn starts_of(alloc: Global, asks: &[Ask], depth: Time) -> Result<Vec<Items<Ask>>, AllocError>
+    requires { All (λ ask. ask.to ≤ depth) asks.now }
+    ensures { IfOk result (λ starts. AreStarts asks.now depth starts.items) }
+{
+    let mut starts = no_starts(alloc, depth)?;
+    for ask in asks {
+        if ask.from < ask.to {
+            starts[ask.from as usize].push(*ask)?;
+        }
+    }
+    Ok(starts)
+}
+
+/// What has not ended at time t.
+fn lasting(alloc: Global, asks: &[Ask], t: Time) -> Result<Vec<Ask>, AllocError>
+    ensures { IfOk result (λ some. some.items ≡ filter (λ ask. nat_lt t ask.to) asks.now) }
+{
+    let mut some = Vec::new(alloc);
+    for ask in asks {
+        if t < ask.to {
+            some.push(*ask)?;
+        }
+    }
+    Ok(some)
+}
+
+impl Timeline {
+    /// What is asked, before time 0.
+    pub fn of(alloc: Global, asks: &[Ask], depth: Time) -> Result<Timeline, AllocError>
+        requires { All (λ ask. ask.to ≤ depth) asks.now }
+        ensures { IfOk result (λ line. IsTimeline asks.now depth 0 line) }
+    {
+        let starts = starts_of(alloc, asks, depth)?;
+        Ok(Timeline {
+            starts,
+            running: Vec::new(alloc),
+        })
+    }
+
+    /// Goes on to time t, whose turn it is.
+    fn advance(&mut self, alloc: Global, t: Time) -> Result<(), AllocError>
+        requires { t < length self.old.starts.items }
+        ensures { IsOk result → (asks : List Ask) (depth : ℕ)
+            → IsTimeline asks depth t self.old → t < depth → ArePlaced 0 asks
+            → IsTimeline asks depth (t + 1) self.new }
+    {
+        let lasting = lasting(alloc, &self.running, t)?;
+        self.running = merge(alloc, &lasting, self.starts[t as usize].as_slice())?;
+        Ok(())
+    }
+
+    /// The cuts of the time at hand, in text order.
+    fn cuts(&self, alloc: Global) -> Result<Vec<Cut>, AllocError>
+        ensures { IfOk result (λ cuts. cuts.items ≡ cuts_of self.now.running.items) }
+    {
+        let mut cuts = Vec::with_capacity(alloc, self.running.len())?;
+        for ask in &self.running {
+            cuts.push(ask.cut)?;
+        }
+        Ok(cuts)
+    }
+
+    /// The cuts of time t, whose turn it is, in text order.
+    pub fn cuts_at(&mut self, alloc: Global, t: Time) -> Result<Vec<Cut>, AllocError>
+        requires { t < length self.old.starts.items }
+        ensures { IfOk result (λ cuts. (asks : List Ask) (depth : ℕ)
+            → IsTimeline asks depth t self.old → t < depth → ArePlaced 0 asks
+            → HasTurned asks depth t self.new cuts.items) }
+    {
+        self.advance(alloc, t)?;
+        self.cuts(alloc)
+    }
+}

@@ -1,0 +1,107 @@
+//! One time of an assertion; begin with `turn`.
+
+ghost use Rattle.std.specs.Prelude.{◌≡◌, ℕ, List, All, IfOk, map};
+ghost use Rattle.std.specs.List.{AllZip};
+ghost use Rattle.dd_nodes.specs.Diagram.{Function};
+ghost use Rattle.dd_nodes.specs.Stores.{Means};
+ghost use Rattle.net_core.specs.Work.{ArePossibleEach, SymbolicCut, SymbolicSet};
+ghost use Rattle.dual_rail.specs.Rail.{AreRails, Built};
+ghost use Rattle.sym_step.specs.Step.{IsCutBy, IsCutOf, rows_of};
+ghost use Rattle.ste_engine.specs.private.Finds.{AreFound};
+ghost use Rattle.ste_engine.specs.private.Turns.{AreTurnedRefs, IsTurned, asked_by, first_rails, turned_work};
+
+use crate::find::find_all;
+use crate::results::Found;
+use dd_nodes::{Nodes, Ref};
+use dd_ops::{OpFault, Ops};
+use dual_rail::{Rails, either, free, one, zero};
+use net_core::{Init, Latch, Net};
+use std::alloc::{AllocError, Global};
+use ste_base::Items;
+use sym_step::{Cut, GateRows, step};
+
+/// What the times so far leave: the latches' sets of the next time, where some net was empty, and what is found.
+#[derive(Debug, Drop)]
+pub struct Turned {
+    pub next: Items<Rails>,
+    pub contradictory: Ref,
+    pub found: Found,
+}
+
+/// The first set of a latch.
+fn first(reset: bool, latch: Latch) -> Rails
+    ensures { result ≡ first_rails reset latch }
+{
+    if !reset {
+        return free();
+    }
+    match latch.init {
+        Init::Zero => zero(),
+        Init::One => one(),
+        Init::Free => free(),
+    }
+}
+
+/// The first sets of the latches.
+fn first_sets(alloc: Global, net: &Net, reset: bool) -> Result<Items<Rails>, AllocError>
+    ensures { IfOk result (λ sets. sets ≡ map (first_rails reset) net.now.raw.latches) }
+{
+    let mut sets = Vec::new(alloc);
+    for latch in net.latches() {
+        sets.push(first(reset, *latch))?;
+    }
+    Ok(Items::from(sets))
+}
+
+/// What there is before time 0.
+pub fn at_start(alloc: Global, net: &Net, reset: bool) -> Result<Turned, AllocError>
+    ensures next { IfOk result (λ r. r.next ≡ map (first_rails reset) net.now.raw.latches) }
+    ensures contradictory { IfOk result (λ r. r.contradictory ≡ Ref.FALSE) }
+    ensures found { IfOk result (λ r. r.found ≡ record { strong = Ref.FALSE; weak = Ref.FALSE }) }
+{
+    let next = first_sets(alloc, net, reset)?;
+    Ok(Turned {
+        next,
+        contradictory: Ref::FALSE,
+        found: Found {
+            strong: Ref::FALSE,
+            weak: Ref::FALSE,
+        },
+    })
+}
+
+/// One time: its sets, and what is found there. `ant` is what is asked, `con` what is to follow.
+pub fn turn<N: Nodes>(
+    alloc: Global,
+    ops: &Ops,
+    nodes: &mut N,
+    net: &Net,
+    rows: &GateRows,
+    ant: &[Cut],
+    con: &[Cut],
+    before: &Turned,
+) -> Result<Turned, OpFault>
+    requires rows { rows.now.covers ≡ map rows_of net.now.raw.covers }
+    requires ant { All (IsCutOf (N.store nodes.old) net.now.raw) ant.now }
+    requires con { All (IsCutOf (N.store nodes.old) net.now.raw) con.now }
+    requires before { AreTurnedRefs (N.store nodes.old) net.now.raw before.now }
+    ensures { (ls : List SymbolicSet) (ds es : List SymbolicCut)
+        (sets : ℕ → SymbolicSet) (c f h : Function)
+        → AllZip (AreRails (N.store nodes.old)) ls before.now.next
+        → AllZip (IsCutBy (N.store nodes.old)) ds ant.now
+        → AllZip (IsCutBy (N.store nodes.old)) es con.now
+        → ArePossibleEach (N.store nodes.old).vars net.now.raw ls (asked_by ds) sets
+        → Means (N.store nodes.old) c before.now.contradictory
+        → AreFound f h (N.store nodes.old) before.now.found
+        → Built (turned_work net.now.raw ls ds es sets c f h) (IsTurned net.now.raw es sets c f h)
+        (N.store nodes.old) (N.store nodes.new) result }
+{
+    let made = step(alloc, ops, nodes, net, rows, before.next.as_slice(), ant)?;
+    let contradictory = either(ops, nodes, before.contradictory, made.contradictory)?;
+    let found = find_all(ops, nodes, made.nets.as_slice(), con, before.found)?;
+    Ok(Turned {
+        next: made.next,
+        contradictory,
+        found,
+    })
+}

@@ -1,0 +1,390 @@
+//! Verdicts of worked examples, and how many steps they need.
+
+ghost use Rattle.std.specs.Prelude.{◌≡◌, ◌≤◌, ◌<◌, ℕ, All, IfOk, IsTrue, length, map};
+ghost use Rattle.ste_model.specs.Expressions.{reads};
+ghost use Rattle.ste_model.specs.Need.{ReadBelow};
+ghost use Rattle.sym_step.specs.Step.{rows_of};
+
+use blif_lines::logical_lines;
+use blif_syntax::read_models;
+use bool_expr::Expr;
+use dd_nodes::{Nodes, PlainNodes};
+use flat_net::flatten;
+use net_core::{Net, order};
+use net_names::NetNames;
+use std::alloc::{AllocError, Global};
+use std::test::Fail;
+use ste_base::{Items, Name, Time, VarId};
+use ste_engine::check_ste;
+use ste_model::{Assertion, Quint, Verdict};
+use sym_step::GateRows;
+
+/// An expression over two variables.
+#[derive(Clone, Copy, Debug, Drop)]
+enum Value {
+    Zero,
+    One,
+    P,
+    Q,
+    NotP,
+    PAndQ,
+}
+
+/// For a net, guard and value, and the times.
+type Asked = (&'static str, Value, Value, Time, Time);
+
+/// A net by its text, whether latches begin with their initial values, what is given, what is to follow, and the verdict.
+type Case = (
+    &'static str,
+    bool,
+    &'static [Asked],
+    &'static [Asked],
+    Verdict,
+);
+
+/// A net with its rows and the names of its nets.
+#[derive(Drop)]
+struct Ready {
+    net: Net,
+    rows: GateRows,
+    names: NetNames,
+    ghost fit: { rows.covers ≡ map rows_of net.raw.covers },
+}
+
+/// The net of a text.
+fn net_of(alloc: Global, text: &[u8]) -> Result<Ready, Fail>
+    requires { length text.now ≤ 20000 }
+{
+    let lines = logical_lines(alloc, text)?;
+    let Ok(models) = read_models(alloc, lines.as_slice()) else {
+        return Err("no models".into());
+    };
+    let (raw, names) = match flatten(alloc, &models) {
+        Ok(made) => made,
+        Err(_) => return Err("no flat net".into()),
+    };
+    match order(alloc, raw) {
+        Ok(net) => {
+            let rows = GateRows::of(alloc, &net)?;
+            Ok(Ready { net, rows, names })
+        }
+        Err(_) => Err("no order".into()),
+    }
+}
+
+/// The expression of a value.
+fn expr_of(alloc: Global, value: Value) -> Result<Expr, AllocError>
+    ensures { IfOk result (λ expr. IsTrue (reads 2 expr)) }
+{
+    match value {
+        Value::Zero => Ok(Expr::Const(false)),
+        Value::One => Ok(Expr::Const(true)),
+        Value::P => Ok(Expr::Var(VarId(0))),
+        Value::Q => Ok(Expr::Var(VarId(1))),
+        Value::NotP => Ok(Expr::Not(Box::new(alloc, Expr::Var(VarId(0)))?)),
+        Value::PAndQ => {
+            let parts = Vec::from_array(alloc, [Expr::Var(VarId(0)), Expr::Var(VarId(1))])?;
+            Ok(Expr::All(parts))
+        }
+    }
+}
+
+/// The quintuples of what is asked.
+fn quints_of(
+    alloc: Global,
+    names: &NetNames,
+    nets: u32,
+    asked: &[Asked],
+) -> Result<Items<Quint>, Fail>
+    ensures nodes { IfOk result (λ quints. All (λ quint. quint.node.0 < nets) quints) }
+    ensures reads { IfOk result (λ quints. ReadBelow 2 quints) }
+{
+    let mut quints = Items::new(alloc);
+    for (name, guard, value, from, to) in asked {
+        let Some(node) = names.resolve(name.as_bytes()) else {
+            return Err("no such net".into());
+        };
+        if node.0 >= nets {
+            return Err("no such number".into());
+        }
+        let guard = expr_of(alloc, *guard)?;
+        let value = expr_of(alloc, *value)?;
+        quints.push(Quint {
+            guard,
+            node,
+            value,
+            from: *from,
+            to: *to,
+        })?;
+    }
+    Ok(quints)
+}
+
+/// The verdict with so many steps, and how many of them were used.
+fn verdict_of(
+    alloc: Global,
+    ready: &Ready,
+    reset: bool,
+    ant: &[Asked],
+    con: &[Asked],
+    steps: u32,
+) -> Result<(Verdict, u32), Fail>
+    requires { steps ≤ 1000 }
+{
+    let task = Assertion {
+        name: Name::from_bytes(alloc, b"t")?,
+        reset,
+        ant: quints_of(alloc, &ready.names, ready.net.nets(), ant)?,
+        con: quints_of(alloc, &ready.names, ready.net.nets(), con)?,
+    };
+    let mut nodes = PlainNodes::new(alloc, 2, steps)?;
+    let verdict = check_ste(alloc, &mut nodes, &ready.net, &ready.rows, &task)?;
+    Ok((verdict, nodes.used()))
+}
+
+const INVERTER: &str = ".model inv\n.inputs a\n.outputs y\n.names a y\n0 1\n.end\n";
+
+const MUX: &str = ".model mux\n.inputs s a b\n.outputs y\n.names s a b y\n01- 1\n1-1 1\n.end\n";
+
+const BOTH_SIGNS: &str =
+    ".model both\n.inputs a\n.outputs y\n.names a n\n0 1\n.names a n y\n11 1\n.end\n";
+
+const LATCH: &str = ".model l\n.inputs d\n.outputs q\n.latch d q 1\n.end\n";
+
+const AND_GATE: &str = ".model and2\n.inputs a b\n.outputs y\n.names a b y\n11 1\n.end\n";
+
+const AND_LATCH: &str = ".model al\n.inputs a\n.outputs y\n.latch a b\n.names a b y\n11 1\n.end\n";
+
+/// Worked examples, whose verdicts were found by hand.
+const CASES: &[Case] = &[
+    (
+        INVERTER,
+        false,
+        &[("a", Value::One, Value::P, 0, 1)],
+        &[("y", Value::One, Value::NotP, 0, 1)],
+        Verdict::Pass,
+    ),
+    (
+        INVERTER,
+        false,
+        &[("a", Value::One, Value::P, 0, 1)],
+        &[("y", Value::One, Value::P, 0, 1)],
+        Verdict::Strong,
+    ),
+    (
+        INVERTER,
+        false,
+        &[],
+        &[("y", Value::One, Value::NotP, 0, 1)],
+        Verdict::Weak,
+    ),
+    (
+        INVERTER,
+        false,
+        &[
+            ("a", Value::One, Value::P, 0, 1),
+            ("a", Value::One, Value::NotP, 0, 1),
+        ],
+        &[("y", Value::One, Value::NotP, 0, 1)],
+        Verdict::Vacuous,
+    ),
+    (
+        INVERTER,
+        false,
+        &[
+            ("a", Value::One, Value::P, 0, 1),
+            ("a", Value::One, Value::Q, 0, 1),
+        ],
+        &[("y", Value::One, Value::NotP, 0, 1)],
+        Verdict::Pass,
+    ),
+    // At time 1 the antecedent says nothing.
+    (
+        INVERTER,
+        false,
+        &[("a", Value::One, Value::P, 0, 1)],
+        &[("y", Value::One, Value::NotP, 0, 2)],
+        Verdict::Weak,
+    ),
+    // Guards.
+    (
+        INVERTER,
+        false,
+        &[("a", Value::One, Value::P, 0, 1)],
+        &[("y", Value::P, Value::One, 0, 1)],
+        Verdict::Strong,
+    ),
+    (
+        INVERTER,
+        false,
+        &[("a", Value::One, Value::P, 0, 1)],
+        &[("y", Value::P, Value::Zero, 0, 1)],
+        Verdict::Pass,
+    ),
+    // Nothing is asked, and what is asked at no time.
+    (INVERTER, false, &[], &[], Verdict::Pass),
+    (
+        INVERTER,
+        false,
+        &[("a", Value::P, Value::Q, 3, 3)],
+        &[("y", Value::Zero, Value::PAndQ, 2, 2)],
+        Verdict::Pass,
+    ),
+    // The unknown select does not matter, for both data inputs are 1.
+    (
+        MUX,
+        false,
+        &[
+            ("a", Value::One, Value::One, 0, 1),
+            ("b", Value::One, Value::One, 0, 1),
+        ],
+        &[("y", Value::One, Value::One, 0, 1)],
+        Verdict::Pass,
+    ),
+    // True, and not shown by sets of single nets.
+    (
+        BOTH_SIGNS,
+        false,
+        &[],
+        &[("y", Value::One, Value::Zero, 0, 1)],
+        Verdict::Weak,
+    ),
+    (
+        LATCH,
+        true,
+        &[],
+        &[("q", Value::One, Value::One, 0, 1)],
+        Verdict::Pass,
+    ),
+    (
+        LATCH,
+        false,
+        &[],
+        &[("q", Value::One, Value::One, 0, 1)],
+        Verdict::Weak,
+    ),
+    (
+        LATCH,
+        false,
+        &[("d", Value::One, Value::P, 0, 1)],
+        &[("q", Value::One, Value::P, 1, 2)],
+        Verdict::Pass,
+    ),
+    (
+        LATCH,
+        false,
+        &[("d", Value::One, Value::P, 0, 1)],
+        &[("q", Value::One, Value::NotP, 1, 2)],
+        Verdict::Strong,
+    ),
+];
+
+#[test]
+fn worked_examples_have_their_verdicts(rt: HostRuntime) -> Result<(), Fail> {
+    let alloc = rt.alloc();
+    for (text, reset, ant, con, verdict) in CASES {
+        let bytes = text.as_bytes();
+        if bytes.len() > 20000 {
+            return Err("a long text".into());
+        }
+        let ready = net_of(alloc, bytes)?;
+        let found = verdict_of(alloc, &ready, *reset, ant, con, 1000)?;
+        assert_eq!(&rt; found.0, *verdict);
+    }
+    Ok(())
+}
+
+/// A net by its text, what is given, what is to follow, the verdict, and how many steps are needed, as counted by a
+/// program of its own.
+const NEEDS: &[(&str, &[Asked], &[Asked], Verdict, u32)] = &[
+    (
+        AND_GATE,
+        &[
+            ("a", Value::One, Value::P, 0, 1),
+            ("b", Value::One, Value::Q, 0, 1),
+        ],
+        &[("y", Value::One, Value::PAndQ, 0, 1)],
+        Verdict::Pass,
+        7,
+    ),
+    (
+        AND_LATCH,
+        &[("a", Value::Q, Value::P, 0, 2)],
+        &[("y", Value::Q, Value::P, 1, 2)],
+        Verdict::Pass,
+        8,
+    ),
+    (
+        INVERTER,
+        &[("a", Value::One, Value::One, 0, 2)],
+        &[("y", Value::One, Value::Zero, 0, 2)],
+        Verdict::Pass,
+        0,
+    ),
+];
+
+/// With as many steps as are needed, and with more, a task has its verdict; with fewer it has its verdict, or it has used
+/// all of them.
+#[test]
+fn steps_at_the_need_suffice(rt: HostRuntime) -> Result<(), Fail> {
+    let alloc = rt.alloc();
+    for (text, ant, con, verdict, need) in NEEDS {
+        let bytes = text.as_bytes();
+        if bytes.len() > 20000 {
+            return Err("a long text".into());
+        }
+        let ready = net_of(alloc, bytes)?;
+        for steps in 0..15 {
+            let (found, used) = verdict_of(alloc, &ready, false, ant, con, steps)?;
+            if steps < *need && found == Verdict::Budget {
+                assert_eq!(&rt; used, steps);
+            } else {
+                assert_eq!(&rt; found, *verdict);
+            }
+        }
+    }
+    Ok(())
+}
+
+/// The names of a thousand inputs.
+fn add_inputs(text: &mut Vec<u8>) -> Result<(), AllocError> {
+    for k in 0u32..1000 {
+        let digits = [
+            b'n',
+            b'0' + (k / 100) as u8,
+            b'0' + (k / 10 % 10) as u8,
+            b'0' + (k % 10) as u8,
+            b' ',
+        ];
+        text.extend_from_slice(&digits)?;
+    }
+    Ok(())
+}
+
+/// A gate of a thousand inputs, which is 1 where each is.
+fn wide_gate(alloc: Global) -> Result<Vec<u8>, AllocError> {
+    let mut text = Vec::new(alloc);
+    text.extend_from_slice(b".model w\n.inputs ")?;
+    add_inputs(&mut text)?;
+    text.extend_from_slice(b"\n.outputs y\n.names ")?;
+    add_inputs(&mut text)?;
+    text.extend_from_slice(b"y\n")?;
+    text.extend_from_slice(&[b'1'; 1000])?;
+    text.extend_from_slice(b" 1\n.end\n")?;
+    Ok(text)
+}
+
+#[test]
+fn a_gate_of_a_thousand_inputs_has_its_verdict(rt: HostRuntime) -> Result<(), Fail> {
+    let alloc = rt.alloc();
+    let text = wide_gate(alloc)?;
+    if text.len() > 20000 {
+        return Err("a long text".into());
+    }
+    let ready = net_of(alloc, &text)?;
+    let given = &[("n999", Value::One, Value::Zero, 0, 1)];
+    let claim = &[("y", Value::One, Value::Zero, 0, 1)];
+    let found = verdict_of(alloc, &ready, false, given, claim, 0)?;
+    assert_eq!(&rt; found.0, Verdict::Pass);
+    Ok(())
+}

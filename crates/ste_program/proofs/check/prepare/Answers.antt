@@ -1,0 +1,50 @@
+use Rattle.std.proofs.Common.{◌∙◌, ap, sym}
+use Rattle.ste_program.specs.Check.{are_too_many}
+use Rattle.ste_program.proofs.TaskLists.{promised}
+use Rattle.ste_program.proofs.TextStages.{check_net_fails, is_prepared, kinds_fail, netlist_text_fails, steps_fail, tasks_fail, unbound_fails}
+use Rattle.ste_program.proofs.check.prepare.Goals as goal
+
+pub returns-in-Err : goal.returns-in-Err
+returns-in-Err c = netlist_text_fails c.args.steps c.args.net_text.items c.args.task_text.items c.in-Err.found c.in-Err.ensures
+
+pub returns-in-Err-tasks_of : goal.returns-in-Err-tasks_of
+returns-in-Err-tasks_of c = tasks_fail c.args.steps c.args.net_text.items c.args.task_text.items c.in-Ok.models.models c.in-Ok.ensures.0 c.in-Err-tasks_of.found c.in-Err-tasks_of.ensures
+
+pub returns-in-Err-net_of : goal.returns-in-Err-net_of
+returns-in-Err-net_of c =
+    check_net_fails c.args.steps c.args.net_text.items c.args.task_text.items c.in-Ok.models.models c.in-Ok.ensures.0 c.in-Ok-tasks_of.raw c.in-Ok-tasks_of.ensures
+    c.in-Err-net_of.found c.in-Err-net_of.ensures
+
+pub returns-in-Err-bound : goal.returns-in-Err-bound
+returns-in-Err-bound c =
+    unbound_fails c.args.steps c.args.net_text.items c.args.task_text.items c.in-Ok.models.models c.in-Ok.ensures.0 c.in-Ok-tasks_of.raw c.in-Ok-tasks_of.ensures
+    c.in-Ok-net_of.flat.net.raw c.in-Ok-net_of.flat.names c.in-Ok-net_of.ensures c.in-Err-bound.found (c.in-Err-bound.ensures c.in-Ok.models.models c.in-Ok-net_of.ensures)
+
+pub returns-then-are_too_many : goal.returns-then-are_too_many
+returns-then-are_too_many c =
+    steps_fail c.args.steps c.args.net_text.items c.args.task_text.items c.in-Ok.models.models c.in-Ok.ensures.0 c.in-Ok-tasks_of.raw c.in-Ok-tasks_of.ensures
+    c.in-Ok-net_of.flat.net.raw c.in-Ok-net_of.flat.names c.in-Ok-net_of.ensures c.in-Ok-bound.tasks (c.in-Ok-bound.ensures c.in-Ok.models.models c.in-Ok-net_of.ensures)
+    (sym (ap (are_too_many c.args.steps) c.len.ensures) ∙ (sym c.are_too_many.ensures ∙ c.if-are_too_many.true))
+
+pub invariant_of-result : goal.invariant_of-result
+invariant_of-result c =
+    let n = c.in-Ok-net_of.ensures in
+    let kept = promised c.in-Ok.models.models c.in-Ok-tasks_of.raw c.in-Ok-net_of.flat.net.raw c.in-Ok-bound.tasks n.flat (c.in-Ok-bound.ensures c.in-Ok.models.models n)
+    (sym (c.is_checked_so_far.ensures c.in-Ok.models.models n.flat) ∙ c.if-is_checked_so_far.true) in
+    record { narrow = kept.narrow; checkable = kept.checkable; few = kept.few }
+
+pub returns-then-is_checked_so_far : goal.returns-then-is_checked_so_far
+returns-then-is_checked_so_far c =
+    let n = c.in-Ok-net_of.ensures in
+    is_prepared c.args.steps c.args.net_text.items c.args.task_text.items c.in-Ok.models.models c.in-Ok.ensures.0 c.in-Ok-tasks_of.raw c.in-Ok-tasks_of.ensures
+    c.in-Ok-net_of.flat.net.raw c.in-Ok-net_of.flat.names n c.in-Ok-bound.tasks (c.in-Ok-bound.ensures c.in-Ok.models.models n)
+    (sym (ap (are_too_many c.args.steps) c.len.ensures) ∙ (sym c.are_too_many.ensures ∙ c.if-are_too_many.false))
+    (sym (c.is_checked_so_far.ensures c.in-Ok.models.models n.flat) ∙ c.if-is_checked_so_far.true)
+
+pub returns : goal.returns
+returns c =
+    let n = c.in-Ok-net_of.ensures in
+    kinds_fail c.args.steps c.args.net_text.items c.args.task_text.items c.in-Ok.models.models c.in-Ok.ensures.0 c.in-Ok-tasks_of.raw c.in-Ok-tasks_of.ensures
+    c.in-Ok-net_of.flat.net.raw c.in-Ok-net_of.flat.names n c.in-Ok-bound.tasks (c.in-Ok-bound.ensures c.in-Ok.models.models n)
+    (sym (ap (are_too_many c.args.steps) c.len.ensures) ∙ (sym c.are_too_many.ensures ∙ c.if-are_too_many.false))
+    (sym (c.is_checked_so_far.ensures c.in-Ok.models.models n.flat) ∙ c.if-is_checked_so_far.false)

@@ -1,0 +1,63 @@
+-- For private functions. What the steps to a report know of the texts.
+use Rattle.std.specs.Prelude.{◌≡◌, ◌≢◌, ◌<◌, ◌⊎◌, ℕ, Bool, true, false, IsTrue, List, [], length, map, All, Option, Err}
+use Rattle.blif_syntax.specs.declared.models.Model.{Model}
+use Rattle.command_line.specs.Command.{Command}
+use Rattle.hierarchy.specs.Faults.{IsFree, IsRefusal}
+use Rattle.hierarchy.specs.Names.{net_named}
+use Rattle.hierarchy.specs.Nets.{nets}
+use Rattle.hierarchy.specs.declared.fault.NetFault.{NetFault}
+use Rattle.flat_net.specs.Flat.{IsFlat}
+use Rattle.net_core.specs.Run.{IsSettled}
+use Rattle.net_core.specs.declared.raw.RawNet.{RawNet}
+use Rattle.net_names.specs.Names.{AreNamesOf}
+use Rattle.net_names.specs.declared.names.NetNames.{NetNames}
+use Rattle.assert_syntax.specs.declared.tasks.RawTasks.{RawTasks}
+use Rattle.ste_model.specs.declared.task.Task.{Task}
+use Rattle.ste_model.specs.declared.task.Task.TheVariants.{Ste, Gste}
+use Rattle.task_binding.specs.Answer.{IsAnswer}
+use Rattle.task_binding.specs.declared.fault.BindFault.{BindFault}
+use Rattle.task_binding.specs.declared.fault.BindFault.TheVariants as bind
+use Rattle.ste_io.specs.Outside.{FilesState}
+use Rattle.ste_program.specs.Answer.{AskedAll}
+use Rattle.ste_program.specs.Netlist.{IsLoop}
+use Rattle.ste_program.specs.Report.{IsReport}
+use Rattle.ste_program.specs.declared.refusal.Refusal.{Refusal}
+use Rattle.ste_program.specs.declared.refusal.Refusal.TheVariants as refusal
+
+-- the flat net of a netlist, in which no gates form a loop, with the names of its nets
+pub record IsNetOf (models : List Model) (net : RawNet) (names : NetNames) : Type 0 where
+  pub sound : IsFree (IsRefusal models)
+  pub flat : IsFlat models net
+  pub settled : IsSettled net
+  pub named : AreNamesOf models names
+
+-- why a netlist has no flat net in a settled order
+abbrev pub HasNoNet : List Model → Refusal → Type 0
+HasNoNet models found =
+    ((fault : NetFault) × (found ≡ refusal.Hierarchy fault) × IsRefusal models fault)
+    ⊎ ((name : List ℕ) × (found ≡ refusal.Loop name) × IsFree (IsRefusal models) × IsLoop models name)
+
+-- why tasks are not bound to a net
+abbrev pub IsNotBound : List Model → RawTasks → Refusal → Type 0
+IsNotBound models raw found =
+    (fault : BindFault) × (found ≡ refusal.Binding fault) × (fault ≢ bind.OutOfMemory)
+    × IsAnswer (net_named models) (length (nets models)) raw (Err fault)
+
+-- the task is an assertion
+abbrev pub is_ste : Task → Bool
+is_ste (Ste task) = true
+is_ste (Gste task) = false
+
+-- the nets of an antecedent
+abbrev pub given_nets : Task → List ℕ
+given_nets (Ste task) = map (λ quint. quint.node.0) task.ant
+given_nets (Gste task) = []
+
+-- the task is an assertion whose antecedent speaks of nets below this number
+abbrev pub IsCheckable : ℕ → Task → Type 0
+IsCheckable nets task = IsTrue (is_ste task) × All (λ net. net < nets) (given_nets task)
+
+-- the report that a command asks for, with what its files were asked for
+pub record IsMade (command : Option Command) (files files' : FilesState) (passes : Bool) (bytes : List ℕ) : Type 0 where
+  pub report : IsReport command files passes bytes
+  pub asking : AskedAll command files files'

@@ -1,0 +1,79 @@
+//! From the text of a netlist to its flat net: begin with `netlist_of`.
+ghost use Rattle.std.specs.Prelude.{◌≡◌, ◌≤◌, ◌⊎◌, List, MatchResult, length};
+ghost use Rattle.blif_syntax.specs.declared.models.Model.{Model};
+ghost use Rattle.blif_syntax.specs.Covered.{AreCovered};
+ghost use Rattle.ste_program.specs.Netlist.{IsNetlist};
+ghost use Rattle.ste_program.specs.Order.{IsFirst, info_stages, is_faulty};
+ghost use Rattle.ste_program.specs.Report.{greatest};
+ghost use Rattle.ste_program.specs.private.Made.{HasNoNet, IsNetOf};
+ghost use Rattle.ste_program.specs.private.Texts.{OrMemory};
+
+use crate::refusal::Refusal;
+use blif_lines::logical_lines;
+use blif_syntax::{Models, read_models};
+use flat_net::flatten;
+use net_core::{Net, OrderFault, order};
+use net_names::NetNames;
+use std::alloc::Global;
+
+/// The models that the text of a netlist spells. The text is let go once its lines are there.
+pub fn models_of(alloc: Global, text: Vec<u8>) -> Result<Models, Refusal>
+    requires { length text.items ≤ greatest }
+    ensures { MatchResult result
+        (λ models. IsNetlist text.items models.models × AreCovered models.models)
+        (λ found. OrMemory (is_faulty text.items) found) }
+{
+    let lines = match logical_lines(alloc, &text) {
+        Ok(lines) => lines,
+        Err(_) => return Err(Refusal::OutOfMemory),
+    };
+    drop(text);
+    match read_models(alloc, lines.as_slice()) {
+        Ok(models) => Ok(models),
+        Err(fault) => Err(Refusal::from(fault)),
+    }
+}
+
+/// A flat net in a settled order, and the names of its nets.
+#[derive(Drop)]
+pub struct FlatNet {
+    pub net: Net,
+    pub names: NetNames,
+}
+
+/// The flat net of a netlist. The models are let go once it is there.
+pub fn net_of(alloc: Global, models: Models) -> Result<FlatNet, Refusal>
+    requires { AreCovered models.models }
+    ensures { MatchResult result
+        (λ flat. IsNetOf models.models flat.net.raw flat.names)
+        (λ found. OrMemory (HasNoNet models.models) found) }
+{
+    let (raw, names) = match flatten(alloc, &models) {
+        Ok(made) => made,
+        Err(fault) => return Err(Refusal::from(fault)),
+    };
+    drop(models);
+    match order(alloc, raw) {
+        Ok(net) => Ok(FlatNet { net, names }),
+        Err(OrderFault::Loop { net }) => match names.name(net).clone() {
+            Ok(name) => Err(Refusal::Loop(name)),
+            Err(_) => Err(Refusal::OutOfMemory),
+        },
+        Err(OrderFault::OutOfMemory) => Err(Refusal::OutOfMemory),
+    }
+}
+
+/// The flat net of the netlist that a text spells.
+pub fn netlist_of(alloc: Global, text: Vec<u8>) -> Result<FlatNet, Refusal>
+    requires { length text.items ≤ greatest }
+    ensures { MatchResult result
+        (λ flat. (models : List Model) × IsNetlist text.items models
+        × IsNetOf models flat.net.raw flat.names)
+        (λ found. OrMemory (IsFirst (info_stages text.items)) found) }
+{
+    let models = match models_of(alloc, text) {
+        Ok(models) => models,
+        Err(found) => return Err(found),
+    };
+    net_of(alloc, models)
+}

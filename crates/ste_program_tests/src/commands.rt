@@ -1,0 +1,162 @@
+//! What `run` writes and answers for words of every kind: the counts of a net, simulations, options, refusals of words.
+
+use crate::tests::{INVERTER, INVERTS, NOT_YET};
+use std::alloc::{AllocError, Global};
+use std::process::Abort;
+use std::test::Fail;
+use ste_io::{MemoryFiles, MemorySink};
+use ste_program::run::{Status, run};
+
+const USAGE: &str = "usage: stework (check NET TASKS or info NET or sim NET INPUTS or bench N) [--workers W] [--steps S] [--cubes C] [--wave] [--nodes]\n";
+
+const LATCH: &str = ".model l\n.inputs d\n.outputs q\n.latch d q 1\n.end\n";
+
+const TWO_TASKS: &str = ".ste e\n.end\n.ste f\n.end\n";
+
+/// The words, which stand behind the program's name with a space between two.
+fn words_of(alloc: Global, text: &str) -> Result<Vec<String>, AllocError> {
+    let mut words = Vec::new(alloc);
+    words.push(String::from_str(alloc, "stework")?)?;
+    for word in text.split(' ') {
+        words.push(String::from_str(alloc, word)?)?;
+    }
+    Ok(words)
+}
+
+/// Runs the program on the files `n` and `s`, and compares what it answers and writes.
+fn expect(
+    rt: &impl Abort,
+    alloc: Global,
+    words: &str,
+    net: &str,
+    second: &str,
+    status: Status,
+    out: &str,
+    err: &str,
+) -> Result<(), AllocError> {
+    let words = words_of(alloc, words)?;
+    let mut files = MemoryFiles::new(alloc, Vec::new(alloc));
+    files.add("n", net.as_bytes())?;
+    files.add("s", second.as_bytes())?;
+    let mut output = MemorySink::new(alloc, 200, 200, Vec::new(alloc))?;
+    let mut errors = MemorySink::new(alloc, 200, 200, Vec::new(alloc))?;
+    let found = run(alloc, &words, &mut files, &mut output, &mut errors);
+    assert_eq!(rt; output.bytes(), out.as_bytes(), "{second}");
+    assert_eq!(rt; errors.bytes(), err.as_bytes(), "{second}");
+    assert_eq!(rt; found, status, "{second}");
+    Ok(())
+}
+
+#[test]
+fn words_that_are_no_command(rt: HostRuntime) -> Result<(), Fail> {
+    let alloc = rt.alloc();
+    for words in [
+        "check n",
+        "check n s s",
+        "Check n s",
+        "",
+        "info n s",
+        "sim n",
+        "bench 0",
+        "bench 1001",
+        "bench 007",
+        "check n s --steps 0",
+        "check n s --steps 16000001",
+        "check n s --workers 65",
+        "check n s --cubes",
+        "check n s --what",
+        "--help",
+    ] {
+        expect(&rt, alloc, words, INVERTER, INVERTS, Status::Refused, "", USAGE)?;
+    }
+    Ok(())
+}
+
+#[test]
+fn what_is_not_done_yet(rt: HostRuntime) -> Result<(), Fail> {
+    let alloc = rt.alloc();
+    for words in ["bench 3", "check n s --nodes", "check missing s --nodes"] {
+        expect(&rt, alloc, words, "?", "?", Status::Refused, "", NOT_YET)?;
+    }
+    Ok(())
+}
+
+#[test]
+fn options_and_steps(rt: HostRuntime) -> Result<(), Fail> {
+    let alloc = rt.alloc();
+    let both = "e: pass\nf: pass\n";
+    for (words, status, out, err) in [
+        ("--wave check n --workers 2 s --cubes=3", Status::Passed, both, ""),
+        ("check n s --steps 8000000", Status::Passed, both, ""),
+        ("check n s --steps 8000001", Status::Refused, "", "stework: too many steps\n"),
+    ] {
+        expect(&rt, alloc, words, INVERTER, TWO_TASKS, status, out, err)?;
+    }
+    let graph = ".gste g v\n.end\n.ste f\n.end\n";
+    let many = "stework: too many steps\n";
+    let words = "check n s --steps 16000000";
+    expect(&rt, alloc, words, INVERTER, graph, Status::Refused, "", many)?;
+    let unknown = ".gste g v\n.end\n.ste f\n.con z = 1 from 0 to 1\n.end\n";
+    let named = "stework: s:4: unknown node z\n";
+    expect(&rt, alloc, words, INVERTER, unknown, Status::Refused, "", named)?;
+    Ok(())
+}
+
+#[test]
+fn counts_of_nets(rt: HostRuntime) -> Result<(), Fail> {
+    let alloc = rt.alloc();
+    for (net, out) in [
+        (
+            ".model m\n.inputs a\n.clock c\n.outputs y\n.latch f q re c 0\n.names a q y\n11 1\n.end\n",
+            "model m\nnets 5\ninputs 2\nfree 1\ngates 1\nlatches 1\n",
+        ),
+        (
+            ".model\n.outputs z y\n",
+            "model \nnets 2\ninputs 0\nfree 2\ngates 0\nlatches 0\n",
+        ),
+        (
+            ".model t\n.inputs a\n.subckt u x=a y=b\n.subckt u x=b\n.model u\n.inputs x\n.outputs y\n.names x y\n0 1\n",
+            "model t\nnets 3\ninputs 1\nfree 0\ngates 2\nlatches 0\n",
+        ),
+    ] {
+        expect(&rt, alloc, "info n", net, "?", Status::Passed, out, "")?;
+    }
+    let looped = ".model m\n.names y y\n1 1\n.end\n";
+    for (net, err) in [
+        (".model m\n.foo\n", "stework: n:2: unknown word .foo\n"),
+        (".model m\n.subckt m\n", "stework: n:2: recursive model m\n"),
+        (looped, "stework: n: loop at y\n"),
+    ] {
+        expect(&rt, alloc, "info n", net, "?", Status::Refused, "", err)?;
+        expect(&rt, alloc, "sim n s", net, "?", Status::Refused, "", err)?;
+    }
+    Ok(())
+}
+
+#[test]
+fn simulations(rt: HostRuntime) -> Result<(), Fail> {
+    let alloc = rt.alloc();
+    for (inputs, out) in [
+        (".order d\n0\n1\n0\n", "outputs q\n1\n0\n1\n"),
+        ("", "outputs q\n"),
+        (".order\n-\n-\n", "outputs q\n1\n0\n"),
+    ] {
+        expect(&rt, alloc, "sim n s", LATCH, inputs, Status::Passed, out, "")?;
+    }
+    let two = ".model m\n.inputs a b\n.outputs z b y z\n.names a b y\n10 1\n.names z\n.end\n";
+    let out = "outputs z b y\n000\n010\n001\n";
+    let inputs = ".order b a\n00\n10\n01\n";
+    expect(&rt, alloc, "sim n s", two, inputs, Status::Passed, out, "")?;
+    let silent = ".model m\n.inputs a\n.end\n";
+    let inputs = ".order a\n0\n1\n";
+    expect(&rt, alloc, "sim n s", silent, inputs, Status::Passed, "outputs\n\n\n", "")?;
+    for (inputs, err) in [
+        (".order d d\n", "stework: s:1: double name d\n"),
+        (".order z\n", "stework: s:1: unknown node z\n"),
+        (".order q\n", "stework: s:1: not an input: q\n"),
+        (".order d\n2\n", "stework: s:2: bad line\n"),
+    ] {
+        expect(&rt, alloc, "sim n s", LATCH, inputs, Status::Refused, "", err)?;
+    }
+    Ok(())
+}
