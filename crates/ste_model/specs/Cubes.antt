@@ -18,7 +18,8 @@ cofactor bit set rest = set (bit ∷ rest)
 abbrev pub are_same_sets : ℕ → AssignmentSet → AssignmentSet → Bool
 are_same_sets zero one other = if one [] then other [] else not (other [])
 are_same_sets (suc n) one other =
-    are_same_sets n (cofactor false one) (cofactor false other) && are_same_sets n (cofactor true one) (cofactor true other)
+    are_same_sets n (cofactor false one) (cofactor false other)
+    && are_same_sets n (cofactor true one) (cofactor true other)
 
 -- two sets have the same assignments of n variables
 abbrev pub AreOneSet : ℕ → AssignmentSet → AssignmentSet → Type 0
@@ -51,7 +52,8 @@ cube_list max vars set = first_cubes max (cubes_of vars set)
 
 -- whether an assignment has the bit of a literal
 abbrev pub satisfies : List Bool → (VarId × Bool) → Bool
-satisfies bits literal = if literal.1 then slice_index_or bits literal.0.0 false else not (slice_index_or bits literal.0.0 false)
+satisfies bits literal =
+    if literal.1 then slice_index_or bits literal.0.0 false else not (slice_index_or bits literal.0.0 false)
 
 -- whether a cube has an assignment
 abbrev pub is_in_cube : List Bool → List (VarId × Bool) → Bool
@@ -59,8 +61,10 @@ is_in_cube bits cube = list_all (satisfies bits) cube
 
 -- Law: the four cases of a list of cubes.
 pub record CubesFollowCases : Type 0 where
-  pub empty : (var n : ℕ) (set : AssignmentSet) → EachAssignment n (λ bits. set bits ≡ false) → cubes_from var n set ≡ []
-  pub full : (var n : ℕ) (set : AssignmentSet) → EachAssignment n (λ bits. set bits ≡ true) → cubes_from var n set ≡ [] ∷ []
+  pub empty : (var n : ℕ) (set : AssignmentSet) →
+      EachAssignment n (λ bits. set bits ≡ false) → cubes_from var n set ≡ []
+  pub full : (var n : ℕ) (set : AssignmentSet) →
+      EachAssignment n (λ bits. set bits ≡ true) → cubes_from var n set ≡ [] ∷ []
   pub same : (var n : ℕ) (set : AssignmentSet) → AreOneSet n (cofactor false set) (cofactor true set) →
       cubes_from var (suc n) set ≡ cubes_from (suc var) n (cofactor false set)
   pub differ : (var n : ℕ) (set : AssignmentSet) → ¬ AreOneSet n (cofactor false set) (cofactor true set) →
