@@ -5,6 +5,7 @@ pub mod Sourced
 pub mod Emptied
 pub mod Compressing
 pub mod NetRefs
+pub mod Known
 pub mod OtherRail
 pub mod Pairs
 pub mod Summing

@@ -24,6 +24,7 @@ use Rattle.net_core.specs.Work.{SymbolicSet, gate_set, gate_work, cover_set, cov
 use Rattle.net_core.proofs.Among.{get_some}
 use Rattle.dual_rail.specs.declared.rails.Rails.{Rails}
 use Rattle.dual_rail.specs.Rail.{Built, HasSet}
+use Rattle.sym_step.proofs.Known.{HaveOne, opposite_sums}
 use Rattle.sym_step.specs.declared.rows.CoverRows.{CoverRows}
 use Rattle.sym_step.specs.Step.{rows_of}
 
@@ -85,3 +86,26 @@ both_lists covers k lists n at sound lt width =
       apart = λ bits l. tells.off cover bits l ∙ ap not (sym (tells.on cover bits l));
     } in
     subst (λ (r : CoverRows). BothLists r n) (sym at.lists_are) (subst (BothLists (rows_of cover)) width own)
+
+-- the sets of inputs that are known have one bit each
+pub known_inputs : (sets : ℕ → SymbolicSet) (nets : List NetRails) (inputs : List NodeId) (s : Store) → All (λ input. (net_at nets input.0).known ≡ true) inputs → HaveInputs s sets nets inputs
+    → (bits : List Bool) → length bits ≡ s.vars → HaveOne bits (sets_at sets inputs)
+known_inputs sets nets inputs s known have bits l = go inputs (λ i e inside. (have i e inside).known (known i e inside) bits l)
+  where
+    go : (ids : List NodeId) → All (λ input. (sets input.0).zero bits ≡ not ((sets input.0).one bits)) ids → HaveOne bits (sets_at sets ids)
+    go [] h = All-nil (λ (w : SymbolicSet). w.zero bits ≡ not (w.one bits))
+    go (id ∷ ids) h = All-cons (λ (w : SymbolicSet). w.zero bits ≡ not (w.one bits)) (sets id.0) (sets_at sets ids)
+        (All-head (λ (input : NodeId). (sets input.0).zero bits ≡ not ((sets input.0).one bits)) id ids h) (go ids (All-tail (λ (input : NodeId). (sets input.0).zero bits ≡ not ((sets input.0).one bits)) id ids h))
+
+-- where each input has one bit, the output has
+pub known_output : (covers : List Cover) (k : ℕ) (lists : CoverRows) (sets : ℕ → SymbolicSet) (nets : List NetRails) (inputs : List NodeId) (s : Store) → (at : RowsAt covers k lists) → All IsCover covers → k < length covers
+    → at.cover.inputs ≡ length inputs → All (λ input. (net_at nets input.0).known ≡ true) inputs → HaveInputs s sets nets inputs
+    → (bits : List Bool) → length bits ≡ s.vars → (cover_set (slice_get covers k) (sets_at sets inputs)).zero bits ≡ not ((cover_set (slice_get covers k) (sets_at sets inputs)).one bits)
+known_output covers k lists sets nets inputs s at sound lt width known have bits l =
+    let ws : List SymbolicSet = sets_at sets inputs in
+    let long : length ws ≡ length inputs = length-map inputs (λ (input : NodeId). sets input.0) in
+    let both : BothLists lists (length ws) = both_lists covers k lists (length ws) at sound lt (width ∙ sym long) in
+    let made : SymbolicSet = gate_set lists.on.list lists.off.list ws in
+    let fact : made.zero bits ≡ not (made.one bits) = opposite_sums lists.on.list lists.off.list ws bits both.wide_on both.wide_off both.apart (known_inputs sets nets inputs s known have bits l) in
+    subst (λ (o : Option Cover). (cover_set o ws).zero bits ≡ not ((cover_set o ws).one bits)) (sym at.is)
+    (subst (λ (r : CoverRows). (gate_set r.on.list r.off.list ws).zero bits ≡ not ((gate_set r.on.list r.off.list ws).one bits)) at.lists_are fact)

@@ -1,11 +1,12 @@
 //! The set that a gate gives; begin with `gate_at`.
 
-ghost use Rattle.std.specs.Prelude.{◌≡◌, ◌↔◌, ◌≢◌, ◌<◌, ◌∷◌, [], ℕ, Bool, List, All, IfSome, IsTrue, length, not};
+ghost use Rattle.std.specs.Prelude.{◌≡◌, ◌↔◌, ◌≢◌, ◌<◌, ◌∷◌, [], ℕ, Bool, true, List, All, IfSome, IsTrue, length, not};
 ghost use Rattle.net_core.specs.declared.cover.Lit.TheVariants.{Any};
 ghost use Rattle.net_core.specs.Cover.{some_matches};
 ghost use Rattle.net_core.specs.Work.{AreWide, SymbolicSet, conjunction, disjunction, factor, gate_set, gate_work};
-ghost use Rattle.dual_rail.specs.Rail.{Built, HasSet};
-ghost use Rattle.sym_step.specs.private.Refused.{other_factor};
+ghost use Rattle.dd_nodes.specs.Stores.{IsRef, Means};
+ghost use Rattle.dual_rail.specs.Rail.{Built, HasFunction, HasSet};
+ghost use Rattle.sym_step.specs.private.Refused.{list_set, list_work, other_factor};
 ghost use Rattle.sym_step.specs.private.NetSets.{AreNetRails, AreNetRefs, HaveInputs, net_at, sets_at};
 
 use crate::net_rails::NetRails;
@@ -15,7 +16,7 @@ use crate::rows::CoverRows;
 use crate::sums::rows_sum;
 use dd_nodes::{Nodes, Ref};
 use dd_ops::{OpFault, Ops};
-use dual_rail::{Rails, both, either};
+use dual_rail::{Rails, both, either, opposite};
 use net_core::Lit;
 use ste_base::NodeId;
 
@@ -53,13 +54,40 @@ fn pair<N: Nodes>(
         (N.store nodes.old) (N.store nodes.new) result }
 {
     let can1 = both(ops, nodes, a.factor(x), b.factor(y))?;
-    let can0 = either(ops, nodes, a.other(x), b.other(y))?;
+    let can0 = refused_by_pair(ops, nodes, x, y, a, b, can1)?;
     Ok(Rails { can0, can1 })
 }
 
-/// The set that a gate gives, by the rows of its cover, where its inputs are nets by number, and none is empty anywhere
-/// where `full` says so. A gate of two inputs with one row then takes one product and one sum. `products` lends room for
-/// the products of the first literals of a row.
+/// Where one of two literals refuses some bit, `can1` being where both admit some.
+fn refused_by_pair<N: Nodes>(
+    ops: &Ops,
+    nodes: &mut N,
+    x: Lit,
+    y: Lit,
+    a: NetRails,
+    b: NetRails,
+    can1: Ref,
+) -> Result<Ref, OpFault>
+    requires first { AreNetRefs (N.store nodes.old) a }
+    requires second { AreNetRefs (N.store nodes.old) b }
+    requires admitted { IsRef (N.store nodes.old) can1 }
+    ensures { (v w : SymbolicSet)
+        → AreNetRails (N.store nodes.old) v a → AreNetRails (N.store nodes.old) w b
+        → Means (N.store nodes.old) (conjunction (factor x v) (factor y w)) can1
+        → Built (disjunction (other_factor x v) (other_factor y w) ∷ [])
+        (HasFunction (disjunction (other_factor x v) (other_factor y w)))
+        (N.store nodes.old) (N.store nodes.new) result }
+{
+    if a.known && b.known {
+        return opposite(ops, nodes, can1);
+    }
+    either(ops, nodes, a.other(x), b.other(y))
+}
+
+/// The set that a gate gives, by the rows of its cover, where its inputs are nets by number, none is empty anywhere where
+/// `full` says so, and each has exactly one bit everywhere where `known` does. A gate of two inputs with one row then
+/// takes one product and one sum, and any gate of which the inputs are known the sum of its shorter list of rows and one
+/// negation. `products` lends room for the products of the first literals of a row.
 pub fn gate_at<N: Nodes>(
     ops: &Ops,
     nodes: &mut N,
@@ -68,6 +96,7 @@ pub fn gate_at<N: Nodes>(
     nets: &[NetRails],
     inputs: &[NodeId],
     full: bool,
+    known: bool,
 ) -> Result<Rails, OpFault>
     requires on { rows.now.on.width ≡ length inputs.now }
     requires off { rows.now.off.width ≡ length inputs.now }
@@ -77,6 +106,8 @@ pub fn gate_at<N: Nodes>(
         → some_matches rows.now.off.list bits ≡ not (some_matches rows.now.on.list bits) }
     requires full { IsTrue full
         → All (λ input. (net_at nets.now input.0).some ≡ Ref.TRUE) inputs.now }
+    requires known { IsTrue known
+        → All (λ input. (net_at nets.now input.0).known ≡ true) inputs.now }
     requires room { length inputs.now < length products.old }
     requires inside { All (λ input. input.0 < length nets.now) inputs.now }
     requires refs { All (AreNetRefs (N.store nodes.old)) nets.now }
@@ -101,7 +132,79 @@ pub fn gate_at<N: Nodes>(
             });
         }
     }
+    if known {
+        return by_shorter(ops, nodes, rows, products, nets, inputs);
+    }
     by_rows(ops, nodes, rows, products, nets, inputs)
+}
+
+/// The number of pieces of a list of rows; 0 exactly where there is no row.
+fn size(rows: &RowList) -> usize
+    ensures { (result ≡ 0) ↔ (rows.now.list ≡ []) }
+{
+    rows.pieces().len()
+}
+
+/// Where some row of a list matches, and where none does, of inputs that each have exactly one bit: one sum, and its
+/// negation.
+fn by_list<N: Nodes>(
+    ops: &Ops,
+    nodes: &mut N,
+    rows: &RowList,
+    products: &mut [Ref],
+    nets: &[NetRails],
+    inputs: &[NodeId],
+) -> Result<Rails, OpFault>
+    requires width { rows.now.width ≡ length inputs.now }
+    requires room { length inputs.now < length products.old }
+    requires inside { All (λ input. input.0 < length nets.now) inputs.now }
+    requires refs { All (AreNetRefs (N.store nodes.old)) nets.now }
+    ensures room { length products.new ≡ length products.old }
+    ensures built { (sets : ℕ → SymbolicSet)
+        → HaveInputs (N.store nodes.old) sets nets.now inputs.now
+        → Built (list_work rows.now.list (sets_at sets inputs.now))
+        (HasSet (list_set rows.now.list (sets_at sets inputs.now)))
+        (N.store nodes.old) (N.store nodes.new) result }
+{
+    let can1 = rows_sum(ops, nodes, rows, products, nets, inputs)?;
+    let can0 = opposite(ops, nodes, can1)?;
+    Ok(Rails { can0, can1 })
+}
+
+/// The set that a gate gives, where each input has exactly one bit everywhere.
+fn by_shorter<N: Nodes>(
+    ops: &Ops,
+    nodes: &mut N,
+    rows: &CoverRows,
+    products: &mut [Ref],
+    nets: &[NetRails],
+    inputs: &[NodeId],
+) -> Result<Rails, OpFault>
+    requires on { rows.now.on.width ≡ length inputs.now }
+    requires off { rows.now.off.width ≡ length inputs.now }
+    requires wide_on { AreWide rows.now.on.list (length inputs.now) }
+    requires wide_off { AreWide rows.now.off.list (length inputs.now) }
+    requires apart { (bits : List Bool) → length bits ≡ length inputs.now
+        → some_matches rows.now.off.list bits ≡ not (some_matches rows.now.on.list bits) }
+    requires known { All (λ input. (net_at nets.now input.0).known ≡ true) inputs.now }
+    requires room { length inputs.now < length products.old }
+    requires inside { All (λ input. input.0 < length nets.now) inputs.now }
+    requires refs { All (AreNetRefs (N.store nodes.old)) nets.now }
+    ensures room { length products.new ≡ length products.old }
+    ensures built { (sets : ℕ → SymbolicSet)
+        → HaveInputs (N.store nodes.old) sets nets.now inputs.now
+        → Built (gate_work rows.now.on.list rows.now.off.list (sets_at sets inputs.now))
+        (HasSet (gate_set rows.now.on.list rows.now.off.list (sets_at sets inputs.now)))
+        (N.store nodes.old) (N.store nodes.new) result }
+{
+    if size(&rows.on) <= size(&rows.off) {
+        return by_list(ops, nodes, &rows.on, products, nets, inputs);
+    }
+    let opposed = by_list(ops, nodes, &rows.off, products, nets, inputs)?;
+    Ok(Rails {
+        can0: opposed.can1,
+        can1: opposed.can0,
+    })
 }
 
 /// The same by the products and sums of all rows.
@@ -128,6 +231,20 @@ fn by_rows<N: Nodes>(
     let can1 = rows_sum(ops, nodes, &rows.on, products, nets, inputs)?;
     let can0 = rows_sum(ops, nodes, &rows.off, products, nets, inputs)?;
     Ok(Rails { can0, can1 })
+}
+
+/// Whether each of these nets is known to have exactly one bit everywhere.
+pub fn are_known(nets: &[NetRails], inputs: &[NodeId]) -> bool
+    requires { All (λ input. input.0 < length nets.now) inputs.now }
+    ensures { IsTrue result
+        → All (λ input. (net_at nets.now input.0).known ≡ true) inputs.now }
+{
+    for input in inputs {
+        if !nets[input.0 as usize].known {
+            return false;
+        }
+    }
+    true
 }
 
 /// Whether each of these nets has some bit everywhere.

@@ -4,6 +4,7 @@
 
 pub mod cut;
 mod cuts;
+mod flagged;
 mod gates;
 pub mod laws;
 pub mod made;

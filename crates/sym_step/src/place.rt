@@ -12,7 +12,7 @@ ghost use Rattle.sym_step.specs.private.Parts.{AreMarks, HaveGates, asks};
 
 use crate::cut::Cut;
 use crate::cuts::cut_full;
-use crate::gates::{are_full, gate_at};
+use crate::gates::{are_full, are_known, gate_at};
 use crate::net_rails::NetRails;
 use crate::rows::GateRows;
 use dd_nodes::{Nodes, Ref};
@@ -56,8 +56,9 @@ fn place<N: Nodes>(
     let lists = &rows.covers.as_slice()[g.cover as usize];
     let inputs = g.inputs.as_slice();
     let full = are_full(nets, inputs);
-    let given = gate_at(ops, nodes, lists, products, nets, inputs, full)?;
-    cut_full(ops, nodes, cuts, marks, g.output.0, given, full)
+    let known = are_known(nets, inputs);
+    let given = gate_at(ops, nodes, lists, products, nets, inputs, full, known)?;
+    cut_full(ops, nodes, cuts, marks, g.output.0, given, full, known)
 }
 
 /// Gives the gates' outputs their sets, one after another.

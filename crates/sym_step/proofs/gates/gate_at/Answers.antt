@@ -1,4 +1,4 @@
-use Rattle.std.proofs.Common.{◌≡◌, ◌≢◌, ◌<◌, ℕ, Bool, not, List, [], ◌∷◌, All, length, get_or, sym, ◌∙◌, ap, subst, arith, Ok, Err}
+use Rattle.std.proofs.Common.{false, ◌≡◌, ◌≢◌, ◌<◌, ℕ, Bool, not, List, [], ◌∷◌, All, length, get_or, sym, ◌∙◌, ap, subst, arith, Ok, Err}
 use Rattle.std.proofs.lemmas.List.{get_or_default}
 use Rattle.std.proofs.Math.Bool.{not-not}
 use Rattle.ste_base.specs.declared.id.NodeId.{NodeId}
@@ -21,7 +21,7 @@ abbrev no_net : NodeId
 no_net = record { 0 = 0 }
 
 abbrev no_rails : NetRails
-no_rails = record { can0 = record { 0 = 0 }; can1 = record { 0 = 0 }; some = record { 0 = 0 } }
+no_rails = record { can0 = record { 0 = 0 }; can1 = record { 0 = 0 }; some = record { 0 = 0 }; known = false }
 
 -- what is known of the two inputs, as they were read
 known : (x y : Lit) (rows others : List (List Lit)) (nets : List NetRails) (inputs : List NodeId) (s : Store) → IsGood s → length inputs ≡ 2

@@ -1,4 +1,4 @@
-use Rattle.std.proofs.Common.{◌≡◌, ℕ, List, ◌∷◌, ◌++◌, length, get_or, sym, ◌∙◌, ap, subst, Ok, Err}
+use Rattle.std.proofs.Common.{◌≡◌, true, not, ℕ, List, ◌∷◌, ◌++◌, length, get_or, sym, ◌∙◌, ap, subst, Ok, Err}
 use Rattle.std.specs.Prelude.{All, slice_get}
 use Rattle.std.proofs.lemmas.List.Elements.{Contains-append_left, Contains-append_right}
 use Rattle.dd_nodes.specs.Diagram.{Function}
@@ -9,16 +9,15 @@ use Rattle.dual_rail.specs.Rail.{AreRails, Built, HasSet}
 use Rattle.dual_rail.proofs.Works.{Within, here, behind, So-start, Built-wider, first, last, pass, refs_of}
 use Rattle.dual_rail.proofs.Turns.{within_more}
 use Rattle.sym_step.specs.declared.rows.CoverRows.{CoverRows}
-use Rattle.sym_step.specs.private.NetSets.{HasNetSet}
+use Rattle.sym_step.specs.private.NetSets.{HasNetSet, own_where}
 use Rattle.sym_step.proofs.Cutting.{Demands-keep}
 use Rattle.sym_step.proofs.NetRefs.{own_inputs}
-use Rattle.sym_step.proofs.Placed.{RowsAt, rows_at, by_rows, both_lists, full_output}
+use Rattle.sym_step.proofs.Placed.{RowsAt, rows_at, by_rows, both_lists, full_output, known_output}
 use Rattle.ste_base.specs.declared.id.NodeId.{NodeId}
 use Rattle.net_core.specs.declared.cover.Cover.{Cover}
 use Rattle.net_core.specs.declared.raw.Gate.{Gate}
 use Rattle.net_core.specs.Work.{gate_set, gate_work}
 use Rattle.sym_step.specs.private.NetSets.{HaveInputs, net_at, sets_at}
-use Rattle.sym_step.proofs.NetRefs.{own_where}
 use Rattle.sym_step.proofs.place.place.Goals as goal
 
 pub gate_at-requires-clause-on : goal.gate_at-requires-clause-on
@@ -189,4 +188,7 @@ returns-clause-built g c = λ ds before sets zip have is.
     (c.cut_full.ensures ds before (Demands-keep s t ds c.args.cuts.now ds' dt a.spends.keeps zip) (subst (λ (w : SymbolicSet). AreRails t w given) (sym is) a.ok)
     (λ yes bits l. ap (λ (w : SymbolicSet). some_bit w bits) is
     ∙ full_output covers k lists sets c.args.nets.now gate.inputs s ds' at c.args.net.now.in_range.sound c.requires.cover (c.requires.width at.cover at.is)
-    (subst (λ (ids : List NodeId). All (λ input. (net_at c.args.nets.now input.0).some ≡ record { 0 = 1 }) ids) inputs_is (c.are_full-full.ensures.0 yes)) have bits (l ∙ a.spends.keeps.vars))))
+    (subst (λ (ids : List NodeId). All (λ input. (net_at c.args.nets.now input.0).some ≡ record { 0 = 1 }) ids) inputs_is (c.are_full-full.ensures.0 yes)) have bits (l ∙ a.spends.keeps.vars))
+    (λ yes bits l. subst (λ (w : SymbolicSet). w.zero bits ≡ not (w.one bits)) (sym is)
+    (known_output covers k lists sets c.args.nets.now gate.inputs s at c.args.net.now.in_range.sound c.requires.cover (c.requires.width at.cover at.is)
+    (subst (λ (ids : List NodeId). All (λ input. (net_at c.args.nets.now input.0).known ≡ true) ids) inputs_is (c.are_known-known.ensures yes)) have bits (l ∙ a.spends.keeps.vars)))))

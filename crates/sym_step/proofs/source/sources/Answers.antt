@@ -1,6 +1,6 @@
 use Rattle.std.proofs.Common.{◌≡◌, ◌<◌, List, map, length, replicate, All, ℕ, ◌∙◌, ap, arith, Ok, Err, subst, sym}
 use Rattle.sym_step.specs.private.Parts.{HasSource, HaveSources, asks}
-use Rattle.sym_step.specs.private.NetSets.{AreNetRefs}
+use Rattle.sym_step.specs.private.NetSets.{AreNetRefs, own_where}
 use Rattle.dd_nodes.specs.Diagram.{Function}
 use Rattle.dd_nodes.specs.Stores.{Store, IsRef, function}
 use Rattle.dd_nodes.proofs.Walks.{IsFrom-grows}
@@ -18,7 +18,7 @@ use Rattle.dual_rail.proofs.Turns.{zip_long, own_zip, Zip-keep}
 use Rattle.sym_step.proofs.Cutting.{Demands-keep}
 use Rattle.sym_step.proofs.Sourced.{sourced, cuts_within, all_unknown, unknown}
 use Rattle.sym_step.specs.declared.net_rails.NetRails.{NetRails}
-use Rattle.sym_step.proofs.NetRefs.{own_where, All-net-refs-keep}
+use Rattle.sym_step.proofs.NetRefs.{All-net-refs-keep}
 use Rattle.sym_step.proofs.Turning.{set_refs, with_some}
 use Rattle.dual_rail.proofs.Works.{Built-covers}
 use Rattle.dual_rail.specs.Rail.{AreRails}
@@ -101,7 +101,7 @@ loop-id-init g c =
     let gs = g.met.N.Nodes.diagram c.args.nodes.now in
     let net = c.args.net.now in
     let blank : c.in_ok-nets.nets.items ≡ replicate net.raw.nets unknown = c.in_ok-nets.ensures.items_if_clones_equal (λ y e. e)
-        ∙ ap (λ n. replicate n c.free.result) c.nets.ensures ∙ ap (λ (r : NetRails). replicate net.raw.nets r) c.free.ensures in
+    ∙ ap (λ n. replicate n c.free.result) c.nets.ensures ∙ ap (λ (r : NetRails). replicate net.raw.nets r) c.free.ensures in
     record {
       long = ap length blank ∙ length-replicate net.raw.nets unknown;
       keeps = Keeps-refl s;
