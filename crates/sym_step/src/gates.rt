@@ -6,7 +6,7 @@ ghost use Rattle.net_core.specs.Cover.{some_matches};
 ghost use Rattle.net_core.specs.Work.{AreWide, SymbolicSet, conjunction, disjunction, factor, gate_set, gate_work};
 ghost use Rattle.dd_nodes.specs.Stores.{IsRef, Means};
 ghost use Rattle.dual_rail.specs.Rail.{Built, HasFunction, HasSet};
-ghost use Rattle.sym_step.specs.private.Refused.{list_set, list_work, other_factor};
+ghost use Rattle.sym_step.specs.private.Refused.{agree, differ, exclusive_rows, flipped, list_set, list_work, other_factor};
 ghost use Rattle.sym_step.specs.private.NetSets.{AreNetRails, AreNetRefs, HaveInputs, net_at, sets_at};
 
 use crate::net_rails::NetRails;
@@ -58,7 +58,8 @@ fn pair<N: Nodes>(
     Ok(Rails { can0, can1 })
 }
 
-/// Where one of two literals refuses some bit, `can1` being where both admit some.
+/// Where one of two literals refuses some bit, `can1` being where both admit some. Where each input has exactly one bit,
+/// and one literal decides alone, nothing is called.
 fn refused_by_pair<N: Nodes>(
     ops: &Ops,
     nodes: &mut N,
@@ -78,10 +79,73 @@ fn refused_by_pair<N: Nodes>(
         (HasFunction (disjunction (other_factor x v) (other_factor y w)))
         (N.store nodes.old) (N.store nodes.new) result }
 {
+    let first = a.other(x);
+    let second = b.other(y);
     if a.known && b.known {
-        return opposite(ops, nodes, can1);
+        if can1 == a.factor(x) {
+            return Ok(first);
+        }
+        if can1 == b.factor(y) {
+            return Ok(second);
+        }
     }
-    either(ops, nodes, a.other(x), b.other(y))
+    either(ops, nodes, first, second)
+}
+
+/// Whether one literal is 0 and the other 1.
+fn are_opposed(x: Lit, y: Lit) -> bool
+    ensures { IsTrue result → (y ≡ flipped x) × (x ≢ Any) }
+{
+    match (x, y) {
+        (Lit::Zero, Lit::One) => true,
+        (Lit::One, Lit::Zero) => true,
+        _ => false,
+    }
+}
+
+/// The literals of the first row of an exclusive OR, or of its opposite.
+fn only_exclusive(rows: &RowList) -> Option<(Lit, Lit)>
+    requires { rows.now.width ≡ 2 }
+    ensures rows { IfSome result (λ p. rows.now.list ≡ exclusive_rows p.0 p.1) }
+    ensures first { IfSome result (λ p. p.0 ≢ Any) }
+    ensures second { IfSome result (λ p. p.1 ≢ Any) }
+{
+    match rows.pieces() {
+        [
+            Piece::Put(x),
+            Piece::Put(y),
+            Piece::Close(0),
+            Piece::Put(v),
+            Piece::Put(w),
+            Piece::Close(_),
+        ] if are_opposed(*x, *v) && are_opposed(*y, *w) => Some((*x, *y)),
+        _ => None,
+    }
+}
+
+/// The set of an exclusive OR of two inputs that each have exactly one bit, by the literals of its first row.
+fn exclusive<N: Nodes>(
+    ops: &Ops,
+    nodes: &mut N,
+    x: Lit,
+    y: Lit,
+    a: NetRails,
+    b: NetRails,
+) -> Result<Rails, OpFault>
+    requires first { AreNetRefs (N.store nodes.old) a }
+    requires second { AreNetRefs (N.store nodes.old) b }
+    ensures { (v w : SymbolicSet)
+        → AreNetRails (N.store nodes.old) v a → AreNetRails (N.store nodes.old) w b
+        → Built (differ x y v w ∷ agree x y v w ∷ [])
+        (HasSet (record { zero = agree x y v w; one = differ x y v w }))
+        (N.store nodes.old) (N.store nodes.new) result }
+{
+    let test = a.factor(x);
+    let admitted = b.factor(y);
+    let refused = b.other(y);
+    let can1 = ops.ite(nodes, test, admitted, refused)?;
+    let can0 = ops.ite(nodes, test, refused, admitted)?;
+    Ok(Rails { can0, can1 })
 }
 
 /// The set that a gate gives, by the rows of its cover, where its inputs are nets by number, none is empty anywhere where
@@ -130,6 +194,11 @@ pub fn gate_at<N: Nodes>(
                 can0: swapped.can1,
                 can1: swapped.can0,
             });
+        }
+        if a.known && b.known {
+            if let Some((x, y)) = only_exclusive(&rows.on) {
+                return exclusive(ops, nodes, x, y, a, b);
+            }
         }
     }
     if known {

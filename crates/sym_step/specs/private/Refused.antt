@@ -1,8 +1,8 @@
 -- For private functions. What a literal refuses of a set, and what a list of rows does.
-use Rattle.std.specs.Prelude.{List, ◌∷◌}
+use Rattle.std.specs.Prelude.{List, ◌∷◌, [], if◌then◌else◌}
 use Rattle.net_core.specs.declared.cover.Lit.{Lit}
 use Rattle.net_core.specs.declared.cover.Lit.TheVariants.{Zero, One, Any}
-use Rattle.net_core.specs.Work.{Function, SymbolicSet, negation, never, row_products, rows_work, sum}
+use Rattle.net_core.specs.Work.{Function, SymbolicSet, factor, negation, never, row_products, rows_work, sum}
 
 -- what a literal refuses of a set: o for 0, z for 1, nothing for -
 abbrev pub other_factor : Lit → SymbolicSet → Function
@@ -16,3 +16,24 @@ list_set rows sets = record { zero = negation (sum (row_products rows sets)); on
 
 abbrev pub list_work : List (List Lit) → List SymbolicSet → List Function
 list_work rows sets = negation (sum (row_products rows sets)) ∷ rows_work rows sets
+
+-- 1 for 0, 0 for 1, - for -
+abbrev pub flipped : Lit → Lit
+flipped Zero = One
+flipped One = Zero
+flipped Any = Any
+
+-- the rows that match where both literals admit their bits, or neither does
+abbrev pub exclusive_rows : Lit → Lit → List (List Lit)
+exclusive_rows x y = (x ∷ y ∷ []) ∷ (flipped x ∷ flipped y ∷ []) ∷ []
+
+-- f where the test is 1, and g where it is 0
+abbrev pub choice : Function → Function → Function → Function
+choice test f g bits = if test bits then f bits else g bits
+
+-- where such rows match, and where they do not, of sets that have one bit each
+abbrev pub differ : Lit → Lit → SymbolicSet → SymbolicSet → Function
+differ x y v w = choice (factor x v) (factor y w) (other_factor y w)
+
+abbrev pub agree : Lit → Lit → SymbolicSet → SymbolicSet → Function
+agree x y v w = choice (factor x v) (other_factor y w) (factor y w)
