@@ -9,6 +9,7 @@ mod gates;
 pub mod laws;
 pub mod made;
 mod net_rails;
+mod one_row;
 pub mod piece;
 mod place;
 pub mod row_list;

@@ -1,8 +1,9 @@
 -- For private functions. What a literal refuses of a set, and what a list of rows does.
-use Rattle.std.specs.Prelude.{List, ◌∷◌, [], if◌then◌else◌}
+use Rattle.std.specs.Prelude.{Bool, true, List, ◌∷◌, [], if◌then◌else◌}
+use Rattle.net_core.specs.Cases.{has_only_any}
 use Rattle.net_core.specs.declared.cover.Lit.{Lit}
 use Rattle.net_core.specs.declared.cover.Lit.TheVariants.{Zero, One, Any}
-use Rattle.net_core.specs.Work.{Function, SymbolicSet, factor, negation, never, row_products, rows_work, sum}
+use Rattle.net_core.specs.Work.{Function, SymbolicSet, disjunction, factor, negation, never, row_products, rows_work, sum}
 
 -- what a literal refuses of a set: o for 0, z for 1, nothing for -
 abbrev pub other_factor : Lit → SymbolicSet → Function
@@ -37,3 +38,26 @@ differ x y v w = choice (factor x v) (factor y w) (other_factor y w)
 
 abbrev pub agree : Lit → Lit → SymbolicSet → SymbolicSet → Function
 agree x y v w = choice (factor x v) (other_factor y w) (factor y w)
+
+-- each literal but the last one that is no - is 1 or -
+abbrev pub is_rising : List Lit → Bool
+is_rising [] = true
+is_rising (Any ∷ row) = is_rising row
+is_rising (One ∷ row) = is_rising row
+is_rising (Zero ∷ row) = has_only_any row
+
+-- a sum so far, with what each literal of a row that is no - refuses of its input
+abbrev pub refused_sums : Function → List Lit → List SymbolicSet → List Function
+refused_sums f [] sets = []
+refused_sums f (lit ∷ row) [] = []
+refused_sums f (Any ∷ row) (w ∷ sets) = refused_sums f row sets
+refused_sums f (Zero ∷ row) (w ∷ sets) = disjunction f w.one ∷ refused_sums (disjunction f w.one) row sets
+refused_sums f (One ∷ row) (w ∷ sets) = disjunction f w.zero ∷ refused_sums (disjunction f w.zero) row sets
+
+-- the last of these sums
+abbrev pub refused_total : Function → List Lit → List SymbolicSet → Function
+refused_total f [] sets = f
+refused_total f (lit ∷ row) [] = f
+refused_total f (Any ∷ row) (w ∷ sets) = refused_total f row sets
+refused_total f (Zero ∷ row) (w ∷ sets) = refused_total (disjunction f w.one) row sets
+refused_total f (One ∷ row) (w ∷ sets) = refused_total (disjunction f w.zero) row sets
