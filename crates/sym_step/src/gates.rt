@@ -302,30 +302,33 @@ fn by_rows<N: Nodes>(
     Ok(Rails { can0, can1 })
 }
 
-/// Whether each of these nets is known to have exactly one bit everywhere.
-pub fn are_known(nets: &[NetRails], inputs: &[NodeId]) -> bool
-    requires { All (λ input. input.0 < length nets.now) inputs.now }
-    ensures { IsTrue result
-        → All (λ input. (net_at nets.now input.0).known ≡ true) inputs.now }
-{
-    for input in inputs {
-        if !nets[input.0 as usize].known {
-            return false;
-        }
-    }
-    true
+/// What is clear of several nets: that each has some bit everywhere, and that each has exactly one.
+#[derive(Clone, Copy, Debug, PartialEq, Eq, Drop)]
+pub struct Filling {
+    pub full: bool,
+    pub known: bool,
 }
 
-/// Whether each of these nets has some bit everywhere.
-pub fn are_full(nets: &[NetRails], inputs: &[NodeId]) -> bool
+/// What is clear of these nets.
+pub fn filling_of(nets: &[NetRails], inputs: &[NodeId]) -> Filling
     requires { All (λ input. input.0 < length nets.now) inputs.now }
-    ensures { IsTrue result
-        ↔ All (λ input. (net_at nets.now input.0).some ≡ Ref.TRUE) inputs.now }
+    ensures full { IsTrue result.full
+        → All (λ input. (net_at nets.now input.0).some ≡ Ref.TRUE) inputs.now }
+    ensures known { IsTrue result.known
+        → All (λ input. (net_at nets.now input.0).known ≡ true) inputs.now }
 {
+    let mut known = true;
     for input in inputs {
-        if nets[input.0 as usize].some != Ref::TRUE {
-            return false;
+        let r = nets[input.0 as usize];
+        if r.some != Ref::TRUE {
+            return Filling {
+                full: false,
+                known: false,
+            };
+        }
+        if !r.known {
+            known = false;
         }
     }
-    true
+    Filling { full: true, known }
 }

@@ -15,7 +15,7 @@ ghost use Rattle.sym_step.specs.private.Refused.{is_rising};
 
 use crate::cut::Cut;
 use crate::cuts::cut_full;
-use crate::gates::{are_full, are_known, gate_at};
+use crate::gates::{Filling, filling_of, gate_at};
 use crate::net_rails::NetRails;
 use crate::one_row::{by_row, only_rising};
 use crate::rows::{CoverRows, GateRows};
@@ -136,8 +136,7 @@ fn place<N: Nodes>(
 {
     let lists = &rows.covers.as_slice()[g.cover as usize];
     let inputs = g.inputs.as_slice();
-    let full = are_full(nets, inputs);
-    let known = are_known(nets, inputs);
+    let Filling { full, known } = filling_of(nets, inputs);
     let cover = &net.covers()[g.cover as usize];
     let given = cover_gate(
         ops, nodes, cover, lists, products, nets, inputs, full, known,

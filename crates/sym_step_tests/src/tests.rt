@@ -402,6 +402,12 @@ const DIFFER: &str =
 const THREE: &str =
     ".model th\n.inputs a b c\n.outputs y z\n.names a b c y\n011 1\n.names a b c y z\n1-10 1\n0--1 1\n.end\n";
 
+const RISING: &str =
+    ".model ri\n.inputs a b c\n.outputs x y z\n.names a b c x\n111 1\n.names a b c y\n110 0\n.names a c b z\n1-0 1\n.end\n";
+
+const PARITY: &str =
+    ".model pa\n.inputs a b\n.outputs x y z\n.names a b x\n11 1\n00 1\n.names a b y\n10 0\n01 0\n.names x y z\n10 1\n01 1\n.end\n";
+
 const BOTH: &str =
     ".model both\n.inputs a\n.outputs y\n.names a n\n0 1\n.names a n y\n11 1\n.end\n";
 
@@ -458,6 +464,43 @@ const CASES: &[(&str, &[(&str, Bit, Bit)])] = &[
             ("a", Bit::P, Bit::Q),
             ("b", Bit::Q, Bit::P),
             ("c", Bit::One, Bit::P),
+        ],
+    ),
+    (RISING, &[]),
+    (RISING, &[("a", Bit::P, Bit::Q), ("b", Bit::Q, Bit::P)]),
+    (
+        RISING,
+        &[
+            ("a", Bit::One, Bit::P),
+            ("b", Bit::P, Bit::Q),
+            ("c", Bit::Q, Bit::One),
+        ],
+    ),
+    (
+        RISING,
+        &[
+            ("a", Bit::One, Bit::P),
+            ("b", Bit::One, Bit::Q),
+            ("c", Bit::One, Bit::P),
+        ],
+    ),
+    (
+        RISING,
+        &[
+            ("a", Bit::One, Bit::P),
+            ("a", Bit::Q, Bit::One),
+            ("c", Bit::One, Bit::Q),
+        ],
+    ),
+    (PARITY, &[("a", Bit::One, Bit::P), ("b", Bit::One, Bit::Q)]),
+    (PARITY, &[("a", Bit::One, Bit::P), ("b", Bit::One, Bit::P)]),
+    (PARITY, &[("a", Bit::One, Bit::Q), ("b", Bit::P, Bit::Q)]),
+    (
+        PARITY,
+        &[
+            ("a", Bit::One, Bit::P),
+            ("b", Bit::One, Bit::One),
+            ("x", Bit::Q, Bit::P),
         ],
     ),
     (BOTH, &[("a", Bit::One, Bit::P)]),

@@ -196,7 +196,7 @@ returns-clause-built g c = λ ds before sets zip have is.
     (c.cut_full.ensures ds before (Demands-keep s t ds c.args.cuts.now ds' dt a.spends.keeps zip) (subst (λ (w : SymbolicSet). AreRails t w given) (sym is) a.ok)
     (λ yes bits l. ap (λ (w : SymbolicSet). some_bit w bits) is
     ∙ full_output covers k lists sets c.args.nets.now gate.inputs s ds' at c.args.net.now.in_range.sound c.requires.cover (c.requires.width at.cover at.is)
-    (subst (λ (ids : List NodeId). All (λ input. (net_at c.args.nets.now input.0).some ≡ record { 0 = 1 }) ids) inputs_is (c.are_full-full.ensures.0 yes)) have bits (l ∙ a.spends.keeps.vars))
+    (subst (λ (ids : List NodeId). All (λ input. (net_at c.args.nets.now input.0).some ≡ record { 0 = 1 }) ids) inputs_is (c.filling_of-full.ensures.full yes)) have bits (l ∙ a.spends.keeps.vars))
     (λ yes bits l. subst (λ (w : SymbolicSet). w.zero bits ≡ not (w.one bits)) (sym is)
     (known_output covers k lists sets c.args.nets.now gate.inputs s at c.args.net.now.in_range.sound c.requires.cover (c.requires.width at.cover at.is)
-    (subst (λ (ids : List NodeId). All (λ input. (net_at c.args.nets.now input.0).known ≡ true) ids) inputs_is (c.are_known-known.ensures yes)) have bits (l ∙ a.spends.keeps.vars)))))
+    (subst (λ (ids : List NodeId). All (λ input. (net_at c.args.nets.now input.0).known ≡ true) ids) inputs_is (c.filling_of-full.ensures.known yes)) have bits (l ∙ a.spends.keeps.vars)))))
