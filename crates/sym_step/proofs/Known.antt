@@ -1,7 +1,6 @@
 -- Sets that have exactly one bit: where all inputs of a gate have, the sums of both lists of its rows are opposites.
-use Rattle.std.proofs.Common.{All, ◌≡◌, ◌≢◌, ◌≤◌, Bool, true, false, not, List, [], ◌∷◌, ◌++◌, ℕ, zero, suc, length, map, replicate, refl, sym, ◌∙◌, ap, subst, arith, Contains, Result}
+use Rattle.std.proofs.Common.{All, ◌≡◌, ◌≢◌, ◌≤◌, Bool, true, false, not, List, [], ◌∷◌, ℕ, zero, suc, length, map, replicate, refl, sym, ◌∙◌, ap, subst, arith, Contains, Result}
 use Rattle.std.specs.Prelude.{◌&&◌, ◌||◌, if◌then◌else◌}
-use Rattle.std.specs.List.{AllZip}
 use Rattle.std.proofs.lemmas.Bool.{false≢true}
 use Rattle.std.proofs.Math.Bool.{not-not}
 use Rattle.std.proofs.lemmas.List.{length-map, length-replicate}
@@ -17,7 +16,7 @@ use Rattle.net_core.specs.declared.cover.Lit.{Lit}
 use Rattle.net_core.specs.declared.cover.Lit.TheVariants.{Zero, One, Any}
 use Rattle.net_core.specs.Cover.{some_matches}
 use Rattle.net_core.specs.Sets.{IsIn}
-use Rattle.net_core.specs.Work.{AreWide, SymbolicSet, set_at, factor, negation, some_bit, sum, row_products, rows_work, gate_set, gate_work}
+use Rattle.net_core.specs.Work.{AreWide, SymbolicSet, factor, negation, some_bit, sum, row_products, rows_work, gate_set, gate_work}
 use Rattle.net_core.proofs.GateSets.{Choice, rows_choice, choice_rows}
 use Rattle.dual_rail.specs.declared.rails.Rails.{Rails}
 use Rattle.dual_rail.specs.Rail.{AreRails, Built, HasFunction, HasSet}

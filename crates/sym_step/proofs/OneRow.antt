@@ -1,6 +1,6 @@
 -- One more literal of the only row.
-use Rattle.std.proofs.Common.{All, ◌≡◌, ◌≤◌, ◌<◌, ◌+◌, Bool, true, false, List, [], ◌∷◌, ◌++◌, ℕ, zero, suc, length, map, drop, get_or, refl, sym, ◌∙◌, ap, subst, arith, Contains, Result, Ok}
-use Rattle.std.proofs.lemmas.List.{drop_more, get_or_default, length-map}
+use Rattle.std.proofs.Common.{All, ◌≡◌, ◌<◌, ◌+◌, List, [], ◌∷◌, ◌++◌, ℕ, length, drop, get_or, refl, sym, ◌∙◌, ap, subst, arith, Contains, Result, Ok}
+use Rattle.std.proofs.lemmas.List.{drop_more, length-map}
 use Rattle.std.proofs.lemmas.List.Elements.{Contains-append_left, Contains-append_right}
 use Rattle.ste_base.specs.declared.id.NodeId.{NodeId}
 use Rattle.dd_nodes.specs.declared.node.Ref.{Ref}

@@ -1,9 +1,8 @@
 -- A row of ones but for its last literal, over sets that are nowhere empty: what its literals refuse, added up one after another,
 -- is what the rows that it leaves out give, sum by sum.
-use Rattle.std.proofs.Common.{All, ◌≡◌, ◌≢◌, ◌≤◌, ◌<◌, ◌+◌, Bool, true, false, not, List, [], ◌∷◌, ◌++◌, ℕ, zero, suc, length, map, replicate, refl, sym, ◌∙◌, ap, subst, arith, get_or, inl, inr, Contains, Result}
+use Rattle.std.proofs.Common.{All, ◌≡◌, Bool, true, false, List, [], ◌∷◌, ◌++◌, ℕ, zero, suc, length, map, replicate, refl, sym, ◌∙◌, ap, subst, arith, get_or, inl, inr, Result}
 use Rattle.std.specs.Prelude.{◌&&◌, ◌||◌, if◌then◌else◌}
-use Rattle.std.specs.List.{list_all, list_any}
-use Rattle.std.proofs.lemmas.Bool.{false≢true, and_parts}
+use Rattle.std.proofs.lemmas.Bool.{false≢true}
 use Rattle.std.proofs.lemmas.List.Elements.{All-nil, All-cons, All-head, All-tail, Contains-append_left, Contains-append_right, Contains-append_cases}
 use Rattle.ste_base.specs.declared.id.NodeId.{NodeId}
 use Rattle.dd_nodes.specs.declared.node.Ref.{Ref}
@@ -25,7 +24,7 @@ use Rattle.dual_rail.proofs.Works.{here, behind, within_covers, Built-covers, Bu
 use Rattle.sym_step.specs.declared.net_rails.NetRails.{NetRails}
 use Rattle.sym_step.specs.private.NetSets.{HaveInputs, net_at, sets_at}
 use Rattle.sym_step.proofs.NetRefs.{one_at}
-use Rattle.sym_step.specs.private.Refused.{is_rising, other_factor, refused_sums, refused_total}
+use Rattle.sym_step.specs.private.Refused.{is_rising, refused_sums, refused_total}
 
 -- ---- the rows that one row leaves out
 

@@ -1,9 +1,8 @@
-use Rattle.std.proofs.Common.{[], ◌∷◌, List, Ok, Err, true, refl, sym, ◌∙◌, ap}
-use Rattle.std.specs.Prelude.{not}
+use Rattle.std.proofs.Common.{[], ◌∷◌, List, Ok, Err, true, refl}
 use Rattle.dd_nodes.specs.Diagram.{Function}
 use Rattle.dd_nodes.specs.Stores.{Store}
 use Rattle.dd_nodes.proofs.Stores.{Means-keeps}
-use Rattle.net_core.specs.Work.{SymbolicSet, negation}
+use Rattle.net_core.specs.Work.{negation}
 use Rattle.dual_rail.specs.Rail.{Built, HasFunction}
 use Rattle.dual_rail.proofs.Works.{here, not_built, So-start, Built-made, first, pass}
 use Rattle.sym_step.specs.declared.flagged.FlaggedRails.{FlaggedRails}

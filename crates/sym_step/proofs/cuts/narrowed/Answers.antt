@@ -1,4 +1,4 @@
-use Rattle.std.proofs.Common.{List, Ok, Err, false}
+use Rattle.std.proofs.Common.{List, Ok, false}
 use Rattle.std.proofs.lemmas.Bool.{false≢true}
 use Rattle.dd_nodes.specs.Diagram.{Function}
 use Rattle.dd_nodes.specs.Stores.{Store}

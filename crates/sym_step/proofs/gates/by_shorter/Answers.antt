@@ -1,4 +1,4 @@
-use Rattle.std.proofs.Common.{All, ◌≡◌, ◌≢◌, ◌≤◌, ◌<◌, true, not, Bool, ℕ, List, [], length, sym, ◌∙◌, ap, subst, arith, Ok, Err}
+use Rattle.std.proofs.Common.{All, ◌≡◌, true, not, Bool, ℕ, List, length, sym, ◌∙◌, ap, subst, arith, Ok, Err}
 use Rattle.std.proofs.lemmas.List.{length-map}
 use Rattle.std.proofs.Math.Bool.{not-not}
 use Rattle.ste_base.specs.declared.id.NodeId.{NodeId}
@@ -8,7 +8,7 @@ use Rattle.net_core.specs.declared.cover.Lit.{Lit}
 use Rattle.net_core.specs.Cover.{some_matches}
 use Rattle.net_core.specs.Work.{AreWide, SymbolicSet, gate_set, gate_work, row_products, sum}
 use Rattle.dual_rail.specs.declared.rails.Rails.{Rails}
-use Rattle.dual_rail.specs.Rail.{Built, HasSet}
+use Rattle.dual_rail.specs.Rail.{HasSet}
 use Rattle.dual_rail.proofs.Works.{So-start, Built-made, first, pass}
 use Rattle.sym_step.specs.declared.net_rails.NetRails.{NetRails}
 use Rattle.sym_step.specs.private.NetSets.{HaveInputs, net_at, sets_at}

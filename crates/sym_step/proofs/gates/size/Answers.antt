@@ -1,4 +1,4 @@
-use Rattle.std.proofs.Common.{◌≡◌, [], length, sym, ◌∙◌, ap}
+use Rattle.std.proofs.Common.{[], length, sym, ◌∙◌, ap}
 use Rattle.sym_step.specs.private.Pieces.{rows_from}
 use Rattle.sym_step.proofs.Compressing.{no_rows, nothing_long}
 use Rattle.sym_step.proofs.gates.size.Goals as goal

@@ -1,4 +1,4 @@
-use Rattle.std.proofs.Common.{List, ◌++◌, [], ◌∷◌, Ok, Err}
+use Rattle.std.proofs.Common.{List, ◌++◌, Ok, Err}
 use Rattle.std.proofs.lemmas.List.Elements.{Contains-append_left, Contains-append_right}
 use Rattle.dd_nodes.specs.Diagram.{Function}
 use Rattle.dd_nodes.specs.Stores.{Store}

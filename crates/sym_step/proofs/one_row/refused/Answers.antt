@@ -1,19 +1,19 @@
-use Rattle.std.proofs.Common.{false, ◌≡◌, ◌<◌, ◌+◌, ℕ, List, [], length, drop, get_or, sym, ◌∙◌, ap, subst, arith, Ok, Err}
-use Rattle.std.proofs.lemmas.List.{get_or_default, length-map, drop_all}
+use Rattle.std.proofs.Common.{false, ◌≡◌, ◌<◌, List, [], length, drop, get_or, sym, ◌∙◌, ap, subst, arith, Ok, Err}
+use Rattle.std.proofs.lemmas.List.{get_or_default, drop_all}
 use Rattle.ste_base.specs.declared.id.NodeId.{NodeId}
 use Rattle.dd_nodes.specs.Diagram.{Function}
-use Rattle.dd_nodes.specs.Stores.{Store, Means, function}
+use Rattle.dd_nodes.specs.Stores.{Store, Means}
 use Rattle.dd_nodes.proofs.Stores.{Keeps-refl, Keeps-trans}
-use Rattle.dd_nodes.proofs.Spending.{own, zero_means}
+use Rattle.dd_nodes.proofs.Spending.{zero_means}
 use Rattle.net_core.specs.declared.cover.Lit.{Lit}
 use Rattle.net_core.specs.declared.cover.Lit.TheVariants.{Zero, Any}
 use Rattle.net_core.specs.Work.{SymbolicSet, never}
 use Rattle.dual_rail.specs.Rail.{HasFunction}
 use Rattle.dual_rail.proofs.Works.{So-start, Built-made, pass}
 use Rattle.sym_step.specs.declared.net_rails.NetRails.{NetRails}
-use Rattle.sym_step.specs.private.NetSets.{AreNetRefs, own_where, sets_at}
+use Rattle.sym_step.specs.private.NetSets.{sets_at}
 use Rattle.sym_step.specs.private.Refused.{refused_sums, refused_total}
-use Rattle.sym_step.proofs.NetRefs.{Net-refs-keep, own_net}
+use Rattle.sym_step.proofs.NetRefs.{Net-refs-keep}
 use Rattle.sym_step.proofs.OneRow.{adds_start, adds_built, adds_next, next_total}
 use Rattle.sym_step.proofs.one_row.refused.Goals as goal
 

@@ -1,4 +1,4 @@
-use Rattle.std.proofs.Common.{List, ℕ}
+use Rattle.std.proofs.Common.{ℕ}
 use Rattle.dd_nodes.specs.Stores.{IsRef, Keeps}
 use Rattle.net_core.specs.Work.{SymbolicSet}
 use Rattle.sym_step.specs.private.NetSets.{HaveInputs, sets_at}

@@ -1,6 +1,4 @@
 use Rattle.std.proofs.Common.{List, length, subst}
-use Rattle.ste_base.specs.declared.id.NodeId.{NodeId}
-use Rattle.dd_nodes.specs.Stores.{Store}
 use Rattle.net_core.specs.Work.{SymbolicSet, gate_set, gate_work}
 use Rattle.dual_rail.specs.Rail.{Built, HasSet}
 use Rattle.sym_step.specs.declared.rows.CoverRows.{CoverRows}
