@@ -581,7 +581,10 @@ fn and_of(alloc: Global, inputs: u32) -> Result<Net, Fail>
 /// The sets of an AND of a thousand nets under each assignment, where this is asked of the first and of the last but one.
 fn wide_sets(alloc: Global, first: Bit, later: Bit) -> Result<Vec<BitSet>, Fail> {
     let net = and_of(alloc, 1000)?;
-    if net.nets() < 1001 || !are_few(alloc, net.covers())? {
+    if net.nets() < 1001 {
+        return Err("too few nets".into());
+    }
+    if !are_few(alloc, net.covers())? {
         return Err("too many cases".into());
     }
     let mut asked = Vec::new(alloc);
