@@ -8,7 +8,7 @@ pub mod laws;
 mod order;
 pub mod read;
 mod rows;
-mod settle;
+pub mod settle;
 pub mod simulation;
 
 pub use fault::InputFault;

@@ -1,6 +1,10 @@
 //! Why an operation has no result.
 
+ghost use Rattle.std.specs.Prelude.{◌≡◌};
+ghost use Rattle.dd_ops.specs.declared.fault.OpFault.TheVariants.{OutOfMemory};
+
 use dd_nodes::MkFault;
+use std::alloc::AllocError;
 use thiserror::Error;
 
 /// Why an operation has no result.
@@ -25,5 +29,13 @@ impl From<MkFault> for OpFault {
             MkFault::StepsOut => OpFault::StepsOut,
             MkFault::OutOfMemory => OpFault::OutOfMemory,
         }
+    }
+}
+
+impl From<AllocError> for OpFault {
+    ghost from_gives = { λ _ fault. fault ≡ OutOfMemory };
+
+    fn from(_fault: AllocError) -> OpFault {
+        OpFault::OutOfMemory
     }
 }

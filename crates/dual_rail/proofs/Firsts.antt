@@ -1,9 +1,10 @@
 -- Constants first.
-use Rattle.std.proofs.Common.{◌≡◌, Bool, true, false, refl, sym, ◌∙◌, ap, Ok}
+use Rattle.std.proofs.Common.{◌≡◌, Bool, true, false, not, refl, sym, ◌∙◌, ap, Ok}
 use Rattle.std.specs.Prelude.{◌&&◌, ◌||◌}
 use Rattle.dd_nodes.specs.declared.node.Ref.{Ref}
 use Rattle.dd_nodes.specs.Stores.{Store, IsRef, function}
 use Rattle.dd_nodes.proofs.Stores.{IsGood}
+use Rattle.dd_nodes.proofs.Spending.{one_means, zero_means}
 use Rattle.dd_ops.proofs.Steps.{Answer-settled}
 use Rattle.dd_ops.proofs.Terminal.{zero_bit, one_bit}
 use Rattle.dd_ops.specs.Answer.{Answer}
@@ -48,3 +49,9 @@ module _ (s : Store) (a b : Ref) (d : IsGood s) (ha : IsRef s a) (hb : IsRef s b
 
   pub or_right_one : b.0 ≡ 1 → Answer (λ bits. function s a bits || function s b bits) s s (Ok b)
   or_right_one e = Answer-settled (λ bits. function s a bits || function s b bits) s b (record { ref = hb; value = λ bits l. or_one (function s a bits) (function s b bits) (one_bit s b bits d e) })
+
+  pub opposite_one : a.0 ≡ 1 → Answer (λ bits. not (function s a bits)) s s (Ok (record { 0 = 0 }))
+  opposite_one e = Answer-settled (λ bits. not (function s a bits)) s (record { 0 = 0 }) (record { ref = (zero_means s d).ref; value = λ bits l. (zero_means s d).value bits l ∙ sym (ap not (one_bit s a bits d e)) })
+
+  pub opposite_zero : a.0 ≡ 0 → Answer (λ bits. not (function s a bits)) s s (Ok (record { 0 = 1 }))
+  opposite_zero e = Answer-settled (λ bits. not (function s a bits)) s (record { 0 = 1 }) (record { ref = (one_means s d).ref; value = λ bits l. (one_means s d).value bits l ∙ sym (ap not (zero_bit s a bits d e)) })

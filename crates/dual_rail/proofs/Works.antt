@@ -137,6 +137,12 @@ Built-lost {B} work Other s t p =
     let out : OpFault → Result B OpFault = Err in
     record { ok = tt; spends = Spends-out work s t ⊥ (out OutOfMemory ≡ Err StepsOut) (λ e. cc) p }
 
+-- with a want of memory that is handed on
+pub lost : {B : Type 0} (work : List Function) (Other : Store → B → Type 0) (s t : Store) (result : Result B OpFault) → SoFar work s t → IsErrAnd result (λ e. e ≡ OutOfMemory) → Built work Other s t result
+lost {B} work Other s t result p is =
+    let q = err_from_is_err_and result is in
+    subst (λ (r : Result B OpFault). Built work Other s t r) (sym (q.1 ∙ ap Err q.2)) (Built-lost work Other s t p)
+
 -- ---- rails
 
 -- rails keep their sets

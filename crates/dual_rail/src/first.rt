@@ -1,6 +1,6 @@
-//! Products and sums of two diagrams with a look at the constants first: `both` and `either`.
+//! Products, sums and opposites of diagrams with a look at the constants first: `both`, `either` and `opposite`.
 
-ghost use Rattle.std.specs.Prelude.{◌≡◌, ◌&&◌, ◌||◌};
+ghost use Rattle.std.specs.Prelude.{◌≡◌, ◌&&◌, ◌||◌, not};
 ghost use Rattle.dd_nodes.specs.Stores.{IsRef, function};
 ghost use Rattle.dd_ops.specs.Answer.{Answer};
 
@@ -51,4 +51,19 @@ pub fn either<N: Nodes>(ops: &Ops, nodes: &mut N, a: Ref, b: Ref) -> Result<Ref,
         return Ok(b);
     }
     ops.or(nodes, a, b)
+}
+
+/// The negation of a function. Of a constant it is the other one, and nothing is called.
+pub fn opposite<N: Nodes>(ops: &Ops, nodes: &mut N, a: Ref) -> Result<Ref, OpFault>
+    requires { IsRef (N.store nodes.old) a }
+    ensures { Answer (λ bits. not (function (N.store nodes.old) a bits))
+        (N.store nodes.old) (N.store nodes.new) result }
+{
+    if a == Ref::TRUE {
+        return Ok(Ref::FALSE);
+    }
+    if a == Ref::FALSE {
+        return Ok(Ref::TRUE);
+    }
+    ops.not(nodes, a)
 }

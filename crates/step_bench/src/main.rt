@@ -38,9 +38,7 @@ fn cuts<N: Nodes>(
         guard: Ref::TRUE,
         value: Ref::TRUE,
     };
-    let Ok(mut cuts) = vec![in alloc; blank; vars as usize] else {
-        return Err(OpFault::OutOfMemory);
-    };
+    let mut cuts = vec![in alloc; blank; vars as usize]?;
     for v in 0..vars {
         let value = ops.var(nodes, v)?;
         cuts[v as usize] = Cut {

@@ -134,3 +134,17 @@ any_at (suc n) (suc k) = any_at n k
 
 pub padded_blank : (width : ℕ) (begun : List Lit) (k : ℕ) → length begun ≤ k → get_or (padded width begun) k Any ≡ Any
 padded_blank width begun k le = get_or-append_right begun (replicate (width - length begun) Any) k Any le ∙ any_at (width - length begun) (k - length begun)
+
+-- sound pieces without a row are none
+pub no_rows : (width : ℕ) (pieces : List Piece) → are_sound width 0 false pieces ≡ true → rows_from width [] pieces ≡ [] → pieces ≡ []
+no_rows width [] e is = refl
+no_rows width (Put lit ∷ rest) e is =
+    let fit = put_fits width 0 lit false rest e in
+    let r = next_row width (lit ∷ []) rest (let lt = fit.0 in omega arith) fit.1 in
+    let clash : r.row ∷ r.others ≡ [] = sym r.is ∙ is in
+    absurd cc
+no_rows width (Close kept ∷ rest) e is = absurd cc
+
+pub nothing_long : (pieces : List Piece) → length pieces ≡ 0 → pieces ≡ []
+nothing_long [] e = refl
+nothing_long (p ∷ ps) e = absurd (omega (arith, e))

@@ -1,15 +1,20 @@
 -- Cuts of one net, one after another.
 use Rattle.std.proofs.Common.{◌≡◌, ◌≢◌, ℕ, zero, suc, ◌+◌, ◌<◌, Bool, false, List, [], ◌∷◌, length, map, take, get_or, refl, sym, ◌∙◌, ap, subst, arith, Ok, Result, eq-eqb, ne_eqb, true, All}
-use Rattle.std.specs.Prelude.{if◌then◌else◌}
+use Rattle.std.specs.Prelude.{◌&&◌, not, if◌then◌else◌}
 use Rattle.std.specs.List.{AllZip}
+use Rattle.std.proofs.lemmas.Bool.{false≢true}
 use Rattle.std.proofs.lemmas.List.Elements.{All-head, All-tail, Contains-append_left, Contains-append_right}
 use Rattle.dd_nodes.specs.Diagram.{Function}
 use Rattle.dd_nodes.specs.Stores.{Store, IsRef, Keeps, function}
 use Rattle.dd_nodes.proofs.Stores.{IsGood, Means-keeps}
 use Rattle.dd_ops.specs.declared.fault.OpFault.{OpFault}
-use Rattle.net_core.specs.Work.{SymbolicSet, SymbolicCut, cut_work, cut_set, after_cut, after_cuts, cuts_work}
-use Rattle.dual_rail.specs.declared.rails.Rails.{Rails}
-use Rattle.dual_rail.specs.Rail.{Built, HasSet, AreRails}
+use Rattle.net_core.specs.Work.{SymbolicSet, SymbolicCut, negation, cut_work, cut_set, after_cut, after_cuts, cuts_work}
+use Rattle.sym_step.specs.declared.flagged.FlaggedRails.{FlaggedRails}
+use Rattle.dual_rail.specs.Rail.{Built}
+use Rattle.sym_step.specs.private.NetSets.{AreFlagged, AreFlaggedRefs, HasFlagged}
+use Rattle.sym_step.proofs.Summing.{within_one}
+use Rattle.dd_nodes.proofs.Spending.{Means-same}
+use Rattle.dual_rail.proofs.Works.{Built-good, own_set, set_where, refs_of}
 use Rattle.dual_rail.proofs.Works.{SoFar}
 use Rattle.dual_rail.proofs.Works.{Within, Built-wider, last, So-start, Built-made}
 use Rattle.dd_nodes.proofs.Spending.{own}
@@ -17,18 +22,57 @@ use Rattle.sym_step.specs.declared.cut.Cut.{Cut}
 use Rattle.sym_step.specs.Step.{IsCutBy}
 use Rattle.sym_step.specs.private.Parts.{AreMarks}
 
-pub cut_here : (d : SymbolicCut) (sets : ℕ → SymbolicSet) (id : ℕ) (s t : Store) (result : Result Rails OpFault) → d.node ≡ id
-    → Built (cut_work (sets id) d.guard d.value) (HasSet (cut_set (sets id) d.guard d.value)) s t result → Built (cut_work (sets d.node) d.guard d.value) (HasSet (after_cut d sets id)) s t result
+pub cut_here : (d : SymbolicCut) (sets : ℕ → SymbolicSet) (id : ℕ) (s t : Store) (result : Result FlaggedRails OpFault) → d.node ≡ id
+    → Built (cut_work (sets id) d.guard d.value) (HasFlagged (cut_set (sets id) d.guard d.value)) s t result → Built (cut_work (sets d.node) d.guard d.value) (HasFlagged (after_cut d sets id)) s t result
 cut_here d sets id s t result e b =
     let is : after_cut d sets id ≡ cut_set (sets id) d.guard d.value = ap (λ (x : Bool). if x then cut_set (sets id) d.guard d.value else sets id) (eq-eqb d.node id e) in
-    subst (λ (n : ℕ). Built (cut_work (sets n) d.guard d.value) (HasSet (after_cut d sets id)) s t result) (sym e)
-    (subst (λ (w : SymbolicSet). Built (cut_work (sets id) d.guard d.value) (HasSet w) s t result) (sym is) b)
+    subst (λ (n : ℕ). Built (cut_work (sets n) d.guard d.value) (HasFlagged (after_cut d sets id)) s t result) (sym e)
+    (subst (λ (w : SymbolicSet). Built (cut_work (sets id) d.guard d.value) (HasFlagged w) s t result) (sym is) b)
 
-pub cut_elsewhere : (d : SymbolicCut) (sets : ℕ → SymbolicSet) (id : ℕ) (s : Store) (r : Rails) (result : Result Rails OpFault) → d.node ≢ id → AreRails s (sets id) r
-    → Built (cut_work (sets d.node) d.guard d.value) (HasSet (after_cut d sets id)) s s (Ok r)
+left_zero : (z g x : Bool) → z ≡ true → g ≡ true → not x ≡ (z && not (g && x))
+left_zero true true x e f = refl
+left_zero true false x e f = absurd (false≢true f)
+left_zero false g x e f = absurd (false≢true e)
+
+left_one : (o g x : Bool) → o ≡ true → g ≡ true → x ≡ (o && not (g && not x))
+left_one true true true e f = refl
+left_one true true false e f = refl
+left_one true false x e f = absurd (false≢true f)
+left_one false g x e f = absurd (false≢true e)
+
+-- a cut with the guard 1 leaves the value of both bits
+pub bound_here : (w : SymbolicSet) (g x : Function) (s t : Store) (result : Result FlaggedRails OpFault)
+    → ((bits : List Bool) → length bits ≡ s.vars → w.zero bits ≡ true) → ((bits : List Bool) → length bits ≡ s.vars → w.one bits ≡ true) → ((bits : List Bool) → length bits ≡ s.vars → g bits ≡ true)
+    → Built (negation x ∷ []) (HasFlagged (record { zero = negation x; one = x })) s t result → Built (cut_work w g x) (HasFlagged (cut_set w g x)) s t result
+bound_here w g x s t result wz wo on b =
+    let alone : SymbolicSet = record { zero = negation x; one = x } in
+    let work : List Function = cut_work w g x in
+    let vars = b.spends.keeps.vars in
+    let zero_is : (bits : List Bool) → length bits ≡ t.vars → not (x bits) ≡ (cut_set w g x).zero bits = λ bits l. left_zero (w.zero bits) (g bits) (x bits) (wz bits (l ∙ vars)) (on bits (l ∙ vars)) in
+    let one_is : (bits : List Bool) → length bits ≡ t.vars → x bits ≡ (cut_set w g x).one bits = λ bits l. left_one (w.one bits) (g bits) (x bits) (wo bits (l ∙ vars)) (on bits (l ∙ vars)) in
+    Built-good work (HasFlagged alone) (HasFlagged (cut_set w g x)) s t result (λ a h. record {
+      rails = record {
+        zero = Means-same t (negation x) (cut_set w g x).zero a.rails.can0 zero_is h.rails.zero;
+        one = Means-same t x (cut_set w g x).one a.rails.can1 one_is h.rails.one;
+      };
+      known = λ yes bits l. sym (zero_is bits l) ∙ ap not (one_is bits l);
+    })
+    (Built-wider work (negation x ∷ []) (HasFlagged alone) s t result (within_one (negation x) work (0, omega arith, refl)) b)
+
+pub own_flagged : (s : Store) (r : FlaggedRails) → AreFlaggedRefs s r → AreFlagged s (set_where s r.rails) r
+own_flagged s r h = record { rails = own_set s r.rails h.rails; known = h.known }
+
+pub flagged_refs : (s : Store) (w : SymbolicSet) (r : FlaggedRails) → AreFlagged s w r → AreFlaggedRefs s r
+flagged_refs s w r m = record {
+  rails = refs_of s w r.rails m.rails;
+  known = λ yes bits l. m.rails.zero.value bits l ∙ m.known yes bits l ∙ ap not (sym (m.rails.one.value bits l));
+}
+
+pub cut_elsewhere : (d : SymbolicCut) (sets : ℕ → SymbolicSet) (id : ℕ) (s : Store) (r : FlaggedRails) (result : Result FlaggedRails OpFault) → d.node ≢ id → AreFlagged s (sets id) r
+    → Built (cut_work (sets d.node) d.guard d.value) (HasFlagged (after_cut d sets id)) s s (Ok r)
 cut_elsewhere d sets id s r result ne h =
     let is : after_cut d sets id ≡ sets id = ap (λ (x : Bool). if x then cut_set (sets id) d.guard d.value else sets id) (ne_eqb d.node id ne) in
-    Built-made (cut_work (sets d.node) d.guard d.value) (HasSet (after_cut d sets id)) s s r (So-start (cut_work (sets d.node) d.guard d.value) s) (subst (λ (w : SymbolicSet). AreRails s w r) (sym is) h)
+    Built-made (cut_work (sets d.node) d.guard d.value) (HasFlagged (after_cut d sets id)) s s r (So-start (cut_work (sets d.node) d.guard d.value) s) (subst (λ (w : SymbolicSet). AreFlagged s w r) (sym is) h)
 
 after_step : (ds : List SymbolicCut) (f : ℕ → SymbolicSet) (k : ℕ) (d : SymbolicCut) → k < length ds → after_cuts (take (suc k) ds) f ≡ after_cut (get_or ds k d) (after_cuts (take k ds) f)
 after_step [] f k d lt = absurd (omega arith)
@@ -74,10 +118,10 @@ nothing : SymbolicCut
 nothing = record { node = 0; guard = λ bits. false; value = λ bits. false }
 
 -- one more cut
-pub cut_turn : (ds : List SymbolicCut) (sets : ℕ → SymbolicSet) (cuts : List Cut) (s t u : Store) (k : ℕ) (c : Cut) (id : ℕ) (left : Rails) (result : Result Rails OpFault)
-    → IsGood s → IsGood t → IsGood u → k < length cuts → get_or cuts k c ≡ c → AllZip (IsCutBy s) ds cuts → SoFar (cuts_work ds sets) s t → AreRails t (after_cuts (take k ds) sets id) left
-    → ((d : SymbolicCut) (f : ℕ → SymbolicSet) → IsCutBy t d c → AreRails t (f id) left → Built (cut_work (f d.node) d.guard d.value) (HasSet (after_cut d f id)) t u result)
-    → Built (cuts_work ds sets) (HasSet (after_cuts (take (k + 1) ds) sets id)) s u result
+pub cut_turn : (ds : List SymbolicCut) (sets : ℕ → SymbolicSet) (cuts : List Cut) (s t u : Store) (k : ℕ) (c : Cut) (id : ℕ) (left : FlaggedRails) (result : Result FlaggedRails OpFault)
+    → IsGood s → IsGood t → IsGood u → k < length cuts → get_or cuts k c ≡ c → AllZip (IsCutBy s) ds cuts → SoFar (cuts_work ds sets) s t → AreFlagged t (after_cuts (take k ds) sets id) left
+    → ((d : SymbolicCut) (f : ℕ → SymbolicSet) → IsCutBy t d c → AreFlagged t (f id) left → Built (cut_work (f d.node) d.guard d.value) (HasFlagged (after_cut d f id)) t u result)
+    → Built (cuts_work ds sets) (HasFlagged (after_cuts (take (k + 1) ds) sets id)) s u result
 cut_turn ds sets cuts s t u k c id left result gs gt gu lt is zip so means call =
     let n = demands_long s ds cuts zip in
     let d : SymbolicCut = get_or ds k nothing in
@@ -85,9 +129,9 @@ cut_turn ds sets cuts s t u k c id left result gs gt gu lt is zip so means call 
     let inside : k < length ds = omega (arith, n) in
     let asked : IsCutBy s d c = subst (IsCutBy s d) is (demand_at s ds cuts k nothing c zip lt) in
     let work : List Function = cuts_work ds sets in
-    subst (λ (g : ℕ → SymbolicSet). Built work (HasSet (g id)) s u result) (sym (after_next ds sets k nothing inside))
-    (last work (HasSet (after_cut d f id)) s t u result gt gu so
-    (Built-wider work (cut_work (f d.node) d.guard d.value) (HasSet (after_cut d f id)) t u result (cuts_has ds sets k nothing inside) (call d f (SymbolicCut-keeps s t d c gs gt so.keeps asked) means)))
+    subst (λ (g : ℕ → SymbolicSet). Built work (HasFlagged (g id)) s u result) (sym (after_next ds sets k nothing inside))
+    (last work (HasFlagged (after_cut d f id)) s t u result gt gu so
+    (Built-wider work (cut_work (f d.node) d.guard d.value) (HasFlagged (after_cut d f id)) t u result (cuts_has ds sets k nothing inside) (call d f (SymbolicCut-keeps s t d c gs gt so.keeps asked) means)))
 
 -- no cut is of a net without a mark
 pub unmarked : (s : Store) (ds : List SymbolicCut) (cuts : List Cut) (marks : List Bool) (id : ℕ) (f : ℕ → SymbolicSet) → AllZip (IsCutBy s) ds cuts → AreMarks cuts marks → get_or marks id false ≡ false

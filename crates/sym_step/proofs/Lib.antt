@@ -5,6 +5,9 @@ pub mod Sourced
 pub mod Emptied
 pub mod Compressing
 pub mod NetRefs
+pub mod Known
+pub mod OneRow
+pub mod Refusals
 pub mod OtherRail
 pub mod Pairs
 pub mod Summing

@@ -26,7 +26,7 @@ refusal Any w bits e = absurd cc
 some_choice : (w : SymbolicSet) (bits : List Bool) → some_bit w bits ≡ true → (b : Bool) × IsIn b (set_at bits w)
 some_choice w bits e = elim (or_cases (w.zero bits) (w.one bits) e) [ inl z ↦ (false, z) | inr o ↦ (true, o) ]
 
-same_bits : (a b : Bool) → (a ≡ true → b ≡ true) → (b ≡ true → a ≡ true) → a ≡ b
+pub same_bits : (a b : Bool) → (a ≡ true → b ≡ true) → (b ≡ true → a ≡ true) → a ≡ b
 same_bits true b f g = sym (f refl)
 same_bits false true f g = g refl
 same_bits false false f g = refl

@@ -32,7 +32,7 @@ whole_in join f g [] = here (join f g) []
 whole_in join f g (h ∷ hs) = behind (join f g) (chain join (join f g) (h ∷ hs)) (whole join (join f g) (h ∷ hs)) (whole_in join (join f g) h hs)
 
 -- where some row is there, the whole sum is among the sums
-sum_in : (rows : List (List Lit)) (ws : List SymbolicSet) → rows ≢ [] → Contains (rows_work rows ws) (sum (row_products rows ws))
+pub sum_in : (rows : List (List Lit)) (ws : List SymbolicSet) → rows ≢ [] → Contains (rows_work rows ws) (sum (row_products rows ws))
 sum_in [] ws some = absurd (some refl)
 sum_in (row ∷ rows) ws some =
     let fs : List Function = row_products (row ∷ rows) ws in

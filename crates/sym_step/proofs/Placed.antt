@@ -12,6 +12,7 @@ use Rattle.dd_nodes.specs.declared.node.Ref.{Ref}
 use Rattle.dd_nodes.specs.Stores.{Store, function}
 use Rattle.dd_nodes.proofs.Stores.{IsGood}
 use Rattle.dd_ops.proofs.Terminal.{one_bit}
+use Rattle.net_core.specs.Cases.{on_rows, off_rows}
 use Rattle.net_core.specs.Cover.{IsCover, some_matches}
 use Rattle.net_core.specs.Work.{AreWide, some_bit}
 use Rattle.net_core.proofs.Complement.{rows_tell_the_bit}
@@ -24,6 +25,7 @@ use Rattle.net_core.specs.Work.{SymbolicSet, gate_set, gate_work, cover_set, cov
 use Rattle.net_core.proofs.Among.{get_some}
 use Rattle.dual_rail.specs.declared.rails.Rails.{Rails}
 use Rattle.dual_rail.specs.Rail.{Built, HasSet}
+use Rattle.sym_step.proofs.Known.{HaveOne, opposite_sums}
 use Rattle.sym_step.specs.declared.rows.CoverRows.{CoverRows}
 use Rattle.sym_step.specs.Step.{rows_of}
 
@@ -43,13 +45,15 @@ rows_at covers rows k d are lt =
       lists_are = ap (λ (xs : List CoverRows). get_or xs k d) are ∙ get_or-map rows_of covers k cover d lt ∙ ap rows_of (get_or_from_slice_get covers k cover cover known.1);
     }
 
--- a gate's set by its rows is its set by its cover
-pub by_rows : (covers : List Cover) (k : ℕ) (lists : CoverRows) (ws : List SymbolicSet) (s t : Store) (result : Result Rails OpFault) → RowsAt covers k lists
-    → Built (gate_work lists.on.list lists.off.list ws) (HasSet (gate_set lists.on.list lists.off.list ws)) s t result
+-- the cover that was read is that one
+pub cover_is : (covers : List Cover) (k : ℕ) (lists : CoverRows) (at : RowsAt covers k lists) (cover : Cover) → cover ≡ get_or covers k cover → cover ≡ at.cover
+cover_is covers k lists at cover e = e ∙ get_or_from_slice_get covers k at.cover cover at.is
+
+-- a gate's set by the lists of a cover is that of the cover of that number
+pub by_cover : (covers : List Cover) (k : ℕ) (cover : Cover) (ws : List SymbolicSet) (s t : Store) (result : Result Rails OpFault) → slice_get covers k ≡ Some cover
+    → Built (gate_work (on_rows cover) (off_rows cover) ws) (HasSet (gate_set (on_rows cover) (off_rows cover) ws)) s t result
     → Built (cover_work (slice_get covers k) ws) (HasSet (cover_set (slice_get covers k) ws)) s t result
-by_rows covers k lists ws s t result at h =
-    subst (λ (o : Option Cover). Built (cover_work o ws) (HasSet (cover_set o ws)) s t result) (sym at.is)
-    (subst (λ (r : CoverRows). Built (gate_work r.on.list r.off.list ws) (HasSet (gate_set r.on.list r.off.list ws)) s t result) at.lists_are h)
+by_cover covers k cover ws s t result is h = subst (λ (o : Option Cover). Built (cover_work o ws) (HasSet (cover_set o ws)) s t result) (sym is) h
 
 -- where no input is empty, the output is not
 pub full_output : (covers : List Cover) (k : ℕ) (lists : CoverRows) (sets : ℕ → SymbolicSet) (nets : List NetRails) (inputs : List NodeId) (s : Store) → IsGood s → (at : RowsAt covers k lists) → All IsCover covers → k < length covers
@@ -74,14 +78,38 @@ pub record BothLists (lists : CoverRows) (n : ℕ) : Type 0 where
   pub wide_off : AreWide lists.off.list n
   pub apart : (bits : List Bool) → length bits ≡ n → some_matches lists.off.list bits ≡ not (some_matches lists.on.list bits)
 
-pub both_lists : (covers : List Cover) (k : ℕ) (lists : CoverRows) (n : ℕ) (at : RowsAt covers k lists) → All IsCover covers → k < length covers → at.cover.inputs ≡ n → BothLists lists n
-both_lists covers k lists n at sound lt width =
-    let cover : Cover = at.cover in
-    let is_sound : IsCover cover = subst IsCover (get_or_from_slice_get covers k cover cover at.is) (sound k cover lt) in
+pub cover_lists : (cover : Cover) (lists : CoverRows) (n : ℕ) → lists ≡ rows_of cover → IsCover cover → cover.inputs ≡ n → BothLists lists n
+cover_lists cover lists n are sound width =
     let tells = rows_tell_the_bit in
     let own : BothLists (rows_of cover) cover.inputs = record {
-      wide_on = tells.on_wide cover is_sound;
-      wide_off = tells.off_wide cover is_sound;
+      wide_on = tells.on_wide cover sound;
+      wide_off = tells.off_wide cover sound;
       apart = λ bits l. tells.off cover bits l ∙ ap not (sym (tells.on cover bits l));
     } in
-    subst (λ (r : CoverRows). BothLists r n) (sym at.lists_are) (subst (BothLists (rows_of cover)) width own)
+    subst (λ (r : CoverRows). BothLists r n) (sym are) (subst (BothLists (rows_of cover)) width own)
+
+pub both_lists : (covers : List Cover) (k : ℕ) (lists : CoverRows) (n : ℕ) (at : RowsAt covers k lists) → All IsCover covers → k < length covers → at.cover.inputs ≡ n → BothLists lists n
+both_lists covers k lists n at sound lt width = cover_lists at.cover lists n at.lists_are (subst IsCover (get_or_from_slice_get covers k at.cover at.cover at.is) (sound k at.cover lt)) width
+
+-- the sets of inputs that are known have one bit each
+pub known_inputs : (sets : ℕ → SymbolicSet) (nets : List NetRails) (inputs : List NodeId) (s : Store) → All (λ input. (net_at nets input.0).known ≡ true) inputs → HaveInputs s sets nets inputs
+    → (bits : List Bool) → length bits ≡ s.vars → HaveOne bits (sets_at sets inputs)
+known_inputs sets nets inputs s known have bits l = go inputs (λ i e inside. (have i e inside).known (known i e inside) bits l)
+  where
+    go : (ids : List NodeId) → All (λ input. (sets input.0).zero bits ≡ not ((sets input.0).one bits)) ids → HaveOne bits (sets_at sets ids)
+    go [] h = All-nil (λ (w : SymbolicSet). w.zero bits ≡ not (w.one bits))
+    go (id ∷ ids) h = All-cons (λ (w : SymbolicSet). w.zero bits ≡ not (w.one bits)) (sets id.0) (sets_at sets ids)
+        (All-head (λ (input : NodeId). (sets input.0).zero bits ≡ not ((sets input.0).one bits)) id ids h) (go ids (All-tail (λ (input : NodeId). (sets input.0).zero bits ≡ not ((sets input.0).one bits)) id ids h))
+
+-- where each input has one bit, the output has
+pub known_output : (covers : List Cover) (k : ℕ) (lists : CoverRows) (sets : ℕ → SymbolicSet) (nets : List NetRails) (inputs : List NodeId) (s : Store) → (at : RowsAt covers k lists) → All IsCover covers → k < length covers
+    → at.cover.inputs ≡ length inputs → All (λ input. (net_at nets input.0).known ≡ true) inputs → HaveInputs s sets nets inputs
+    → (bits : List Bool) → length bits ≡ s.vars → (cover_set (slice_get covers k) (sets_at sets inputs)).zero bits ≡ not ((cover_set (slice_get covers k) (sets_at sets inputs)).one bits)
+known_output covers k lists sets nets inputs s at sound lt width known have bits l =
+    let ws : List SymbolicSet = sets_at sets inputs in
+    let long : length ws ≡ length inputs = length-map inputs (λ (input : NodeId). sets input.0) in
+    let both : BothLists lists (length ws) = both_lists covers k lists (length ws) at sound lt (width ∙ sym long) in
+    let made : SymbolicSet = gate_set lists.on.list lists.off.list ws in
+    let fact : made.zero bits ≡ not (made.one bits) = opposite_sums lists.on.list lists.off.list ws bits both.wide_on both.wide_off both.apart (known_inputs sets nets inputs s known have bits l) in
+    subst (λ (o : Option Cover). (cover_set o ws).zero bits ≡ not ((cover_set o ws).one bits)) (sym at.is)
+    (subst (λ (r : CoverRows). (gate_set r.on.list r.off.list ws).zero bits ≡ not ((gate_set r.on.list r.off.list ws).one bits)) at.lists_are fact)

@@ -4,8 +4,8 @@ use Rattle.sym_step.specs.declared.net_rails.NetRails.{NetRails}
 use Rattle.sym_step.specs.private.NetSets.{AreNetRails, AreNetRefs, net_at}
 use Rattle.sym_step.proofs.NetRefs.{Net-keeps, refs_of_net}
 use Rattle.std.proofs.lemmas.List.{get_or-map, length-map}
-use Rattle.std.proofs.Common.{◌≡◌, ℕ, zero, suc, ◌+◌, ◌<◌, List, [], ◌∷◌, ◌++◌, length, map, get_or, set, replicate, sym, ◌∙◌, ap, subst, arith, inl, inr, All, get_or-set_same, get_or-set_other}
-use Rattle.std.proofs.lemmas.Bool.{cases_eq}
+use Rattle.std.proofs.Common.{◌≡◌, false, ℕ, zero, suc, ◌+◌, ◌<◌, List, [], ◌∷◌, ◌++◌, length, map, get_or, set, replicate, sym, ◌∙◌, ap, subst, arith, inl, inr, All, get_or-set_same, get_or-set_other}
+use Rattle.std.proofs.lemmas.Bool.{cases_eq, false≢true}
 use Rattle.std.proofs.lemmas.List.{get_or_default}
 use Rattle.std.proofs.lemmas.List.Elements.{All-nil, All-cons, All-head, All-tail, Contains-append_left, Contains-append_right}
 use Rattle.net_core.specs.declared.raw.Latch.{Latch}
@@ -31,10 +31,10 @@ use Rattle.net_core.proofs.OneTime.{Facts, facts, fixed}
 use Rattle.sym_step.proofs.Turning.{Net-same, length-first_sets, first_sets-at}
 
 abbrev pub unknown : NetRails
-unknown = record { can0 = record { 0 = 1 }; can1 = record { 0 = 1 }; some = record { 0 = 1 } }
+unknown = record { can0 = record { 0 = 1 }; can1 = record { 0 = 1 }; some = record { 0 = 1 }; known = false }
 
 pub unknown_net : (s : Store) → IsGood s → AreNetRails s everything unknown
-unknown_net s d = record { zero = one_means s d; one = one_means s d; some = one_means s d }
+unknown_net s d = record { zero = one_means s d; one = one_means s d; some = one_means s d; known = λ yes. absurd (false≢true yes) }
 
 pub unknown_refs : (s : Store) → IsGood s → AreNetRefs s unknown
 unknown_refs s d = refs_of_net s everything unknown (unknown_net s d)

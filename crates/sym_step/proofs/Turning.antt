@@ -27,7 +27,7 @@ use Rattle.dd_nodes.proofs.Spending.{Covers}
 use Rattle.dd_nodes.proofs.Members.{Contains-cons_cases}
 use Rattle.dual_rail.proofs.Chains.{some_bit-has}
 use Rattle.dual_rail.proofs.Works.{Built-covers, within_covers}
-use Rattle.std.specs.Prelude.{◌||◌}
+use Rattle.std.specs.Prelude.{◌||◌, not}
 use Rattle.std.proofs.lemmas.List.{length-append, get_or_push}
 use Rattle.std.proofs.Math.ListN.{get_or-append}
 use Rattle.dual_rail.specs.Rail.{Built}
@@ -51,6 +51,7 @@ Net-same u v w r same h = record {
   zero = record { ref = h.zero.ref; value = λ bits l. h.zero.value bits l ∙ ap (λ (x : BitSet). x.zero) (same bits l) };
   one = record { ref = h.one.ref; value = λ bits l. h.one.value bits l ∙ ap (λ (x : BitSet). x.one) (same bits l) };
   some = record { ref = h.some.ref; value = λ bits l. h.some.value bits l ∙ ap (λ (x : BitSet). x.zero || x.one) (same bits l) };
+  known = λ yes bits l. sym (ap (λ (x : BitSet). x.zero) (same bits l)) ∙ h.known yes bits l ∙ ap (λ (x : BitSet). not x.one) (same bits l);
 }
 
 pub set_refs : (t : Store) (nets : List NetRails) (id : ℕ) (r : NetRails) → id < length nets → All (AreNetRefs t) nets → AreNetRefs t r → All (AreNetRefs t) (set nets id r)
@@ -148,7 +149,7 @@ module _ (net : RawNet) (order : List ℕ) (range : IsInRange net) (one : HasOne
   placed s t u nets n number gate r gt gu ksu ktu size family have lt at_n is made id inside none =
       let known : number < length net.gates = rw at_n (is_order.gates n 0 lt) in
       let out : gate.output.0 < net.nets = subst (λ (x : Gate). x.output.0 < net.nets) (sym is) (range.gate_outputs number gate known) in
-      let d0 : NetRails = record { can0 = record { 0 = 1 }; can1 = record { 0 = 1 }; some = record { 0 = 1 } } in
+      let d0 : NetRails = record { can0 = record { 0 = 1 }; can1 = record { 0 = 1 }; some = record { 0 = 1 }; known = false } in
       elim (cases_eq id gate.output.0) [
         | inl here ↦
             let right : AreNetRails u (sets gate.output.0) r = Net-same u (after_cuts ds (uncut net ls sets) gate.output.0) (sets gate.output.0) r (λ bits l. fixed net s.vars ls (asks ds) sets bits range one long family (l ∙ ksu.vars) gate.output.0) made in

@@ -2,18 +2,20 @@
 
 ghost use Rattle.std.specs.Prelude.{◌≡◌, ◌<◌, ◌∷◌, [], ℕ, List, All, IfOk, IsTrue, length};
 ghost use Rattle.std.specs.List.{AllZip};
-ghost use Rattle.dd_nodes.specs.Stores.{IsRef};
-ghost use Rattle.net_core.specs.Work.{SymbolicSet, SymbolicCut, after_cut, after_cuts, cut_work, cuts_work, some_bit};
-ghost use Rattle.dual_rail.specs.Rail.{AreRefs, AreRails, Built, HasSet};
+ghost use Rattle.dd_nodes.specs.Stores.{IsRef, Means};
+ghost use Rattle.dd_nodes.specs.Diagram.{Function};
+ghost use Rattle.net_core.specs.Work.{SymbolicSet, SymbolicCut, after_cut, after_cuts, cut_set, cut_work, cuts_work, negation, some_bit};
+ghost use Rattle.dual_rail.specs.Rail.{AreRefs, AreRails, Built};
 ghost use Rattle.sym_step.specs.Step.{IsCutBy};
-ghost use Rattle.sym_step.specs.private.NetSets.{HasNetSet};
+ghost use Rattle.sym_step.specs.private.NetSets.{AreFlagged, AreFlaggedRefs, HasFlagged, HasNetSet, IsKnown};
 ghost use Rattle.sym_step.specs.private.Parts.{AreMarks, IsEverywhere};
 
 use crate::cut::Cut;
+use crate::flagged::{FlaggedRails, is_clear, is_constant, is_free};
 use crate::net_rails::NetRails;
 use dd_nodes::{Nodes, Ref};
 use dd_ops::{OpFault, Ops};
-use dual_rail::{Rails, cut, either};
+use dual_rail::{Rails, cut, either, opposite};
 use std::alloc::{AllocError, Global};
 
 /// A mark for each of `nets` nets of which there is a cut.
@@ -29,21 +31,67 @@ pub fn marked(alloc: Global, cuts: &[Cut], nets: u32) -> Result<Vec<bool>, Alloc
     Ok(marks)
 }
 
-/// The set behind one cut, where it is of this net.
-fn cut_once<N: Nodes>(ops: &Ops, nodes: &mut N, c: Cut, id: u32, r: Rails) -> Result<Rails, OpFault>
+/// The set of the value alone, which is what a cut with the guard 1 leaves of an unknown.
+fn bound<N: Nodes>(ops: &Ops, nodes: &mut N, value: Ref) -> Result<FlaggedRails, OpFault>
+    requires { IsRef (N.store nodes.old) value }
+    ensures { (x : Function) → Means (N.store nodes.old) x value
+        → Built (negation x ∷ []) (HasFlagged (record { zero = negation x; one = x }))
+        (N.store nodes.old) (N.store nodes.new) result }
+{
+    let can0 = opposite(ops, nodes, value)?;
+    Ok(FlaggedRails {
+        rails: Rails { can0, can1: value },
+        known: true,
+    })
+}
+
+/// The set behind a cut, of which nothing is known.
+fn narrowed<N: Nodes>(
+    ops: &Ops,
+    nodes: &mut N,
+    r: Rails,
+    guard: Ref,
+    value: Ref,
+) -> Result<FlaggedRails, OpFault>
     requires rails { AreRefs (N.store nodes.old) r }
+    requires guard { IsRef (N.store nodes.old) guard }
+    requires value { IsRef (N.store nodes.old) value }
+    ensures { (w : SymbolicSet) (g x : Function)
+        → AreRails (N.store nodes.old) w r
+        → Means (N.store nodes.old) g guard → Means (N.store nodes.old) x value
+        → Built (cut_work w g x) (HasFlagged (cut_set w g x))
+        (N.store nodes.old) (N.store nodes.new) result }
+{
+    let rails = cut(ops, nodes, r, guard, value)?;
+    Ok(FlaggedRails {
+        rails,
+        known: false,
+    })
+}
+
+/// The set behind one cut, where it is of this net.
+fn cut_once<N: Nodes>(
+    ops: &Ops,
+    nodes: &mut N,
+    c: Cut,
+    id: u32,
+    r: FlaggedRails,
+) -> Result<FlaggedRails, OpFault>
+    requires rails { AreRefs (N.store nodes.old) r.rails }
     requires guard { IsRef (N.store nodes.old) c.guard }
     requires value { IsRef (N.store nodes.old) c.value }
     ensures { (d : SymbolicCut) (sets : ℕ → SymbolicSet)
-        → IsCutBy (N.store nodes.old) d c → AreRails (N.store nodes.old) (sets id) r
-        → Built (cut_work (sets d.node) d.guard d.value) (HasSet (after_cut d sets id))
+        → IsCutBy (N.store nodes.old) d c → AreFlagged (N.store nodes.old) (sets id) r
+        → Built (cut_work (sets d.node) d.guard d.value) (HasFlagged (after_cut d sets id))
         (N.store nodes.old) (N.store nodes.new) result }
 {
-    if c.node.0 == id {
-        cut(ops, nodes, r, c.guard, c.value)
-    } else {
-        Ok(r)
+    if c.node.0 != id {
+        return Ok(r);
     }
+    if c.guard == Ref::TRUE && is_free(r.rails) {
+        return bound(ops, nodes, c.value);
+    }
+    narrowed(ops, nodes, r.rails, c.guard, c.value)
 }
 
 /// The set of a net behind all cuts of it, in order.
@@ -52,15 +100,15 @@ fn cut_all<N: Nodes>(
     nodes: &mut N,
     cuts: &[Cut],
     id: u32,
-    r: Rails,
-) -> Result<Rails, OpFault>
-    requires rails { AreRefs (N.store nodes.old) r }
+    r: FlaggedRails,
+) -> Result<FlaggedRails, OpFault>
+    requires rails { AreFlaggedRefs (N.store nodes.old) r }
     requires guards { All (λ c. IsRef (N.store nodes.old) c.guard) cuts.now }
     requires values { All (λ c. IsRef (N.store nodes.old) c.value) cuts.now }
     ensures { (ds : List SymbolicCut) (sets : ℕ → SymbolicSet)
         → AllZip (IsCutBy (N.store nodes.old)) ds cuts.now
-        → AreRails (N.store nodes.old) (sets id) r
-        → Built (cuts_work ds sets) (HasSet (after_cuts ds sets id))
+        → AreFlagged (N.store nodes.old) (sets id) r
+        → Built (cuts_work ds sets) (HasFlagged (after_cuts ds sets id))
         (N.store nodes.old) (N.store nodes.new) result }
 {
     let mut left = r;
@@ -77,17 +125,17 @@ fn cut_marked<N: Nodes>(
     cuts: &[Cut],
     marks: &[bool],
     id: u32,
-    r: Rails,
-) -> Result<Rails, OpFault>
-    requires rails { AreRefs (N.store nodes.old) r }
+    r: FlaggedRails,
+) -> Result<FlaggedRails, OpFault>
+    requires rails { AreFlaggedRefs (N.store nodes.old) r }
     requires guards { All (λ c. IsRef (N.store nodes.old) c.guard) cuts.now }
     requires values { All (λ c. IsRef (N.store nodes.old) c.value) cuts.now }
     requires id { id < length marks.now }
     requires marks { AreMarks cuts.now marks.now }
     ensures { (ds : List SymbolicCut) (sets : ℕ → SymbolicSet)
         → AllZip (IsCutBy (N.store nodes.old)) ds cuts.now
-        → AreRails (N.store nodes.old) (sets id) r
-        → Built (cuts_work ds sets) (HasSet (after_cuts ds sets id))
+        → AreFlagged (N.store nodes.old) (sets id) r
+        → Built (cuts_work ds sets) (HasFlagged (after_cuts ds sets id))
         (N.store nodes.old) (N.store nodes.new) result }
 {
     if marks[id as usize] {
@@ -98,17 +146,27 @@ fn cut_marked<N: Nodes>(
 }
 
 /// The set with where it has a bit.
-fn completed<N: Nodes>(ops: &Ops, nodes: &mut N, r: Rails) -> Result<NetRails, OpFault>
-    requires { AreRefs (N.store nodes.old) r }
-    ensures { (w : SymbolicSet) → AreRails (N.store nodes.old) w r
+fn completed<N: Nodes>(ops: &Ops, nodes: &mut N, r: FlaggedRails) -> Result<NetRails, OpFault>
+    requires { AreRefs (N.store nodes.old) r.rails }
+    ensures { (w : SymbolicSet) → AreFlagged (N.store nodes.old) w r
         → Built (some_bit w ∷ []) (HasNetSet w)
         (N.store nodes.old) (N.store nodes.new) result }
 {
-    let some = either(ops, nodes, r.can0, r.can1)?;
+    let rails = r.rails;
+    if r.known {
+        return Ok(NetRails {
+            can0: rails.can0,
+            can1: rails.can1,
+            some: Ref::TRUE,
+            known: true,
+        });
+    }
+    let some = either(ops, nodes, rails.can0, rails.can1)?;
     Ok(NetRails {
-        can0: r.can0,
-        can1: r.can1,
+        can0: rails.can0,
+        can1: rails.can1,
         some,
+        known: false,
     })
 }
 
@@ -134,11 +192,14 @@ pub fn cut_net<N: Nodes>(
         (HasNetSet (after_cuts ds sets id))
         (N.store nodes.old) (N.store nodes.new) result }
 {
-    let left = cut_marked(ops, nodes, cuts, marks, id, r)?;
+    let known = is_constant(r);
+    let flagged = FlaggedRails { rails: r, known };
+    let left = cut_marked(ops, nodes, cuts, marks, id, flagged)?;
     completed(ops, nodes, left)
 }
 
-/// The same where it is known whether the set has a bit everywhere; then nothing is called for a net without a mark.
+/// The same where it may be clear that the set has a bit everywhere, or exactly one; then nothing is called for a net
+/// without a mark.
 pub fn cut_full<N: Nodes>(
     ops: &Ops,
     nodes: &mut N,
@@ -147,6 +208,7 @@ pub fn cut_full<N: Nodes>(
     id: u32,
     r: Rails,
     full: bool,
+    known: bool,
 ) -> Result<NetRails, OpFault>
     requires rails { AreRefs (N.store nodes.old) r }
     requires guards { All (λ c. IsRef (N.store nodes.old) c.guard) cuts.now }
@@ -157,15 +219,18 @@ pub fn cut_full<N: Nodes>(
         → AllZip (IsCutBy (N.store nodes.old)) ds cuts.now
         → AreRails (N.store nodes.old) (sets id) r
         → (IsTrue full → IsEverywhere (N.store nodes.old).vars (some_bit (sets id)))
+        → (IsTrue known → IsKnown (N.store nodes.old).vars (sets id))
         → Built (some_bit (after_cuts ds sets id) ∷ cuts_work ds sets)
         (HasNetSet (after_cuts ds sets id))
         (N.store nodes.old) (N.store nodes.new) result }
 {
     if full && !marks[id as usize] {
+        let known = is_clear(known, r);
         return Ok(NetRails {
             can0: r.can0,
             can1: r.can1,
             some: Ref::TRUE,
+            known,
         });
     }
     cut_net(ops, nodes, cuts, marks, id, r)

@@ -4,10 +4,12 @@
 
 pub mod cut;
 mod cuts;
+mod flagged;
 mod gates;
 pub mod laws;
 pub mod made;
 mod net_rails;
+mod one_row;
 pub mod piece;
 mod place;
 pub mod row_list;

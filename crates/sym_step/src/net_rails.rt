@@ -1,6 +1,6 @@
 //! The sets of nets with where they have a bit; begin with `NetRails`.
 
-ghost use Rattle.std.specs.Prelude.{◌≡◌};
+ghost use Rattle.std.specs.Prelude.{◌≡◌, false};
 ghost use Rattle.dd_nodes.specs.Diagram.{IsDiagram};
 ghost use Rattle.dd_nodes.specs.Stores.{Store, IsRef, Means};
 ghost use Rattle.net_core.specs.Work.{SymbolicSet, factor};
@@ -12,23 +12,26 @@ use dual_rail::Rails;
 use net_core::Lit;
 
 /// The set of a net: it has 0 where `can0` is 1, 1 where `can1` is 1, and some bit where `some` is 1. For nearly all nets
-/// `some` is the constant 1.
+/// `some` is the constant 1. A net that is `known` has exactly one bit under each assignment.
 #[derive(Clone, Copy, Debug, PartialEq, Eq, Drop)]
 pub struct NetRails {
     pub can0: Ref,
     pub can1: Ref,
     pub some: Ref,
+    pub known: bool,
 }
 
 impl NetRails {
     /// The set of both bits.
     pub fn free() -> NetRails
-        ensures { result ≡ record { can0 = Ref.TRUE; can1 = Ref.TRUE; some = Ref.TRUE } }
+        ensures { result
+            ≡ record { can0 = Ref.TRUE; can1 = Ref.TRUE; some = Ref.TRUE; known = false } }
     {
         NetRails {
             can0: Ref::TRUE,
             can1: Ref::TRUE,
             some: Ref::TRUE,
+            known: false,
         }
     }
 

@@ -1,23 +1,104 @@
 //! The sets of the gates' outputs, in settled order; begin with `place_gates`.
 
-ghost use Rattle.std.specs.Prelude.{◌≡◌, ◌<◌, ◌∷◌, ◌++◌, ℕ, List, All, OnOk, Some, length, map, slice_get};
+ghost use Rattle.std.specs.Prelude.{◌≡◌, ◌<◌, ◌∷◌, ◌++◌, [], true, ℕ, List, All, IsTrue, OnOk, Some, length, map, slice_get};
 ghost use Rattle.std.specs.List.{AllZip};
 ghost use Rattle.dd_nodes.specs.Stores.{IsRef};
 ghost use Rattle.net_core.specs.declared.cover.Cover.{Cover};
-ghost use Rattle.net_core.specs.Work.{ArePossibleEach, SymbolicSet, SymbolicCut, after_cuts, cover_work, cuts_work, output_set, input_sets, some_bit, time_work};
-ghost use Rattle.dual_rail.specs.Rail.{Built, Whatever};
+ghost use Rattle.net_core.specs.Cases.{on_rows, off_rows};
+ghost use Rattle.net_core.specs.Cover.{IsCover};
+ghost use Rattle.net_core.specs.Work.{ArePossibleEach, SymbolicSet, SymbolicCut, after_cuts, cover_work, cuts_work, gate_set, gate_work, output_set, input_sets, some_bit, time_work};
+ghost use Rattle.dual_rail.specs.Rail.{Built, HasSet, Whatever};
 ghost use Rattle.sym_step.specs.Step.{IsCutBy, rows_of};
-ghost use Rattle.sym_step.specs.private.NetSets.{AreNetRefs, HasNetSet, HaveInputs};
+ghost use Rattle.sym_step.specs.private.NetSets.{AreNetRefs, HasNetSet, HaveInputs, net_at, sets_at};
 ghost use Rattle.sym_step.specs.private.Parts.{AreMarks, HaveGates, asks};
+ghost use Rattle.sym_step.specs.private.Refused.{is_rising};
 
 use crate::cut::Cut;
 use crate::cuts::cut_full;
-use crate::gates::{are_full, gate_at};
+use crate::gates::{Filling, filling_of, gate_at};
 use crate::net_rails::NetRails;
-use crate::rows::GateRows;
+use crate::one_row::{by_row, only_rising};
+use crate::rows::{CoverRows, GateRows};
 use dd_nodes::{Nodes, Ref};
 use dd_ops::{OpFault, Ops};
-use net_core::{Gate, Net};
+use dual_rail::Rails;
+use net_core::{Cover, Gate, Lit, Net};
+use ste_base::NodeId;
+
+/// The set that a gate gives whose cover has this row alone, with ones but for its last literal, where no input is empty.
+fn rising_gate<N: Nodes>(
+    ops: &Ops,
+    nodes: &mut N,
+    cover: &Cover,
+    rows: &CoverRows,
+    row: &[Lit],
+    products: &mut [Ref],
+    nets: &[NetRails],
+    inputs: &[NodeId],
+) -> Result<Rails, OpFault>
+    requires sound { IsCover cover.now }
+    requires width { cover.now.inputs ≡ length inputs.now }
+    requires rows { rows.now ≡ rows_of cover.now }
+    requires row { cover.now.rows ≡ row.now ∷ [] }
+    requires rises { IsTrue (is_rising row.now) }
+    requires full { All (λ input. (net_at nets.now input.0).some ≡ Ref.TRUE) inputs.now }
+    requires room { length inputs.now < length products.old }
+    requires inside { All (λ input. input.0 < length nets.now) inputs.now }
+    requires refs { All (AreNetRefs (N.store nodes.old)) nets.now }
+    ensures room { length products.new ≡ length products.old }
+    ensures built { (sets : ℕ → SymbolicSet)
+        → HaveInputs (N.store nodes.old) sets nets.now inputs.now
+        → Built (gate_work (on_rows cover.now) (off_rows cover.now) (sets_at sets inputs.now))
+        (HasSet (gate_set (on_rows cover.now) (off_rows cover.now) (sets_at sets inputs.now)))
+        (N.store nodes.old) (N.store nodes.new) result }
+{
+    if cover.on {
+        return by_row(ops, nodes, &rows.on, row, products, nets, inputs);
+    }
+    let swapped = by_row(ops, nodes, &rows.off, row, products, nets, inputs)?;
+    Ok(Rails {
+        can0: swapped.can1,
+        can1: swapped.can0,
+    })
+}
+
+/// The set that a gate of this cover gives, where none of its inputs is empty anywhere where `full` says so, and each has
+/// exactly one bit everywhere where `known` does.
+fn cover_gate<N: Nodes>(
+    ops: &Ops,
+    nodes: &mut N,
+    cover: &Cover,
+    rows: &CoverRows,
+    products: &mut [Ref],
+    nets: &[NetRails],
+    inputs: &[NodeId],
+    full: bool,
+    known: bool,
+) -> Result<Rails, OpFault>
+    requires sound { IsCover cover.now }
+    requires width { cover.now.inputs ≡ length inputs.now }
+    requires rows { rows.now ≡ rows_of cover.now }
+    requires full { IsTrue full
+        → All (λ input. (net_at nets.now input.0).some ≡ Ref.TRUE) inputs.now }
+    requires known { IsTrue known
+        → All (λ input. (net_at nets.now input.0).known ≡ true) inputs.now }
+    requires room { length inputs.now < length products.old }
+    requires inside { All (λ input. input.0 < length nets.now) inputs.now }
+    requires refs { All (AreNetRefs (N.store nodes.old)) nets.now }
+    ensures room { length products.new ≡ length products.old }
+    ensures built { (sets : ℕ → SymbolicSet)
+        → HaveInputs (N.store nodes.old) sets nets.now inputs.now
+        → Built (gate_work (on_rows cover.now) (off_rows cover.now) (sets_at sets inputs.now))
+        (HasSet (gate_set (on_rows cover.now) (off_rows cover.now) (sets_at sets inputs.now)))
+        (N.store nodes.old) (N.store nodes.new) result }
+{
+    if full && !known && inputs.len() > 2 {
+        if let Some(row) = only_rising(cover) {
+            return rising_gate(ops, nodes, cover, rows, row, products, nets, inputs);
+        }
+    }
+    gate_at(ops, nodes, rows, products, nets, inputs, full, known)
+}
 
 /// The set of a gate's output, where its inputs have these sets.
 fn place<N: Nodes>(
@@ -55,9 +136,12 @@ fn place<N: Nodes>(
 {
     let lists = &rows.covers.as_slice()[g.cover as usize];
     let inputs = g.inputs.as_slice();
-    let full = are_full(nets, inputs);
-    let given = gate_at(ops, nodes, lists, products, nets, inputs, full)?;
-    cut_full(ops, nodes, cuts, marks, g.output.0, given, full)
+    let Filling { full, known } = filling_of(nets, inputs);
+    let cover = &net.covers()[g.cover as usize];
+    let given = cover_gate(
+        ops, nodes, cover, lists, products, nets, inputs, full, known,
+    )?;
+    cut_full(ops, nodes, cuts, marks, g.output.0, given, full, known)
 }
 
 /// Gives the gates' outputs their sets, one after another.

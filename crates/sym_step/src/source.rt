@@ -79,10 +79,7 @@ pub fn sources<N: Nodes>(
         (λ t nets. HaveSources net.now.raw sets t net.now.raw.nets nets.items)
         (N.store nodes.old) (N.store nodes.new) result }
 {
-    let mut nets = match vec![in alloc; NetRails::free(); net.nets() as usize] {
-        Ok(nets) => nets,
-        Err(_) => return Err(OpFault::OutOfMemory),
-    };
+    let mut nets = vec![in alloc; NetRails::free(); net.nets() as usize]?;
     for id in 0..net.nets() {
         let r = source(ops, nodes, net, latches, cuts, marks, id)?;
         nets[id as usize] = r;

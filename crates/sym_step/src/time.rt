@@ -150,14 +150,8 @@ fn nets_of<N: Nodes>(
         (λ t nets. HaveNets net.now.raw sets t nets.items)
         (N.store nodes.old) (N.store nodes.new) result }
 {
-    let marks = match marked(alloc, cuts, net.nets()) {
-        Ok(marks) => marks,
-        Err(_) => return Err(OpFault::OutOfMemory),
-    };
-    let mut products = match room(alloc, net.gates()) {
-        Ok(products) => products,
-        Err(_) => return Err(OpFault::OutOfMemory),
-    };
+    let marks = marked(alloc, cuts, net.nets())?;
+    let mut products = room(alloc, net.gates())?;
     let mut nets = sources(alloc, ops, nodes, net, latches, cuts, marks.as_slice())?;
     place_gates(
         ops,
@@ -195,10 +189,8 @@ fn made_at<N: Nodes>(
 {
     let nets = nets_of(alloc, ops, nodes, net, rows, latches, cuts)?;
     let contradictory = some_empty(ops, nodes, nets.as_slice())?;
-    match finished(alloc, net, nets.as_slice(), contradictory) {
-        Ok(made) => Ok(made),
-        Err(_) => Err(OpFault::OutOfMemory),
-    }
+    let made = finished(alloc, net, nets.as_slice(), contradictory)?;
+    Ok(made)
 }
 
 /// The possible sets of one time for every assignment at once, where some set is empty, and the next latch sets. `rows`

@@ -15,7 +15,7 @@ use dd_nodes::{Nodes, PlainNodes, Ref};
 use dd_ops::Ops;
 use dual_rail::{Rails, free};
 use flat_net::flatten;
-use net_core::{BitSet, Cover, Gate, Net, cases, order};
+use net_core::{BitSet, Cover, Gate, Lit, Net, RawNet, Row, cases, order};
 use net_names::NetNames;
 use plain_check::verdict;
 use std::alloc::{AllocError, Global};
@@ -402,6 +402,12 @@ const DIFFER: &str =
 const THREE: &str =
     ".model th\n.inputs a b c\n.outputs y z\n.names a b c y\n011 1\n.names a b c y z\n1-10 1\n0--1 1\n.end\n";
 
+const RISING: &str =
+    ".model ri\n.inputs a b c\n.outputs x y z\n.names a b c x\n111 1\n.names a b c y\n110 0\n.names a c b z\n1-0 1\n.end\n";
+
+const PARITY: &str =
+    ".model pa\n.inputs a b\n.outputs x y z\n.names a b x\n11 1\n00 1\n.names a b y\n10 0\n01 0\n.names x y z\n10 1\n01 1\n.end\n";
+
 const BOTH: &str =
     ".model both\n.inputs a\n.outputs y\n.names a n\n0 1\n.names a n y\n11 1\n.end\n";
 
@@ -460,6 +466,43 @@ const CASES: &[(&str, &[(&str, Bit, Bit)])] = &[
             ("c", Bit::One, Bit::P),
         ],
     ),
+    (RISING, &[]),
+    (RISING, &[("a", Bit::P, Bit::Q), ("b", Bit::Q, Bit::P)]),
+    (
+        RISING,
+        &[
+            ("a", Bit::One, Bit::P),
+            ("b", Bit::P, Bit::Q),
+            ("c", Bit::Q, Bit::One),
+        ],
+    ),
+    (
+        RISING,
+        &[
+            ("a", Bit::One, Bit::P),
+            ("b", Bit::One, Bit::Q),
+            ("c", Bit::One, Bit::P),
+        ],
+    ),
+    (
+        RISING,
+        &[
+            ("a", Bit::One, Bit::P),
+            ("a", Bit::Q, Bit::One),
+            ("c", Bit::One, Bit::Q),
+        ],
+    ),
+    (PARITY, &[("a", Bit::One, Bit::P), ("b", Bit::One, Bit::Q)]),
+    (PARITY, &[("a", Bit::One, Bit::P), ("b", Bit::One, Bit::P)]),
+    (PARITY, &[("a", Bit::One, Bit::Q), ("b", Bit::P, Bit::Q)]),
+    (
+        PARITY,
+        &[
+            ("a", Bit::One, Bit::P),
+            ("b", Bit::One, Bit::One),
+            ("x", Bit::Q, Bit::P),
+        ],
+    ),
     (BOTH, &[("a", Bit::One, Bit::P)]),
     (BOTH, &[]),
     (TOGGLE, &[("q", Bit::One, Bit::P), ("a", Bit::P, Bit::Q)]),
@@ -497,6 +540,82 @@ fn steps_agree_with_the_plain_checker(rt: HostRuntime) -> Result<(), Fail> {
         let bytes = text.as_bytes();
         assert!(rt; bytes.len() <= 10000);
         assert!(rt; case_agrees(alloc, bytes, asked)?, "{text}");
+    }
+    Ok(())
+}
+
+/// A net of one gate, the AND of so many free nets.
+fn and_of(alloc: Global, inputs: u32) -> Result<Net, Fail>
+    requires { inputs ≤ 1000 }
+{
+    let mut row: Row = Items::new(alloc);
+    let mut nets: Items<NodeId> = Items::new(alloc);
+    for k in 0..inputs {
+        row.push(Lit::One)?;
+        nets.push(NodeId(k))?;
+    }
+    let cover = Cover {
+        inputs,
+        on: true,
+        rows: Items::from(Vec::from_array(alloc, [row])?),
+    };
+    let gate = Gate {
+        inputs: nets,
+        output: NodeId(inputs),
+        cover: 0,
+    };
+    let raw = RawNet {
+        nets: inputs + 1,
+        inputs: Items::new(alloc),
+        outputs: Items::new(alloc),
+        gates: Items::from(Vec::from_array(alloc, [gate])?),
+        latches: Items::new(alloc),
+        covers: Items::from(Vec::from_array(alloc, [cover])?),
+    };
+    match order(alloc, raw) {
+        Ok(net) => Ok(net),
+        Err(_) => Err("no order".into()),
+    }
+}
+
+/// The sets of an AND of a thousand nets under each assignment, where this is asked of the first and of the last but one.
+fn wide_sets(alloc: Global, first: Bit, later: Bit) -> Result<Vec<BitSet>, Fail> {
+    let net = and_of(alloc, 1000)?;
+    if net.nets() < 1001 {
+        return Err("too few nets".into());
+    }
+    if !are_few(alloc, net.covers())? {
+        return Err("too many cases".into());
+    }
+    let mut asked = Vec::new(alloc);
+    for id in 0..999 {
+        asked.push(Asked {
+            node: NodeId(id),
+            guard: if id % 2 == 0 { first } else { later },
+            value: if id % 2 == 0 { later } else { Bit::P },
+        })?;
+    }
+    let rows = GateRows::of(alloc, &net)?;
+    let ops = Ops::new(alloc);
+    let mut nodes = PlainNodes::new(alloc, 2, 100)?;
+    let (now, _) = tables_of(alloc, &ops, &mut nodes, &net, &rows, &asked)?;
+    let mut sets = Vec::new(alloc);
+    for table in now {
+        match table.get(1000) {
+            Some(set) => sets.push(*set)?,
+            None => return Err("no such net".into()),
+        }
+    }
+    Ok(sets)
+}
+
+#[test]
+fn an_and_of_a_thousand_nets_is_0_where_one_is(rt: HostRuntime) -> Result<(), Fail> {
+    // p is asked where q is, q where 1 is; the last net is unknown: so the output may be 1 where both are
+    let sets = wide_sets(rt.alloc(), Bit::One, Bit::Q)?;
+    assert!(rt; sets.len() == 4);
+    for ((p, q), set) in ASSIGNMENTS.iter().zip(sets.as_slice()) {
+        assert!(rt; set.zero && set.one == (*q && *p), "{p} {q}");
     }
     Ok(())
 }

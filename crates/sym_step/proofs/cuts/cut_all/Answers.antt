@@ -2,12 +2,12 @@ use Rattle.std.proofs.Common.{◌≡◌, ◌<◌, List, length, ◌+◌, subst, 
 use Rattle.dd_nodes.specs.Stores.{Store, IsRef, function}
 use Rattle.dd_nodes.proofs.Walks.{IsFrom-grows}
 use Rattle.net_core.specs.Work.{SymbolicCut, after_cuts, cuts_work}
-use Rattle.dual_rail.specs.Rail.{AreRails, HasSet}
-use Rattle.dual_rail.proofs.Works.{So-start, Built-made, own_set, set_where, refs_of, first, pass}
+use Rattle.sym_step.specs.private.NetSets.{AreFlagged, HasFlagged}
+use Rattle.dual_rail.proofs.Works.{So-start, Built-made, set_where, first, pass}
 use Rattle.dd_nodes.proofs.Stores.{Keeps-refl, Keeps-trans}
 use Rattle.sym_step.specs.declared.cut.Cut.{Cut}
 use Rattle.std.proofs.lemmas.List.{get_or_default, take_all}
-use Rattle.sym_step.proofs.Cutting.{cut_turn, own_demand, demands_long}
+use Rattle.sym_step.proofs.Cutting.{cut_turn, own_demand, own_flagged, flagged_refs, demands_long}
 use Rattle.sym_step.proofs.cuts.cut_all.Goals as goal
 
 abbrev none : Cut
@@ -19,7 +19,7 @@ loop-c-init g c =
     record { keeps = Keeps-refl s; refs = c.requires.rails; so = λ ds sets zip h. (So-start (cuts_work ds sets) s, h) }
 
 pub cut_once-requires-clause-rails : goal.cut_once-requires-clause-rails
-cut_once-requires-clause-rails g c = c.loop-c.invariant.refs
+cut_once-requires-clause-rails g c = c.loop-c.invariant.refs.rails
 
 pub cut_once-requires-clause-guard : goal.cut_once-requires-clause-guard
 cut_once-requires-clause-guard g c = IsFrom-grows _ _ 0 _ c.loop-c.invariant.keeps.grows (c.requires.guards c.loop-c.c-index none (omega (arith, c.loop-c-test.true)))
@@ -39,10 +39,10 @@ loop-c-preserved g c =
     let kst = c.loop-c.invariant.keeps in
     let hg : IsRef t cut.guard = IsFrom-grows s.held t.held 0 cut.guard kst.grows (c.requires.guards k none lt) in
     let hv : IsRef t cut.value = IsFrom-grows s.held t.held 0 cut.value kst.grows (c.requires.values k none lt) in
-    let mine = c.in_ok-left.ensures (record { node = cut.node.0; guard = function t cut.guard; value = function t cut.value }) (λ id. set_where t c.loop-c.left) (own_demand t cut hg hv) (own_set t c.loop-c.left c.loop-c.invariant.refs) in
+    let mine = c.in_ok-left.ensures (record { node = cut.node.0; guard = function t cut.guard; value = function t cut.value }) (λ id. set_where t c.loop-c.left.rails) (own_demand t cut hg hv) (own_flagged t c.loop-c.left c.loop-c.invariant.refs) in
     record {
       keeps = Keeps-trans s t u kst mine.spends.keeps;
-      refs = refs_of u _ c.in_ok-left.left mine.ok;
+      refs = flagged_refs u _ c.in_ok-left.left mine.ok;
       so = λ ds sets zip h.
           let p = c.loop-c.invariant.so ds sets zip h in
           let b = cut_turn ds sets cuts s t u k cut c.args.id c.loop-c.left (Ok c.in_ok-left.left) (g.met.N.Nodes.diagram c.args.nodes.now) (g.met.N.Nodes.diagram c.loop-c.nodes) (g.met.N.Nodes.diagram c.cut_once.new.nodes) lt
@@ -63,7 +63,7 @@ returns-in_err-left g c = λ ds sets zip h.
     let gu = g.met.N.Nodes.diagram c.cut_once.new.nodes in
     let p = c.loop-c.invariant.so ds sets zip h in
     let fault = c.in_err-left.field-0.0 in
-    pass (cuts_work ds sets) (HasSet (after_cuts (take (k + 1) ds) sets c.args.id)) (HasSet (after_cuts ds sets c.args.id)) s s u fault c.from_residual.result gs gu (So-start (cuts_work ds sets) s)
+    pass (cuts_work ds sets) (HasFlagged (after_cuts (take (k + 1) ds) sets c.args.id)) (HasFlagged (after_cuts ds sets c.args.id)) s s u fault c.from_residual.result gs gu (So-start (cuts_work ds sets) s)
     (cut_turn ds sets cuts s t u k cut c.args.id c.loop-c.left (Err fault) gs (g.met.N.Nodes.diagram c.loop-c.nodes) gu lt (get_or_default cuts k cut none lt) zip p.0 p.1 c.in_err-left.ensures) c.from_residual.ensures.1
 
 pub returns : goal.returns
@@ -74,4 +74,4 @@ returns g c = λ ds sets zip h.
     let n = demands_long s ds c.args.cuts.now zip in
     let p = c.loop-c.invariant.so ds sets zip h in
     let end : take k ds ≡ ds = take_all k ds (omega (arith, n, c.loop-c-test.false)) in
-    Built-made (cuts_work ds sets) (HasSet (after_cuts ds sets c.args.id)) s t c.loop-c.left p.0 (subst (λ (xs : List SymbolicCut). AreRails t (after_cuts xs sets c.args.id) c.loop-c.left) end p.1)
+    Built-made (cuts_work ds sets) (HasFlagged (after_cuts ds sets c.args.id)) s t c.loop-c.left p.0 (subst (λ (xs : List SymbolicCut). AreFlagged t (after_cuts xs sets c.args.id) c.loop-c.left) end p.1)

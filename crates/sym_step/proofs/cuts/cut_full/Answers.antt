@@ -10,14 +10,14 @@ use Rattle.sym_step.proofs.Cutting.{unmarked}
 use Rattle.sym_step.proofs.cuts.cut_full.Goals as goal
 
 pub returns-then-not-marks-id : goal.returns-then-not-marks-id
-returns-then-not-marks-id g c = λ ds sets zip h everywhere.
+returns-then-not-marks-id g c = λ ds sets zip h everywhere only.
     let s : Store = g.N.Nodes.store c.args.nodes.now in
     let id : ℕ = c.args.id in
     let w : SymbolicSet = sets id in
     let work : List Function = some_bit (after_cuts ds sets id) ∷ cuts_work ds sets in
     let one = one_means s (g.met.N.Nodes.diagram c.args.nodes.now) in
-    let made : NetRails = record { can0 = c.args.r.can0; can1 = c.args.r.can1; some = record { 0 = 1 } } in
-    let all : AreNetRails s w made = record { zero = h.zero; one = h.one; some = record { ref = one.ref; value = λ bits l. one.value bits l ∙ sym (everywhere c.if-full.true bits l) } } in
+    let made : NetRails = record { can0 = c.args.r.can0; can1 = c.args.r.can1; some = record { 0 = 1 }; known = c.is_clear-known.result } in
+    let all : AreNetRails s w made = record { zero = h.zero; one = h.one; some = record { ref = one.ref; value = λ bits l. one.value bits l ∙ sym (everywhere c.if-full.true bits l) }; known = λ yes. c.is_clear-known.ensures yes s w (g.met.N.Nodes.diagram c.args.nodes.now) h only } in
     let none : get_or c.args.marks.now id false ≡ false = c.if-not-marks-id.true in
     Built-made work (HasNetSet (after_cuts ds sets id)) s s made (So-start work s)
     (subst (λ (v : SymbolicSet). AreNetRails s v made) (sym (unmarked s ds c.args.cuts.now c.args.marks.now id sets zip c.requires.marks none)) all)

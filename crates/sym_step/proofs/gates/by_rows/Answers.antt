@@ -7,8 +7,8 @@ use Rattle.net_core.specs.Work.{SymbolicSet, gate_set, gate_work, row_products, 
 use Rattle.dual_rail.specs.declared.rails.Rails.{Rails}
 use Rattle.dual_rail.specs.Rail.{Built, HasFunction, HasSet}
 use Rattle.dual_rail.proofs.Works.{So-start, Built-made, Built-wider, first, more, pass}
-use Rattle.sym_step.specs.private.NetSets.{net_at, sets_at}
-use Rattle.sym_step.proofs.NetRefs.{own_where, own_inputs, Inputs-keep, All-net-refs-keep}
+use Rattle.sym_step.specs.private.NetSets.{net_at, sets_at, own_where}
+use Rattle.sym_step.proofs.NetRefs.{own_inputs, Inputs-keep, All-net-refs-keep}
 use Rattle.sym_step.proofs.gates.by_rows.Goals as goal
 
 pub rows_sum-requires-2-clause-refs : goal.rows_sum-requires-2-clause-refs

@@ -1,4 +1,4 @@
-use Rattle.std.proofs.Common.{◌≡◌, ◌≢◌, ◌<◌, ℕ, Bool, not, List, [], ◌∷◌, All, length, get_or, sym, ◌∙◌, ap, subst, arith, Ok, Err}
+use Rattle.std.proofs.Common.{false, ◌≡◌, ◌≢◌, ◌<◌, ℕ, Bool, not, List, [], ◌∷◌, All, length, get_or, sym, ◌∙◌, ap, subst, arith, Ok, Err}
 use Rattle.std.proofs.lemmas.List.{get_or_default}
 use Rattle.std.proofs.Math.Bool.{not-not}
 use Rattle.ste_base.specs.declared.id.NodeId.{NodeId}
@@ -13,15 +13,17 @@ use Rattle.dual_rail.specs.declared.rails.Rails.{Rails}
 use Rattle.dual_rail.specs.Rail.{Built, HasSet}
 use Rattle.dual_rail.proofs.Works.{So-start, Built-made, first, pass}
 use Rattle.sym_step.specs.declared.net_rails.NetRails.{NetRails}
-use Rattle.sym_step.specs.private.NetSets.{HaveInputs, net_at, sets_at}
-use Rattle.sym_step.proofs.Pairs.{SwappedSet, TwoInputs, pair_row, pair_on, pair_off, two_known}
+use Rattle.sym_step.specs.private.NetSets.{AreNetRails, HaveInputs, net_at, sets_at}
+use Rattle.sym_step.proofs.NetRefs.{input_here}
+use Rattle.sym_step.proofs.Known.{exclusive_gate}
+use Rattle.sym_step.proofs.Pairs.{SwappedSet, TwoInputs, pair_row, pair_on, pair_off, two_inputs, two_known}
 use Rattle.sym_step.proofs.gates.gate_at.Goals as goal
 
 abbrev no_net : NodeId
 no_net = record { 0 = 0 }
 
 abbrev no_rails : NetRails
-no_rails = record { can0 = record { 0 = 0 }; can1 = record { 0 = 0 }; some = record { 0 = 0 } }
+no_rails = record { can0 = record { 0 = 0 }; can1 = record { 0 = 0 }; some = record { 0 = 0 }; known = false }
 
 -- what is known of the two inputs, as they were read
 known : (x y : Lit) (rows others : List (List Lit)) (nets : List NetRails) (inputs : List NodeId) (s : Store) → IsGood s → length inputs ≡ 2
@@ -98,3 +100,33 @@ returns-in-Some-only_pair-clause-built g c = λ sets have.
     subst (λ (ids : List NodeId). Built (gate_work on off (sets_at sets ids)) (HasSet (gate_set on off (sets_at sets ids))) s t (Ok rails)) (sym k.are)
     (subst (λ (rows : List (List Lit)). Built (gate_work on rows (v ∷ w ∷ [])) (HasSet (gate_set on rows (v ∷ w ∷ []))) s t (Ok rails)) (sym c.in-Some-only_pair.ensures.row)
     (Built-made (gate_work on (pair_row x y) (v ∷ w ∷ [])) (HasSet (gate_set on (pair_row x y) (v ∷ w ∷ []))) s t rails (first (gate_work on (pair_row x y) (v ∷ w ∷ [])) (SwappedSet x y on v w) s t (Ok swapped) b) b.ok))
+
+pub returns-in-Some-only_exclusive-clause-built : goal.returns-in-Some-only_exclusive-clause-built
+returns-in-Some-only_exclusive-clause-built g c = λ sets have.
+    let s : Store = g.N.Nodes.store c.args.nodes.now in
+    let t : Store = g.N.Nodes.store c.exclusive.new.nodes in
+    let nets : List NetRails = c.args.nets.now in
+    let inputs : List NodeId = c.args.inputs.now in
+    let on = c.args.rows.now.on.list in
+    let off = c.args.rows.now.off.list in
+    let x = c.in-Some-only_exclusive.x in
+    let y = c.in-Some-only_exclusive.y in
+    let i : NodeId = get_or inputs 0 no_net in
+    let j : NodeId = get_or inputs 1 no_net in
+    let a : NetRails = get_or nets i.0 no_rails in
+    let b : NetRails = get_or nets j.0 no_rails in
+    let v : SymbolicSet = sets i.0 in
+    let w : SymbolicSet = sets j.0 in
+    let two : length inputs ≡ 2 = c.if-inputs-eq2.true in
+    let first : 0 < length inputs = omega (arith, two) in
+    let second : 1 < length inputs = omega (arith, two) in
+    let is_i : get_or inputs 0 i ≡ i = get_or_default inputs 0 i no_net first in
+    let is_j : get_or inputs 1 j ≡ j = get_or_default inputs 1 j no_net second in
+    let ma : AreNetRails s v a = input_here s sets nets inputs 0 i a c.requires.inside first is_i (get_or_default nets i.0 a no_rails (c.requires.inside 0 no_net first)) have in
+    let mb : AreNetRails s w b = input_here s sets nets inputs 1 j b c.requires.inside second is_j (get_or_default nets j.0 b no_rails (c.requires.inside 1 no_net second)) have in
+    let e = c.in-Some-only_exclusive.ensures in
+    subst (λ (ids : List NodeId). Built (gate_work on off (sets_at sets ids)) (HasSet (gate_set on off (sets_at sets ids))) s t c.exclusive.result) (sym (two_inputs inputs i j two is_i is_j))
+    (subst (λ (rows : List (List Lit)). Built (gate_work rows off (v ∷ w ∷ [])) (HasSet (gate_set rows off (v ∷ w ∷ []))) s t c.exclusive.result) (sym e.rows)
+    (exclusive_gate x y off v w s t c.exclusive.result e.first e.second (subst (AreWide off) two c.requires.wide_off)
+    (λ bs l. c.requires.apart bs (l ∙ sym two) ∙ ap (λ (rows : List (List Lit)). not (some_matches rows bs)) e.rows)
+    (ma.known c.if-a.true) (mb.known c.if-b.true) (c.exclusive.ensures v w ma mb)))

@@ -20,8 +20,8 @@ use Rattle.std.proofs.lemmas.List.{length-set}
 use Rattle.sym_step.proofs.Turning.{place_turn, placed, set_refs}
 use Rattle.sym_step.proofs.Cutting.{own_demands}
 use Rattle.sym_step.specs.declared.net_rails.NetRails.{NetRails}
-use Rattle.sym_step.specs.private.NetSets.{AreNetRails, HasNetSet, net_at}
-use Rattle.sym_step.proofs.NetRefs.{own_where, own_inputs, refs_of_net, All-net-refs-keep}
+use Rattle.sym_step.specs.private.NetSets.{AreNetRails, HasNetSet, net_at, own_where}
+use Rattle.sym_step.proofs.NetRefs.{own_inputs, refs_of_net, All-net-refs-keep}
 use Rattle.net_core.specs.Work.{some_bit}
 use Rattle.std.proofs.Common.{◌∷◌}
 use Rattle.sym_step.proofs.place.place_gates.Goals as goal

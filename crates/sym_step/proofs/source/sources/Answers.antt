@@ -1,23 +1,24 @@
-use Rattle.std.proofs.Common.{◌<◌, List, map, All, ℕ, ◌∙◌, arith, Ok, Err, subst, sym}
+use Rattle.std.proofs.Common.{◌≡◌, ◌<◌, List, map, length, replicate, All, ℕ, ◌∙◌, ap, arith, Ok, Err, subst, sym}
 use Rattle.sym_step.specs.private.Parts.{HasSource, HaveSources, asks}
+use Rattle.sym_step.specs.private.NetSets.{AreNetRefs, own_where}
 use Rattle.dd_nodes.specs.Diagram.{Function}
 use Rattle.dd_nodes.specs.Stores.{Store, IsRef, function}
 use Rattle.dd_nodes.proofs.Walks.{IsFrom-grows}
 use Rattle.net_core.specs.Work.{SymbolicSet, after_cuts, cuts_work}
 use Rattle.dual_rail.specs.declared.rails.Rails.{Rails}
 use Rattle.dual_rail.specs.Rail.{Built}
-use Rattle.dual_rail.proofs.Works.{Built-made, set_where, more, pass}
+use Rattle.dual_rail.proofs.Works.{Built-made, So-start, set_where, more, pass}
 use Rattle.dual_rail.proofs.Turns.{All-refs-keep}
-use Rattle.dd_nodes.proofs.Stores.{Keeps-trans}
+use Rattle.dd_nodes.proofs.Stores.{Keeps-refl, Keeps-trans}
 use Rattle.sym_step.specs.declared.cut.Cut.{Cut}
-use Rattle.std.proofs.lemmas.List.{length-set}
+use Rattle.std.proofs.lemmas.List.{length-set, length-replicate}
 use Rattle.std.proofs.Common.{Vec, Global}
 use Rattle.net_core.specs.Work.{uncut, time_work}
 use Rattle.dual_rail.proofs.Turns.{zip_long, own_zip, Zip-keep}
 use Rattle.sym_step.proofs.Cutting.{Demands-keep}
-use Rattle.sym_step.proofs.Sourced.{sourced, cuts_within}
+use Rattle.sym_step.proofs.Sourced.{sourced, cuts_within, all_unknown, unknown}
 use Rattle.sym_step.specs.declared.net_rails.NetRails.{NetRails}
-use Rattle.sym_step.proofs.NetRefs.{own_where, All-net-refs-keep}
+use Rattle.sym_step.proofs.NetRefs.{All-net-refs-keep}
 use Rattle.sym_step.proofs.Turning.{set_refs, with_some}
 use Rattle.dual_rail.proofs.Works.{Built-covers}
 use Rattle.dual_rail.specs.Rail.{AreRails}
@@ -82,8 +83,8 @@ returns-in_err-r-clause-built g c = λ ls ds sets zip family asked.
     let work : List Function = time_work net.raw ls (asks ds) sets in
     let before : ℕ → SymbolicSet = uncut net.raw ls sets in
     let good : Store → NetRails → Type 0 = HasSource net.raw (after_cuts ds before) id in
-    pass work good (λ x (found : Vec NetRails Global). HaveSources net.raw sets x net.raw.nets found.items) s t u fault c.from_residual.result gt gu p.0
-    (Built-covers work (some_bit (after_cuts ds before id) ∷ cuts_work ds before) good t u (Err fault) (with_some net.raw net.settled net.in_range net.one_driver net.in_order ls ds sets (zip_long (AreRails s) ls latches zip ∙ c.requires.long) t.vars id (cuts_work ds before) (subst (λ v. ArePossibleEach v net.raw ls (asks ds) sets) (sym kst.vars) family) inside (cuts_within net.raw ls ds sets)) (c.in_err-r.ensures ls ds sets (Zip-keep s t ls latches gs gt kst zip) (Demands-keep s t ds cuts gs gt kst asked))) c.from_residual.ensures.1
+    pass work good (λ x (found : Vec NetRails Global). HaveSources net.raw sets x net.raw.nets found.items) s t u fault c.from_residual-in_err-r.result gt gu p.0
+    (Built-covers work (some_bit (after_cuts ds before id) ∷ cuts_work ds before) good t u (Err fault) (with_some net.raw net.settled net.in_range net.one_driver net.in_order ls ds sets (zip_long (AreRails s) ls latches zip ∙ c.requires.long) t.vars id (cuts_work ds before) (subst (λ v. ArePossibleEach v net.raw ls (asks ds) sets) (sym kst.vars) family) inside (cuts_within net.raw ls ds sets)) (c.in_err-r.ensures ls ds sets (Zip-keep s t ls latches gs gt kst zip) (Demands-keep s t ds cuts gs gt kst asked))) c.from_residual-in_err-r.ensures.1
 
 pub returns-clause-built : goal.returns-clause-built
 returns-clause-built g c = λ ls ds sets zip family asked.
@@ -93,3 +94,17 @@ returns-clause-built g c = λ ls ds sets zip family asked.
     let p = c.loop-id.invariant.so ls ds sets zip family asked in
     Built-made (time_work net.raw ls (asks ds) sets) (λ x (found : Vec NetRails Global). HaveSources net.raw sets x net.raw.nets found.items) s t c.loop-id.nets p.0
     (λ k lt source. p.1 k (omega (arith, lt, c.loop-id-test.false)) source)
+
+pub loop-id-init : goal.loop-id-init
+loop-id-init g c =
+    let s : Store = g.N.Nodes.store c.args.nodes.now in
+    let gs = g.met.N.Nodes.diagram c.args.nodes.now in
+    let net = c.args.net.now in
+    let blank : c.in_ok-nets.nets.items ≡ replicate net.raw.nets unknown = c.in_ok-nets.ensures.items_if_clones_equal (λ y e. e)
+    ∙ ap (λ n. replicate n c.free.result) c.nets.ensures ∙ ap (λ (r : NetRails). replicate net.raw.nets r) c.free.ensures in
+    record {
+      long = ap length blank ∙ length-replicate net.raw.nets unknown;
+      keeps = Keeps-refl s;
+      refs = subst (All (AreNetRefs s)) (sym blank) (all_unknown s net.raw.nets gs);
+      so = λ ls ds sets zip family asked. (So-start (time_work net.raw ls (asks ds) sets) s, λ id lt source. absurd (omega arith));
+    }

@@ -1,4 +1,4 @@
-use Rattle.std.proofs.Common.{◌≡◌, ◌<◌, ◌+◌, List, length, take, get_or, subst, arith, Ok, Err}
+use Rattle.std.proofs.Common.{false, ◌≡◌, ◌<◌, ◌+◌, List, length, take, get_or, subst, arith, Ok, Err}
 use Rattle.std.proofs.lemmas.List.{get_or_default, take_all, length-map}
 use Rattle.ste_base.specs.declared.id.NodeId.{NodeId}
 use Rattle.dd_nodes.specs.Diagram.{Function}
@@ -10,8 +10,8 @@ use Rattle.dual_rail.specs.Rail.{HasFunction}
 use Rattle.dual_rail.proofs.Works.{So-start, Built-made, first, pass}
 use Rattle.dual_rail.proofs.Chains.{length-factors}
 use Rattle.sym_step.specs.declared.net_rails.NetRails.{NetRails}
-use Rattle.sym_step.specs.private.NetSets.{AreNetRefs, sets_at}
-use Rattle.sym_step.proofs.NetRefs.{own_net, own_where, Net-refs-keep}
+use Rattle.sym_step.specs.private.NetSets.{AreNetRefs, sets_at, own_where}
+use Rattle.sym_step.proofs.NetRefs.{own_net, Net-refs-keep}
 use Rattle.sym_step.proofs.Summing.{begun_product, filled_turn}
 use Rattle.sym_step.proofs.sums.filled.Goals as goal
 
@@ -19,7 +19,7 @@ abbrev no_net : NodeId
 no_net = record { 0 = 0 }
 
 abbrev no_rails : NetRails
-no_rails = record { can0 = record { 0 = 0 }; can1 = record { 0 = 0 }; some = record { 0 = 0 } }
+no_rails = record { can0 = record { 0 = 0 }; can1 = record { 0 = 0 }; some = record { 0 = 0 }; known = false }
 
 pub times-requires-clause-rails : goal.times-requires-clause-rails
 times-requires-clause-rails g c =

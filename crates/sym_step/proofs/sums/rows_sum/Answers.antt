@@ -23,7 +23,7 @@ abbrev no_net : NodeId
 no_net = record { 0 = 0 }
 
 abbrev no_rails : NetRails
-no_rails = record { can0 = record { 0 = 0 }; can1 = record { 0 = 0 }; some = record { 0 = 0 } }
+no_rails = record { can0 = record { 0 = 0 }; can1 = record { 0 = 0 }; some = record { 0 = 0 }; known = false }
 
 -- the pieces that are left, with the first of them named
 next_is : (pieces : List Piece) (k : ℕ) (d piece : Piece) → k < length pieces → get_or pieces k d ≡ piece → drop k pieces ≡ piece ∷ drop (k + 1) pieces

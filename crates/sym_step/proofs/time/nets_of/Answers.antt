@@ -21,7 +21,7 @@ returns-in_err-nets-clause-built g c = λ ls asked sets zip zipc family.
     let work : List Function = time_work net.raw ls asked sets in
     let Good : Store → Vec NetRails Global → Type 0 = λ x found. HaveNets net.raw sets x found.items in
     let Source : Store → Vec NetRails Global → Type 0 = λ x found. HaveSources net.raw sets x net.raw.nets found.items in
-    pass work Source Good s s t c.in_err-nets.field-0.0 c.from_residual.result gs gt (So-start work s) (c.in_err-nets.ensures.built ls asked.cuts sets zip family zipc) c.from_residual.ensures.1
+    pass work Source Good s s t c.in_err-nets.field-0.0 c.from_residual-in_err-nets.result gs gt (So-start work s) (c.in_err-nets.ensures.built ls asked.cuts sets zip family zipc) c.from_residual-in_err-nets.ensures.1
 
 pub returns-in_err-place_gates-clause-built : goal.returns-in_err-place_gates-clause-built
 returns-in_err-place_gates-clause-built g c = λ ls asked sets zip zipc family.

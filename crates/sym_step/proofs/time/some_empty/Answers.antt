@@ -1,4 +1,4 @@
-use Rattle.std.proofs.Common.{◌≡◌, ◌<◌, List, length, map, ◌+◌, ◌++◌, subst, arith, take, get_or, Ok, Err}
+use Rattle.std.proofs.Common.{false, ◌≡◌, ◌<◌, List, length, map, ◌+◌, ◌++◌, subst, arith, take, get_or, Ok, Err}
 use Rattle.dd_nodes.specs.Diagram.{Function}
 use Rattle.dd_nodes.specs.Stores.{Store, Means, function}
 use Rattle.net_core.specs.Work.{SymbolicSet}
@@ -12,12 +12,12 @@ use Rattle.dd_nodes.proofs.Spending.{zero_means}
 use Rattle.dual_rail.proofs.Turns.{zip_long}
 use Rattle.sym_step.proofs.Emptied.{empty_turn}
 use Rattle.sym_step.specs.declared.net_rails.NetRails.{NetRails}
-use Rattle.sym_step.specs.private.NetSets.{AreNetRails}
-use Rattle.sym_step.proofs.NetRefs.{own_where, Net-refs-keep}
+use Rattle.sym_step.specs.private.NetSets.{AreNetRails, own_where}
+use Rattle.sym_step.proofs.NetRefs.{Net-refs-keep}
 use Rattle.sym_step.proofs.time.some_empty.Goals as goal
 
 abbrev none : NetRails
-none = record { can0 = record { 0 = 0 }; can1 = record { 0 = 0 }; some = record { 0 = 0 } }
+none = record { can0 = record { 0 = 0 }; can1 = record { 0 = 0 }; some = record { 0 = 0 }; known = false }
 
 abbrev work_of : List SymbolicSet → List Function
 work_of sets = map some_bit sets ++ (map no_bit sets ++ sums (map no_bit sets))

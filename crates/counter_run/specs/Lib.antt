@@ -1,0 +1,3 @@
+pub mod Undriven
+pub mod Runs
+pub mod private

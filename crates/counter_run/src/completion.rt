@@ -1,0 +1,84 @@
+//! A run from its inputs and free nets; begin with `complete`.
+
+ghost use Rattle.std.specs.Prelude.{◌≡◌, ◌<◌, OnOk, IfOk, length, map};
+ghost use Rattle.net_core.specs.OneRun.{IsGivenRun};
+ghost use Rattle.clock_step.specs.private.Settled.{bit_at};
+ghost use Rattle.counter_run.specs.private.Matrix.{AreSourceNodes, IsMatrix, cell};
+
+use crate::matrix::{gather, put_column};
+use crate::row::Row;
+use clock_step::settle::{bit_at, settle};
+use net_core::Net;
+use std::alloc::{AllocError, Global};
+use ste_base::{NodeId, Time};
+
+/// The same bits.
+fn copy_of(alloc: Global, bits: &[bool]) -> Result<Vec<bool>, AllocError>
+    ensures { IfOk result (λ copy. copy.items ≡ bits.now) }
+{
+    bits.iter().copied().collect(alloc)
+}
+
+/// What the latches hold one time later, in place of what they held.
+fn hold_next(net: &Net, bits: &[bool], held: &mut Vec<bool>) -> Result<(), AllocError>
+    ensures { OnOk result (held.new.items
+        ≡ map (λ latch. bit_at bits.now latch.input.0) net.now.raw.latches) }
+{
+    held.clear();
+    for latch in net.latches() {
+        held.push(bit_at(bits, latch.input))?;
+    }
+    Ok(())
+}
+
+/// Gives each net its bit at each time, from what is given. `bits` is a row with a bit for each
+/// net, used again at each time.
+fn complete_times(
+    alloc: Global,
+    net: &Net,
+    nodes: &[NodeId],
+    times: Time,
+    first: &[bool],
+    rows: &mut [Row],
+    bits: &mut [bool],
+) -> Result<(), AllocError>
+    requires nodes { AreSourceNodes net.now.raw nodes.now }
+    requires first { length first.now ≡ length net.now.raw.latches }
+    requires matrix { IsMatrix net.now.raw.nets times rows.old }
+    requires long { length bits.old ≡ net.now.raw.nets }
+    ensures matrix { OnOk result (IsMatrix net.now.raw.nets times rows.new) }
+    ensures run { OnOk result (IsGivenRun net.now.raw (cell rows.old) first.now times
+        (cell rows.new)) }
+{
+    let mut held = copy_of(alloc, first)?;
+    let mut row = Vec::new(alloc);
+    let mut gathered = Vec::new(alloc);
+    for t in 0..times {
+        gather(rows, nodes, t, &mut row)?;
+        settle(net, nodes, &row, &held, bits, &mut gathered)?;
+        put_column(rows, t, bits);
+        hold_next(net, bits, &mut held)?;
+    }
+    Ok(())
+}
+
+/// Gives each net its bit at each time: inputs and free nets, which are among the nodes, keep theirs, the latches begin with
+/// the first bits, and all else follows.
+pub fn complete(
+    alloc: Global,
+    net: &Net,
+    nodes: &[NodeId],
+    times: Time,
+    first: &[bool],
+    rows: &mut [Row],
+) -> Result<(), AllocError>
+    requires nodes { AreSourceNodes net.now.raw nodes.now }
+    requires first { length first.now ≡ length net.now.raw.latches }
+    requires matrix { IsMatrix net.now.raw.nets times rows.old }
+    ensures matrix { OnOk result (IsMatrix net.now.raw.nets times rows.new) }
+    ensures run { OnOk result (IsGivenRun net.now.raw (cell rows.old) first.now times
+        (cell rows.new)) }
+{
+    let mut bits = vec![in alloc; false; net.nets() as usize]?;
+    complete_times(alloc, net, nodes, times, first, rows, bits.as_mut_slice())
+}

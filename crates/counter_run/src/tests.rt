@@ -1,0 +1,243 @@
+//! Runs worked by hand; begin with `rows_of_given_bits`.
+
+ghost use Rattle.std.specs.Prelude.{◌≡◌, ◌<◌, ◌∷◌, ◌↔◌, [], All, IfOk, IsTrue, length};
+ghost use Rattle.net_core.specs.Cover.{IsCover};
+ghost use Rattle.net_core.specs.Flat.{HasOneDriver, IsInRange};
+
+use crate::printed::run_as_asked;
+use crate::simple::two_valued;
+use crate::undriven::undriven_nets;
+use bool_expr::Expr;
+use net_core::{Cover, Gate, Init, Latch, Lit, Net, RawNet, order};
+use std::alloc::{AllocError, Global};
+use std::test::Fail;
+use ste_base::{Items, Name, NodeId, Time, VarId};
+use ste_model::{Assertion, Quint};
+
+/// A gate of two inputs.
+fn gate(alloc: Global, one: u32, other: u32, output: u32, cover: u32) -> Result<Gate, AllocError>
+    ensures { IfOk result (λ gate. gate ≡ record {
+      inputs = record { 0 = one } ∷ (record { 0 = other } ∷ []);
+      output = record { 0 = output };
+      cover = cover;
+    }) }
+{
+    Ok(Gate {
+        inputs: Items::from(Vec::from_array(alloc, [NodeId(one), NodeId(other)])?),
+        output: NodeId(output),
+        cover,
+    })
+}
+
+/// A cover of two rows over two inputs.
+fn cover(alloc: Global, on: bool, first: [Lit; 2], second: [Lit; 2]) -> Result<Cover, AllocError>
+    ensures sound { IfOk result (λ cover. IsCover cover) }
+    ensures wide { IfOk result (λ cover. cover.inputs ≡ 2) }
+{
+    let first = Items::from(Vec::from_array(alloc, first)?);
+    let second = Items::from(Vec::from_array(alloc, second)?);
+    Ok(Cover {
+        inputs: 2,
+        on,
+        rows: Items::from(Vec::from_array(alloc, [first, second])?),
+    })
+}
+
+/// An input d, which is net 0, and free nets f, which is net 2, and 7. Latches: q takes d and has initial value 1, p takes
+/// w and has 0, r takes f and has neither. Gates, the later one first: w is y or p, but not both; y is d and f. Net 1 is
+/// q, 3 p, 4 r, 5 y and 6 w.
+fn sample(alloc: Global) -> Result<RawNet, AllocError>
+    ensures in_range { IfOk result (λ raw. IsInRange raw) }
+    ensures one_driver { IfOk result (λ raw. HasOneDriver raw) }
+{
+    let latches = [
+        Latch {
+            input: NodeId(0),
+            output: NodeId(1),
+            init: Init::One,
+        },
+        Latch {
+            input: NodeId(6),
+            output: NodeId(3),
+            init: Init::Zero,
+        },
+        Latch {
+            input: NodeId(2),
+            output: NodeId(4),
+            init: Init::Free,
+        },
+    ];
+    let either = cover(alloc, true, [Lit::One, Lit::Zero], [Lit::Zero, Lit::One])?;
+    let both = cover(alloc, false, [Lit::Zero, Lit::Any], [Lit::Any, Lit::Zero])?;
+    let gates = [gate(alloc, 5, 3, 6, 0)?, gate(alloc, 0, 2, 5, 1)?];
+    Ok(RawNet {
+        nets: 8,
+        inputs: Items::from(Vec::from_array(alloc, [NodeId(0)])?),
+        outputs: Items::new(alloc),
+        gates: Items::from(Vec::from_array(alloc, gates)?),
+        latches: Items::from(Vec::from_array(alloc, latches)?),
+        covers: Items::from(Vec::from_array(alloc, [either, both])?),
+    })
+}
+
+/// The net, in order.
+fn sample_net(alloc: Global) -> Result<Net, Fail> {
+    match order(alloc, sample(alloc)?) {
+        Ok(net) => Ok(net),
+        Err(_) => Err("no order".into()),
+    }
+}
+
+/// The bits of a text of the characters 0 and 1.
+fn bits_of(alloc: Global, text: &[u8]) -> Result<Items<bool>, AllocError> {
+    let bits: Vec<bool> = text.iter().map(|byte| *byte == b'1').collect(alloc)?;
+    Ok(bits.into())
+}
+
+/// Rows of bits, each with a blank before it.
+fn text_of(alloc: Global, rows: &[Items<bool>]) -> Result<Vec<u8>, AllocError> {
+    let mut out = Vec::new(alloc);
+    for row in rows {
+        out.push(b' ')?;
+        for bit in row.as_slice() {
+            out.push(if *bit { b'1' } else { b'0' })?;
+        }
+    }
+    Ok(out)
+}
+
+/// Whether each row has so many bits.
+fn are_as_long(rows: &[Items<bool>], times: Time) -> bool
+    ensures { IsTrue result ↔ All (λ row. length row ≡ times) rows.now }
+{
+    rows.iter().all(|row| row.len() == times as usize)
+}
+
+/// The rows of the run with these bits.
+fn run_with(
+    alloc: Global,
+    net: &Net,
+    times: Time,
+    inputs: &[Items<bool>],
+    first: &[bool],
+) -> Result<Vec<u8>, Fail> {
+    let nodes = undriven_nets(alloc, net)?;
+    if inputs.len() != nodes.len() || first.len() != net.latches().len() {
+        return Err("a row for each input and free net, and a bit for each latch".into());
+    }
+    if !are_as_long(inputs, times) {
+        return Err("a bit for each time".into());
+    }
+    let run = two_valued(alloc, net, times, inputs, first)?;
+    let text = text_of(alloc, run.rows.as_slice())?;
+    Ok(text)
+}
+
+#[test]
+fn rows_of_given_bits(rt: HostRuntime) -> Result<(), Fail> {
+    let alloc = rt.alloc();
+    let net = sample_net(alloc)?;
+    let rows = [
+        bits_of(alloc, b"110")?,
+        bits_of(alloc, b"101")?,
+        bits_of(alloc, b"011")?,
+    ];
+    let three = run_with(alloc, &net, 3, &rows, &[false, true, false])?;
+    assert_eq!(rt;
+        three.as_slice(),
+        b" 110 011 101 100 010 100 000 011".as_slice()
+    );
+    let none = [
+        bits_of(alloc, b"")?,
+        bits_of(alloc, b"")?,
+        bits_of(alloc, b"")?,
+    ];
+    let empty = run_with(alloc, &net, 0, &none, &[false, true, false])?;
+    assert_eq!(rt; empty.as_slice(), b"        ".as_slice());
+    Ok(())
+}
+
+/// The value of the variable, or 1.
+fn asked(variable: bool) -> Expr {
+    if variable {
+        Expr::Var(VarId(0))
+    } else {
+        Expr::Const(true)
+    }
+}
+
+/// A quintuple that asks for the variable, or for 1, of a net, where the variable is 1, or always.
+fn quint(guard: bool, node: u32, value: bool, from: Time, to: Time) -> Quint {
+    Quint {
+        guard: asked(guard),
+        node: NodeId(node),
+        value: asked(value),
+        from,
+        to,
+    }
+}
+
+/// d has the variable at times 0 and 1, and f has 1 at time 1 where the variable is 1; with `latch` q has 1 at time 0. The
+/// depth is 3.
+fn task(alloc: Global, reset: bool, latch: bool) -> Result<Assertion, AllocError> {
+    let mut ant = Items::new(alloc);
+    ant.push(quint(false, 0, true, 0, 2))?;
+    ant.push(quint(true, 2, false, 1, 2))?;
+    if latch {
+        ant.push(quint(false, 1, false, 0, 1))?;
+    }
+    let mut con = Items::new(alloc);
+    con.push(quint(false, 6, false, 0, 3))?;
+    Ok(Assertion {
+        name: Name::from_bytes(alloc, b"t")?,
+        reset,
+        ant,
+        con,
+    })
+}
+
+/// Whether each quintuple asks of a net that there is.
+fn ask_of_nets(net: &Net, quints: &[Quint]) -> bool
+    ensures { IsTrue result ↔ All (λ quint. quint.node.0 < net.now.raw.nets) quints.now }
+{
+    let nets = net.nets();
+    quints.iter().all(|quint| quint.node.0 < nets)
+}
+
+/// The rows of the printed run of such a task.
+fn printed(alloc: Global, net: &Net, reset: bool, latch: bool, bit: bool) -> Result<Vec<u8>, Fail> {
+    let task = task(alloc, reset, latch)?;
+    if !ask_of_nets(net, task.ant.as_slice()) {
+        return Err("no such net".into());
+    }
+    let run = run_as_asked(alloc, net, &task, &[bit])?;
+    let text = text_of(alloc, run.rows.as_slice())?;
+    Ok(text)
+}
+
+#[test]
+fn printed_runs_have_what_is_asked_and_0_elsewhere(rt: HostRuntime) -> Result<(), Fail> {
+    let alloc = rt.alloc();
+    let net = sample_net(alloc)?;
+    let one = printed(alloc, &net, false, true, true)?;
+    assert_eq!(rt;
+        one.as_slice(),
+        b" 110 111 010 001 001 010 011 000".as_slice()
+    );
+    let zero = printed(alloc, &net, false, true, false)?;
+    assert_eq!(rt;
+        zero.as_slice(),
+        b" 000 100 000 000 000 000 000 000".as_slice()
+    );
+    let free = printed(alloc, &net, false, false, false)?;
+    assert_eq!(rt;
+        free.as_slice(),
+        b" 000 000 000 000 000 000 000 000".as_slice()
+    );
+    let reset = printed(alloc, &net, true, false, false)?;
+    assert_eq!(rt;
+        reset.as_slice(),
+        b" 000 100 000 000 000 000 000 000".as_slice()
+    );
+    Ok(())
+}
