@@ -7,7 +7,8 @@ use std::test::Fail;
 use ste_io::{MemoryFiles, MemorySink};
 use ste_program::run::{Status, run};
 
-const USAGE: &str = "usage: stework (check NET TASKS or info NET or sim NET INPUTS or bench N) [--workers W] [--steps S] [--cubes C] [--wave] [--nodes]\n";
+const USAGE: &str =
+    "usage: stework (check NET TASKS or info NET or sim NET INPUTS or bench N) [--workers W] [--steps S] [--cubes C] [--wave] [--nodes]\n";
 
 const LATCH: &str = ".model l\n.inputs d\n.outputs q\n.latch d q 1\n.end\n";
 
@@ -67,7 +68,16 @@ fn words_that_are_no_command(rt: HostRuntime) -> Result<(), Fail> {
         "check n s --what",
         "--help",
     ] {
-        expect(&rt, alloc, words, INVERTER, INVERTS, Status::Refused, "", USAGE)?;
+        expect(
+            &rt,
+            alloc,
+            words,
+            INVERTER,
+            INVERTS,
+            Status::Refused,
+            "",
+            USAGE,
+        )?;
     }
     Ok(())
 }
@@ -86,19 +96,47 @@ fn options_and_steps(rt: HostRuntime) -> Result<(), Fail> {
     let alloc = rt.alloc();
     let both = "e: pass\nf: pass\n";
     for (words, status, out, err) in [
-        ("--wave check n --workers 2 s --cubes=3", Status::Passed, both, ""),
+        (
+            "--wave check n --workers 2 s --cubes=3",
+            Status::Passed,
+            both,
+            "",
+        ),
         ("check n s --steps 8000000", Status::Passed, both, ""),
-        ("check n s --steps 8000001", Status::Refused, "", "stework: too many steps\n"),
+        (
+            "check n s --steps 8000001",
+            Status::Refused,
+            "",
+            "stework: too many steps\n",
+        ),
     ] {
         expect(&rt, alloc, words, INVERTER, TWO_TASKS, status, out, err)?;
     }
     let graph = ".gste g v\n.end\n.ste f\n.end\n";
     let many = "stework: too many steps\n";
     let words = "check n s --steps 16000000";
-    expect(&rt, alloc, words, INVERTER, graph, Status::Refused, "", many)?;
+    expect(
+        &rt,
+        alloc,
+        words,
+        INVERTER,
+        graph,
+        Status::Refused,
+        "",
+        many,
+    )?;
     let unknown = ".gste g v\n.end\n.ste f\n.con z = 1 from 0 to 1\n.end\n";
     let named = "stework: s:4: unknown node z\n";
-    expect(&rt, alloc, words, INVERTER, unknown, Status::Refused, "", named)?;
+    expect(
+        &rt,
+        alloc,
+        words,
+        INVERTER,
+        unknown,
+        Status::Refused,
+        "",
+        named,
+    )?;
     Ok(())
 }
 
@@ -141,7 +179,16 @@ fn simulations(rt: HostRuntime) -> Result<(), Fail> {
         ("", "outputs q\n"),
         (".order\n-\n-\n", "outputs q\n1\n0\n"),
     ] {
-        expect(&rt, alloc, "sim n s", LATCH, inputs, Status::Passed, out, "")?;
+        expect(
+            &rt,
+            alloc,
+            "sim n s",
+            LATCH,
+            inputs,
+            Status::Passed,
+            out,
+            "",
+        )?;
     }
     let two = ".model m\n.inputs a b\n.outputs z b y z\n.names a b y\n10 1\n.names z\n.end\n";
     let out = "outputs z b y\n000\n010\n001\n";
@@ -149,14 +196,116 @@ fn simulations(rt: HostRuntime) -> Result<(), Fail> {
     expect(&rt, alloc, "sim n s", two, inputs, Status::Passed, out, "")?;
     let silent = ".model m\n.inputs a\n.end\n";
     let inputs = ".order a\n0\n1\n";
-    expect(&rt, alloc, "sim n s", silent, inputs, Status::Passed, "outputs\n\n\n", "")?;
+    expect(
+        &rt,
+        alloc,
+        "sim n s",
+        silent,
+        inputs,
+        Status::Passed,
+        "outputs\n\n\n",
+        "",
+    )?;
     for (inputs, err) in [
         (".order d d\n", "stework: s:1: double name d\n"),
         (".order z\n", "stework: s:1: unknown node z\n"),
         (".order q\n", "stework: s:1: not an input: q\n"),
         (".order d\n2\n", "stework: s:2: bad line\n"),
     ] {
-        expect(&rt, alloc, "sim n s", LATCH, inputs, Status::Refused, "", err)?;
+        expect(
+            &rt,
+            alloc,
+            "sim n s",
+            LATCH,
+            inputs,
+            Status::Refused,
+            "",
+            err,
+        )?;
     }
+    Ok(())
+}
+
+#[test]
+fn steps_and_budgets(rt: HostRuntime) -> Result<(), Fail> {
+    let alloc = rt.alloc();
+    let and = ".model and2\n.inputs a b\n.outputs y\n.names a b y\n11 1\n.end\n";
+    let task =
+        ".vars p q\n.ste t1\n.ant a = p from 0 to 1\n.ant b = q from 0 to 1\n.con y = p & q from 0 to 1\n.end\n";
+    for (words, status, out) in [
+        ("check n s --steps 1", Status::NotPassed, "t1: budget\n"),
+        ("check n s --steps 7", Status::Passed, "t1: pass\n"),
+        ("check n s", Status::Passed, "t1: pass\n"),
+    ] {
+        expect(&rt, alloc, words, and, task, status, out, "")?;
+    }
+    // without variables no node is needed
+    let plain = ".ste e\n.ant a = 1 from 0 to 1\n.con y = 0 from 0 to 1\n.end\n";
+    expect(
+        &rt,
+        alloc,
+        "check n s --steps 1",
+        INVERTER,
+        plain,
+        Status::Passed,
+        "e: pass\n",
+        "",
+    )?;
+    Ok(())
+}
+
+/// A text of `1 << doublings` bytes that begins with these and is a comment behind them.
+fn padded(alloc: Global, text: &str, doublings: usize) -> Result<Vec<u8>, AllocError> {
+    let mut bytes = Vec::new(alloc);
+    bytes.push(b'#')?;
+    for _ in 0..doublings {
+        let half = bytes.as_slice().to_vec(alloc)?;
+        bytes.extend_from_slice(&half)?;
+    }
+    let mut whole = text.as_bytes().to_vec(alloc)?;
+    if whole.len() < bytes.len() {
+        whole.extend_from_slice(&bytes[whole.len()..])?;
+    }
+    Ok(whole)
+}
+
+#[test]
+fn a_large_file(rt: HostRuntime) -> Result<(), Fail> {
+    let alloc = rt.alloc();
+    let words = words_of(alloc, "info n")?;
+    let mut files = MemoryFiles::new(alloc, Vec::new(alloc));
+    files.add("n", &padded(alloc, INVERTER, 20)?)?;
+    let mut output = MemorySink::new(alloc, 200, 200, Vec::new(alloc))?;
+    let mut errors = MemorySink::new(alloc, 200, 200, Vec::new(alloc))?;
+    let found = run(alloc, &words, &mut files, &mut output, &mut errors);
+    assert_eq!(&rt; found, Status::Passed);
+    let counts = "model inv\nnets 2\ninputs 1\nfree 0\ngates 1\nlatches 0\n";
+    assert_eq!(&rt; output.bytes(), counts.as_bytes());
+    Ok(())
+}
+
+#[test]
+fn a_long_simulation(rt: HostRuntime) -> Result<(), Fail> {
+    let alloc = rt.alloc();
+    // a hierarchy with a free net, a gate beside a latch, an inner name and a continued line
+    let net =
+        ".model t\n.inputs a\n.outputs y f\n.subckt u x=a y=y\n.model u\n.inputs x\n.outputs y\n.latch n y 0\n.names x z n\n1- 1\n-1 1\n.end\n";
+    let mut inputs = String::from_str(alloc, ".order \\\n 0/z f\n")?;
+    let mut out = String::from_str(alloc, "outputs y f\n00\n")?;
+    inputs.push_str("10\n")?;
+    for _ in 1..5000 {
+        inputs.push_str("11\n")?;
+        out.push_str("11\n")?;
+    }
+    let words = words_of(alloc, "sim n s")?;
+    let mut files = MemoryFiles::new(alloc, Vec::new(alloc));
+    files.add("n", net.as_bytes())?;
+    files.add("s", inputs.as_bytes())?;
+    let mut output = MemorySink::new(alloc, 20000, 500, Vec::new(alloc))?;
+    let mut errors = MemorySink::new(alloc, 200, 200, Vec::new(alloc))?;
+    let found = run(alloc, &words, &mut files, &mut output, &mut errors);
+    assert_eq!(&rt; errors.bytes().len(), 0);
+    assert_eq!(&rt; found, Status::Passed);
+    assert_eq!(&rt; output.bytes(), out.as_bytes());
     Ok(())
 }

@@ -44,7 +44,6 @@ fn order_of_refusals(rt: HostRuntime) -> Result<(), Fail> {
         (LOOP, GRAPH, "stework: n: loop at y\n"),
         (WIDE, UNKNOWN_NODE, "stework: t:3: unknown node z\n"),
         (WIDE, GRAPH, NOT_YET),
-        (WIDE, ".ste e\n.end\n", NOT_YET),
     ] {
         expect(&rt, alloc, net, tasks, Status::Refused, "", message)?;
     }

@@ -473,7 +473,10 @@ fn an_output_that_fails_within_a_line(rt: HostRuntime) -> Result<(), Fail> {
     let found = run(alloc, &words, &mut files, &mut output, &mut errors);
     assert_eq!(&rt; found, Status::Faulted);
     assert_eq!(&rt; output.bytes(), b"t1: pass" as &[u8]);
-    assert_eq!(&rt; errors.bytes(), b"stework: cannot write the report\n" as &[u8]);
+    assert_eq!(&rt;
+        errors.bytes(),
+        b"stework: cannot write the report\n" as &[u8]
+    );
     Ok(())
 }
 
