@@ -6,7 +6,7 @@ use crate::sink::{Sink, SinkFailed};
 use crate::steps::{read_up_to, write_some};
 use std::alloc::Global;
 use std::fs;
-use std::io::Write;
+use std::io::{ErrorKind, Write};
 
 /// The host's files, of which nothing is told.
 #[derive(Drop)]
@@ -26,9 +26,15 @@ impl<'a, R: std::rt::Files> Files for HostFiles<'a, R> {
     ghost state = { λ f. record { holds = None; asked = None; faults = f.faults } };
 
     fn fetch(&mut self, alloc: Global, name: &str, max: u64) -> Result<Vec<u8>, FetchFault> {
-        let Ok(file) = fs::open(self.rt, name) else {
-            self.faults = self.faults.saturating_add(1);
-            return Err(FetchFault::Failed);
+        let file = match fs::open(self.rt, name) {
+            Ok(file) => file,
+            Err(error) if error.kind() == ErrorKind::OutOfMemory => {
+                return Err(FetchFault::OutOfMemory);
+            }
+            Err(_) => {
+                self.faults = self.faults.saturating_add(1);
+                return Err(FetchFault::Failed);
+            }
         };
         match read_up_to(alloc, file, max) {
             Err(FetchFault::Failed) => {

@@ -1,6 +1,6 @@
 -- How a run ends, over plain variables: what a status says, and what follows for all of them.
-use Rattle.std.proofs.Common.{◌≡◌, ◌≤◌, ℕ, zero, suc, Bool, true, false, cond, List, [], ◌∷◌, ◌++◌, length, Option, None, Some, refl, ap, sym, ◌∙◌, subst, take, inl, inr, arith}
-use Rattle.std.specs.Prelude.{◌≢◌, ◌⊎◌, option_to_list, slice_get}
+use Rattle.std.proofs.Common.{◌≡◌, ◌≤◌, ℕ, zero, suc, Bool, true, false, cond, List, [], ◌∷◌, length, Option, None, Some, refl, ap, sym, ◌∙◌, subst, take, inl, inr, arith}
+use Rattle.std.specs.Prelude.{◌≢◌, ◌⊎◌, slice_get}
 use Rattle.std.specs.List.{AllZip}
 use Rattle.blif_syntax.specs.declared.models.Model.{Model}
 use Rattle.command_line.specs.Command.{Action, Command, bench, check, info, sim}
@@ -18,11 +18,11 @@ use Rattle.ste_model.specs.declared.task.Assertion.{Assertion}
 use Rattle.ste_model.specs.declared.task.Task.TheVariants.{Ste}
 use Rattle.ste_model.proofs.Passes.{pass_holds}
 use Rattle.ste_io.specs.Outside.{FilesState, SinkState, Store, took, with_names}
-use Rattle.ste_program.specs.Answer.{AskedAll, AskedSome, BrokeOff, IsDecided, NoneRose, Reported, WantedMemory, WasFaulted, WasRefused, WentOut, WhyNoReport, status_of}
+use Rattle.ste_program.specs.Answer.{AskedSome, BrokeOff, IsDecided, NoneRose, Reported, WantedMemory, WasFaulted, WasRefused, WentOut, WhyNoReport, status_of}
 use Rattle.ste_model.specs.declared.verdict.Verdict.{Verdict}
-use Rattle.ste_model.specs.declared.verdict.Verdict.TheVariants.{Budget, Pass, Vacuous}
+use Rattle.ste_model.specs.declared.verdict.Verdict.TheVariants.{Pass, Vacuous}
 use Rattle.ste_program.specs.Check.{IsVerdictOn, task_steps}
-use Rattle.ste_program.specs.Command.{file_of, files_of, files_up_to, net_file, second_file}
+use Rattle.ste_program.specs.Command.{files_of, files_up_to, net_file, second_file}
 use Rattle.ste_program.specs.Holds.{HoldsOf}
 use Rattle.ste_program.specs.Message.{cannot_write, message_of, out_of_memory}
 use Rattle.ste_program.specs.Order.{IsFirst, refusals}
@@ -32,7 +32,6 @@ use Rattle.ste_program.specs.private.Made.{IsMade}
 use Rattle.ste_program.specs.declared.refusal.File.{File}
 use Rattle.ste_program.specs.declared.refusal.File.TheVariants as file
 use Rattle.ste_program.specs.declared.refusal.Refusal.{Refusal}
-use Rattle.ste_program.specs.declared.refusal.Refusal.TheVariants as refusal
 use Rattle.ste_program.specs.declared.run.Status.{Status}
 use Rattle.ste_program.specs.declared.run.Status.TheVariants.{Passed, NotPassed, Refused, Faulted, NoMemory}
 use Rattle.ste_program.proofs.Fetched.{all_names, asked_none, first_names}

@@ -1,10 +1,10 @@
 -- The own names of the outputs of a flat net are the words of the top's outputs.
-use Rattle.std.proofs.Common.{◌≡◌, ◌<◌, ℕ, zero, suc, List, [], ◌∷◌, length, map, get_or, Some, refl, ap, sym, ◌∙◌, arith, inl, inr}
-use Rattle.std.specs.Prelude.{All, slice_get}
+use Rattle.std.proofs.Common.{◌≡◌, ◌<◌, ℕ, zero, suc, List, [], ◌∷◌, length, map, get_or, Some, refl, ap, ◌∙◌, arith, inl, inr}
+use Rattle.std.specs.Prelude.{slice_get}
 use Rattle.blif_syntax.specs.declared.models.Model.{Model}
 use Rattle.hierarchy.specs.Lines.{outputs_of, signals, top}
 use Rattle.hierarchy.specs.Names.{own_name}
-use Rattle.hierarchy.specs.Nets.{InstanceSignal, home, nets, number_at}
+use Rattle.hierarchy.specs.Nets.{InstanceSignal, nets, number_at}
 use Rattle.hierarchy.specs.Sizes.{IsShallow}
 use Rattle.hierarchy.proofs.Members.{In}
 use Rattle.instances.proofs.Homes.{at_number}

@@ -1,12 +1,12 @@
 -- The order of refusals: the first of the texts is the first behind both files; at most one refusal is the first; what is reported
 -- is not refused.
-use Rattle.std.proofs.Common.{◌≡◌, ℕ, List, [], ◌∷◌, length, Bool, true, false, Option, None, Some, Result, Ok, Err, refl, ap, sym, ◌∙◌, inl, inr, subst}
+use Rattle.std.proofs.Common.{◌≡◌, ℕ, List, Bool, true, false, Option, None, Some, Result, Ok, Err, refl, ap, sym, ◌∙◌, inl, inr, subst}
 use Rattle.std.specs.Prelude.{IsSomeAnd, MatchResult}
 use Rattle.command_line.specs.Command.{Action, Command}
 use Rattle.ste_io.specs.Outside.{FilesState, Store}
 use Rattle.ste_program.specs.Answer.{IsFound, WhyNoReport}
 use Rattle.ste_program.specs.Command.{is_undone, net_file, second_file}
-use Rattle.ste_program.specs.Order.{AllSilent, IsFirst, OneRefusal, ReportedIsNotRefused, is_in_texts, refusals, text_stages}
+use Rattle.ste_program.specs.Order.{AllSilent, IsFirst, OneRefusal, ReportedIsNotRefused, refusals, text_stages}
 use Rattle.ste_program.specs.Report.{IsReport, IsWritten, text_at}
 use Rattle.ste_program.specs.private.Made.{IsMade}
 use Rattle.ste_program.specs.private.Texts.{AreTexts, OrMemory}
@@ -78,7 +78,7 @@ found_in_texts command before after net_text second_text found done texts first 
           ),
         ),
       );
-  grounded = inr (done, inr (net_text, second_text, texts.net_read, texts.second_read, first));
+  grounded = inr (done, inr (net_text, second_text, texts.net_read, texts.second_read, texts.net_small, texts.second_small, first));
   asking = (2, texts.asking ∙ ap (asked before) (all_names (net_file command.action) (second_file command.action)));
 }
 

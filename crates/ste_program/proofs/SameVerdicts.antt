@@ -1,5 +1,5 @@
 -- Flat nets of one hierarchy have the same possible sets, and tasks that say the same ask the same: so they have the same verdicts.
-use Rattle.std.proofs.Common.{◌≡◌, ◌<◌, ℕ, zero, suc, Bool, List, [], ◌∷◌, ◌++◌, length, map, get_or, Option, Some, refl, ap, sym, ◌∙◌, subst, arith, max, fold, inl, inr}
+use Rattle.std.proofs.Common.{◌≡◌, ◌<◌, ℕ, zero, suc, Bool, List, [], ◌∷◌, ◌++◌, length, map, get_or, refl, ap, sym, ◌∙◌, subst, max, fold, inl, inr}
 use Rattle.std.specs.Prelude.{Any, codes, zip, ◌&&◌, nat_le, nat_lt}
 use Rattle.std.specs.List.{AllZip, flat_map, list_all}
 use Rattle.ste_base.specs.declared.id.NodeId.{NodeId}
@@ -7,7 +7,6 @@ use Rattle.bool_expr.specs.Value.{value_of}
 use Rattle.bool_expr.proofs.Values.{one_tree_has_one_value}
 use Rattle.blif_syntax.specs.declared.models.Model.{Model}
 use Rattle.net_core.specs.declared.bit_set.BitSet.{BitSet}
-use Rattle.net_core.specs.declared.raw.Gate.{Gate}
 use Rattle.net_core.specs.declared.raw.Latch.{Latch}
 use Rattle.net_core.specs.declared.raw.RawNet.{RawNet}
 use Rattle.net_core.specs.Run.{Cut, gate_bit}

@@ -1,12 +1,12 @@
 -- The text of a simulation, as the loops over names and rows see it.
-use Rattle.std.proofs.Common.{◌≡◌, ◌<◌, ℕ, suc, ◌+◌, Bool, List, [], ◌∷◌, ◌++◌, length, map, take, get_or, Some, refl, ap, sym, ◌∙◌, add-one, append-nil, append_assoc}
+use Rattle.std.proofs.Common.{◌≡◌, ◌<◌, ℕ, ◌+◌, List, [], ◌∷◌, ◌++◌, length, take, get_or, Some, refl, ap, sym, ◌∙◌, add-one, append-nil, append_assoc}
 use Rattle.std.specs.Prelude.{codes, flat_map, slice_get}
 use Rattle.std.proofs.lemmas.Grind.{flat_map-append}
 use Rattle.std.proofs.lemmas.Option.{get_or_from_slice_get}
 use Rattle.std.proofs.Math.Seq.{take-suc}
 use Rattle.net_names.specs.declared.names.NetNames.{NetNames}
 use Rattle.ste_base.specs.declared.id.NodeId.{NodeId}
-use Rattle.ste_program.specs.Simulated.{name_part, row_line, sim_text}
+use Rattle.ste_program.specs.Simulated.{name_part}
 use Rattle.ste_program.specs.private.Simulated.{own_names}
 
 name_at : (own : List (List ℕ)) (n : ℕ) (name : List ℕ) → slice_get own n ≡ Some name → get_or own n [] ≡ name

@@ -1,12 +1,11 @@
 -- What a simulation writes, or why it writes nothing, by the names of the flat net.
-use Rattle.std.proofs.Common.{◌≡◌, ◌∙◌, List, [], ◌∷◌, ℕ, Bool, Option, Result, Ok, Err, ap, refl, subst, inl, inr}
+use Rattle.std.proofs.Common.{◌≡◌, ◌∙◌, List, [], ◌∷◌, ℕ, Bool, Option, Result, Ok, Err, ap, subst, inl, inr}
 use Rattle.blif_lines.specs.Lines.{lines_of}
 use Rattle.blif_syntax.specs.declared.models.Model.{Model}
 use Rattle.clock_step.specs.Answer.{IsAnswer}
 use Rattle.clock_step.specs.Simulation.{AreOutputs}
 use Rattle.clock_step.specs.declared.inputs.Inputs.{Inputs}
 use Rattle.clock_step.specs.declared.fault.InputFault.{InputFault}
-use Rattle.hierarchy.specs.Lines.{outputs_of, top}
 use Rattle.hierarchy.specs.Names.{net_named}
 use Rattle.net_core.specs.declared.raw.RawNet.{RawNet}
 use Rattle.net_names.specs.Names.{AreNamesOf, named_by}

@@ -7,7 +7,6 @@ use Rattle.std.proofs.lemmas.Grind.{flat_map-append}
 use Rattle.std.proofs.lemmas.List.Elements.{All-cons}
 use Rattle.std.proofs.lemmas.List.{length-map, take_all}
 use Rattle.std.proofs.Math.Seq.{take-suc}
-use Rattle.ste_base.specs.declared.id.NodeId.{NodeId}
 use Rattle.blif_syntax.specs.declared.models.Model.{Model}
 use Rattle.hierarchy.specs.Names.{net_named}
 use Rattle.hierarchy.specs.Nets.{nets}

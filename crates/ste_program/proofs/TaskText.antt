@@ -1,6 +1,6 @@
 -- What a task file's text spells, and its one fault.
-use Rattle.std.proofs.Common.{◌≡◌, ℕ, List, [], map, Option, None, Some, Result, Ok, Err, refl, ap, sym, ◌∙◌, subst}
-use Rattle.std.specs.Prelude.{◌≢◌, IsErrAnd, MatchResult}
+use Rattle.std.proofs.Common.{◌≡◌, ℕ, List, [], map, Option, None, Some, Ok, Err, refl, ap, sym, ◌∙◌, subst}
+use Rattle.std.specs.Prelude.{◌≢◌}
 use Rattle.blif_lines.specs.declared.lines.Line.{Line}
 use Rattle.blif_lines.specs.Lines.{lines_of}
 use Rattle.assert_syntax.specs.Answer.{IsAnswer, entries_of}

@@ -1,6 +1,6 @@
 -- The stages of a command's texts: each gives one refusal at most, and what is known silences it.
-use Rattle.std.proofs.Common.{◌≡◌, ℕ, List, [], ◌∷◌, length, map, Option, None, Some, Result, Ok, Err, Bool, true, false, refl, ap, sym, ◌∙◌, inl, inr, subst}
-use Rattle.std.specs.Prelude.{⊤, ◌&&◌, ◌⊎◌, MatchResult, nat_le}
+use Rattle.std.proofs.Common.{◌≡◌, ℕ, List, [], ◌∷◌, length, map, Option, Result, Ok, Err, Bool, true, false, refl, ap, sym, ◌∙◌, inl, inr, subst}
+use Rattle.std.specs.Prelude.{◌&&◌, MatchResult}
 use Rattle.std.specs.List.{list_all}
 use Rattle.std.proofs.lemmas.List.{length-map}
 use Rattle.blif_lines.specs.Lines.{lines_of}
@@ -12,7 +12,7 @@ use Rattle.clock_step.specs.declared.inputs.Inputs.{Inputs}
 use Rattle.command_line.specs.Command.{Action, bench, check, info, sim}
 use Rattle.hierarchy.specs.Faults.{IsFree, IsRefusal}
 use Rattle.hierarchy.specs.Names.{net_named}
-use Rattle.hierarchy.specs.Nets.{gates, nets}
+use Rattle.hierarchy.specs.Nets.{nets}
 use Rattle.hierarchy.specs.declared.fault.NetFault.{NetFault}
 use Rattle.net_core.specs.Run.{IsSettled}
 use Rattle.net_core.specs.declared.raw.RawNet.{RawNet}
@@ -28,12 +28,10 @@ use Rattle.task_binding.specs.declared.fault.BindFault.{BindFault}
 use Rattle.task_binding.proofs.Alike as binding
 use Rattle.ste_program.specs.Answer.{status_of}
 use Rattle.ste_program.specs.Check.{IsCheck, are_too_many}
-use Rattle.ste_program.specs.Info.{IsInfo}
-use Rattle.ste_program.specs.Netlist.{IsFlattened, IsLoop, IsNetlist}
-use Rattle.ste_program.specs.Order.{AllSilent, CannotBind, HasTooManySteps, IsFaultyFor, IsFirst, IsUnchecked, check_stages, has_faulty_hierarchy, has_faulty_inputs, has_faulty_tasks, has_loop, info_stages, is_faulty, is_unbound, sim_stages, text_stages}
+use Rattle.ste_program.specs.Netlist.{IsLoop, IsNetlist}
+use Rattle.ste_program.specs.Order.{AllSilent, CannotBind, HasTooManySteps, IsFaultyFor, IsFirst, IsUnchecked, check_stages, has_faulty_hierarchy, has_faulty_inputs, has_faulty_tasks, has_loop, info_stages, is_faulty, is_unbound, text_stages}
 use Rattle.ste_program.specs.Reading.{OneReading, is_assertion, is_checked_so_far}
 use Rattle.ste_program.specs.Report.{IsWritten}
-use Rattle.ste_program.specs.Simulated.{IsSimulated}
 use Rattle.ste_program.specs.TaskFile.{AreTasks}
 use Rattle.net_names.specs.declared.names.NetNames.{NetNames}
 use Rattle.ste_program.specs.private.Made.{HasNoNet, IsNetOf, IsNotBound}
@@ -41,7 +39,6 @@ use Rattle.ste_program.specs.private.Prepared.{IsPrepared}
 use Rattle.ste_program.specs.private.Texts.{OrMemory}
 use Rattle.ste_program.specs.declared.refusal.Refusal.{Refusal}
 use Rattle.ste_program.specs.declared.refusal.Refusal.TheVariants as refusal
-use Rattle.ste_program.specs.declared.run.Status.TheVariants as status
 use Rattle.ste_program.proofs.HierarchyFaults as hierarchy
 use Rattle.ste_program.proofs.Loops.{no_loop, one_loop}
 use Rattle.ste_program.proofs.NetlistText as netlist

@@ -1,6 +1,6 @@
 -- What the layers' own answers tell of texts.
-use Rattle.std.proofs.Common.{◌≡◌, ◌∙◌, ℕ, List, [], ◌∷◌, length, map, get_or, Option, Some, Result, Ok, Err, refl, ap, sym, subst, inl, inr}
-use Rattle.std.specs.Prelude.{◌⊎◌, ◌≢◌, ◌<◌, slice_get}
+use Rattle.std.proofs.Common.{◌≡◌, ◌∙◌, ℕ, List, length, Option, Some, Result, Err, refl, ap, sym, subst, inl, inr}
+use Rattle.std.specs.Prelude.{◌⊎◌, slice_get}
 use Rattle.blif_lines.specs.declared.lines.Line.{Line}
 use Rattle.blif_lines.specs.Lines.{lines_of}
 use Rattle.blif_syntax.specs.Answer as blif_answer
@@ -15,7 +15,7 @@ use Rattle.assert_syntax.specs.declared.tasks.RawTasks.{RawTasks}
 use Rattle.clock_step.specs.Answer as input_answer
 use Rattle.clock_step.specs.declared.fault.InputFault.{InputFault}
 use Rattle.clock_step.specs.declared.fault.InputFault.TheVariants as input
-use Rattle.hierarchy.specs.Faults.{IsFree, IsRefusal}
+use Rattle.hierarchy.specs.Faults.{IsRefusal}
 use Rattle.hierarchy.specs.Names.{net_named}
 use Rattle.hierarchy.specs.Nets.{nets}
 use Rattle.hierarchy.specs.declared.fault.NetFault.{NetFault}
@@ -30,15 +30,14 @@ use Rattle.ste_model.specs.declared.task.Tasks.{Tasks}
 use Rattle.task_binding.specs.Answer.{IsAnswer}
 use Rattle.task_binding.specs.declared.fault.BindFault.{BindFault}
 use Rattle.task_binding.specs.declared.fault.BindFault.TheVariants as bind
-use Rattle.ste_program.specs.Netlist.{IsLoop, IsNetlistFault, net_lines}
+use Rattle.ste_program.specs.Netlist.{IsLoop, net_lines}
 use Rattle.ste_program.specs.Order.{has_faulty_tasks, is_faulty}
 use Rattle.ste_program.specs.Refused.{binding_refused, hierarchy_refused, inputs_refused, netlist_refused, tasks_refused}
-use Rattle.ste_program.specs.TaskFile.{IsTasksFault, task_lines}
+use Rattle.ste_program.specs.TaskFile.{task_lines}
 use Rattle.ste_program.specs.private.Made.{HasNoNet, IsNetOf, IsNotBound}
 use Rattle.ste_program.specs.private.Simulated.{AreNotGiven}
 use Rattle.ste_program.specs.private.Texts.{OrMemory}
 use Rattle.ste_program.specs.declared.refusal.Refusal.{Refusal}
-use Rattle.ste_program.specs.declared.refusal.Refusal.TheVariants as refusal
 
 -- a netlist's text that is refused
 netlist_told : (text : List ℕ) (fault : BlifFault) → blif_answer.IsAnswer (net_lines text) (Err fault) → OrMemory (is_faulty text) (netlist_refused fault)

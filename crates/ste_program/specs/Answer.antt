@@ -18,7 +18,7 @@ use Rattle.ste_program.specs.declared.run.Status.TheVariants as status
 abbrev pub AskedAll : Option Command → FilesState → FilesState → Type 0
 AskedAll command files files' = files' ≡ record files { asked = with_names files.asked (files_of command) }
 
--- the files were asked for the first of these names, or for none of them, and no more happened to them
+-- the files were asked for so many of these names, from the first on, and no more happened to them
 abbrev pub AskedSome : Option Command → FilesState → FilesState → Type 0
 AskedSome command files files' = (n : ℕ) × (files' ≡ record files { asked = with_names files.asked (take n (files_of command)) })
 
@@ -44,14 +44,14 @@ status_of (refusal.CannotRead which) = status.Faulted
 status_of refusal.OutOfMemory = status.NoMemory
 status_of found = status.Refused
 
--- What a refusal of a command that is done stands on: a file of its own that is too large; or two texts, which stand under the
--- names of its files where it is told, and whose first refusal it is.
+-- What a refusal of a command that is done stands on: a file of its own that is too large; or two texts, neither of them too large,
+-- which stand under the names of its files where it is told, and whose first refusal it is.
 abbrev pub IsGroundedIn : Command → FilesState → Refusal → Type 0
 IsGroundedIn command files found =
     ((which : File) × (name : List ℕ) × (file_of command.action which ≡ Some name) × (found ≡ refusal.TooLarge which)
     × IsTooLarge files.holds name greatest)
     ⊎ ((net_text : List ℕ) × (second_text : List ℕ) × IsRead files.holds (net_file command.action) net_text
-    × IsRead files.holds (second_file command.action) second_text
+    × IsRead files.holds (second_file command.action) second_text × (length net_text ≤ greatest) × (length second_text ≤ greatest)
     × IsFirst (text_stages command.action command.steps net_text second_text) found)
 
 -- What a refusal stands on, whether or not the files tell what they hold: the words; that the command is not done; or its files.

@@ -1,5 +1,5 @@
 -- Meaning. What `sim` writes on the texts of a netlist and of an input file. Source: this project's own choice.
-use Rattle.std.specs.Prelude.{◌≡◌, ◌∷◌, ◌++◌, [], ℕ, Bool, if◌then◌else◌, List, codes, flat_map, map, Ok}
+use Rattle.std.specs.Prelude.{◌≡◌, ◌++◌, ℕ, Bool, if◌then◌else◌, List, codes, flat_map, map, Ok}
 use Rattle.blif_lines.specs.Lines.{lines_of}
 use Rattle.blif_syntax.specs.declared.models.Model.{Model}
 use Rattle.clock_step.specs.Answer.{IsAnswer}

@@ -4,7 +4,7 @@ use Rattle.command_line.specs.Command.{Command}
 use Rattle.ste_io.specs.Outside.{FilesState, IsTooLarge, ReadFailed, asked_for, with_names}
 use Rattle.ste_program.specs.Answer.{AskedAll}
 use Rattle.ste_program.specs.Command.{net_file, second_file}
-use Rattle.ste_program.specs.Report.{IsRead, IsReport, greatest}
+use Rattle.ste_program.specs.Report.{IsRead, greatest}
 use Rattle.ste_program.specs.declared.refusal.File.{File}
 use Rattle.ste_program.specs.declared.refusal.Refusal.{Refusal}
 use Rattle.ste_program.specs.declared.refusal.Refusal.TheVariants as refusal

@@ -1,4 +1,4 @@
-use Rattle.std.proofs.Common.{◌∙◌, Err, Some, ap, inl, inr, refl, subst, sym}
+use Rattle.std.proofs.Common.{◌∙◌, Err, Some, ap, inr, refl, subst, sym}
 use Rattle.std.specs.Prelude.{◌≤◌, All}
 use Rattle.flat_net.specs.Flat.{IsFlat}
 use Rattle.net_core.specs.Cases.{cases_of}

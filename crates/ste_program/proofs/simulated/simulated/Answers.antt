@@ -1,4 +1,4 @@
-use Rattle.std.proofs.Common.{◌∙◌, ap, refl}
+use Rattle.std.proofs.Common.{◌∙◌, refl}
 use Rattle.ste_program.proofs.Simulations.{inputs_fail, is_simulated}
 use Rattle.ste_program.proofs.simulated.simulated.Goals as goal
 
