@@ -18,7 +18,8 @@ pub fn reported_is_not_refused()
     ensures { ReportedIsNotRefused }
 {}
 
-/// On what the files hold, where they tell it, a command has one report at most.
+/// On what the files hold, where they tell it, two reports of a command agree on each task but where one says budget; with the
+/// same verdicts they are one.
 pub fn one_report()
     ensures { OneReport }
 {}
