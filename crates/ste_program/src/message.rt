@@ -134,7 +134,8 @@ fn hierarchy_message(alloc: Global, name: &str, fault: &NetFault) -> Result<Item
 
 /// The message on a loop of gates, which names this net.
 fn loop_message(alloc: Global, name: &str, net: &[u8]) -> Result<Items<u8>, AllocError>
-    ensures { IfOk result (λ message. message ≡ file_message name.now (codes "loop at " ++ net.now)) }
+    ensures { IfOk result (λ message.
+        message ≡ file_message name.now (codes "loop at " ++ net.now)) }
 {
     let mut text = b"loop at ".to_vec(alloc)?;
     text.extend_from_slice(net)?;

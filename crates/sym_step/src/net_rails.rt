@@ -60,9 +60,10 @@ impl NetRails {
 
     /// What a literal refuses of the set.
     pub fn other(self, lit: Lit) -> Ref
-        ensures ref_of { (s : Store) → IsDiagram s.held s.vars → AreNetRefs s self → IsRef s result }
-        ensures means { (s : Store) (w : SymbolicSet) → IsDiagram s.held s.vars → AreNetRails s w self
-            → Means s (other_factor lit w) result }
+        ensures ref_of { (s : Store) → IsDiagram s.held s.vars → AreNetRefs s self
+            → IsRef s result }
+        ensures means { (s : Store) (w : SymbolicSet) → IsDiagram s.held s.vars
+            → AreNetRails s w self → Means s (other_factor lit w) result }
     {
         match lit {
             Lit::Zero => self.can1,

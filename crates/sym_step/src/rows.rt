@@ -28,7 +28,8 @@ pub struct GateRows {
 fn others(alloc: Global, cover: &Cover) -> Result<RowList, AllocError>
     requires inputs { cover.now.inputs ≤ 1000 }
     requires cases { cases_of cover.now.inputs cover.now.rows ≤ 65536 }
-    ensures { IfOk result (λ rows. rows ≡ record { width = cover.now.inputs; list = others_in cover.now }) }
+    ensures { IfOk result (λ rows. rows
+        ≡ record { width = cover.now.inputs; list = others_in cover.now }) }
 {
     let rows = other_rows(alloc, cover)?;
     RowList::of(alloc, cover.inputs, rows.as_slice())
@@ -60,7 +61,8 @@ impl GateRows {
     /// Both lists of rows of every cover of the net.
     pub fn of(alloc: Global, net: &Net) -> Result<GateRows, AllocError>
         requires inputs { All (λ cover. cover.inputs ≤ 1000) net.now.raw.covers }
-        requires cases { All (λ cover. cases_of cover.inputs cover.rows ≤ 65536) net.now.raw.covers }
+        requires cases { All (λ cover. cases_of cover.inputs cover.rows ≤ 65536)
+            net.now.raw.covers }
         ensures { IfOk result (λ rows. rows.covers ≡ map rows_of net.now.raw.covers) }
     {
         let mut covers = Vec::new(alloc);

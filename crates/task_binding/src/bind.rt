@@ -20,7 +20,8 @@ fn named_net<N: Resolve>(names: &N, node: &Name) -> NodeId
 
 /// A quintuple over nets.
 fn bind_quint<N: Resolve>(alloc: Global, names: &N, quint: &RawQuint) -> Result<Quint, AllocError>
-    ensures { IfOk result (λ bound. quint_tree bound ≡ quint_bound (net_by (N.net_of names.now)) quint.now) }
+    ensures { IfOk result (λ bound. quint_tree bound
+        ≡ quint_bound (net_by (N.net_of names.now)) quint.now) }
 {
     Ok(Quint {
         guard: copy_expr(alloc, &quint.guard)?,
@@ -33,7 +34,8 @@ fn bind_quint<N: Resolve>(alloc: Global, names: &N, quint: &RawQuint) -> Result<
 
 /// A binding of an edge over nets.
 fn bind_bind<N: Resolve>(alloc: Global, names: &N, bind: &RawBind) -> Result<Bind, AllocError>
-    ensures { IfOk result (λ bound. bind_tree bound ≡ bind_bound (net_by (N.net_of names.now)) bind.now) }
+    ensures { IfOk result (λ bound. bind_tree bound
+        ≡ bind_bound (net_by (N.net_of names.now)) bind.now) }
 {
     Ok(Bind {
         guard: copy_expr(alloc, &bind.guard)?,
@@ -76,7 +78,8 @@ fn bind_binds<N: Resolve>(
 
 /// An edge over nets.
 fn bind_edge<N: Resolve>(alloc: Global, names: &N, edge: &RawEdge) -> Result<Edge, AllocError>
-    ensures { IfOk result (λ bound. edge_tree bound ≡ edge_bound (net_by (N.net_of names.now)) edge.now) }
+    ensures { IfOk result (λ bound. edge_tree bound
+        ≡ edge_bound (net_by (N.net_of names.now)) edge.now) }
 {
     Ok(Edge {
         from: edge.from,
@@ -111,7 +114,8 @@ pub fn copies(alloc: Global, words: &[Name]) -> Result<Items<Name>, AllocError>
 
 /// A task over nets.
 pub fn bind_task<N: Resolve>(alloc: Global, names: &N, task: &RawTask) -> Result<Task, AllocError>
-    ensures { IfOk result (λ bound. task_tree bound ≡ task_bound (net_by (N.net_of names.now)) task.now) }
+    ensures { IfOk result (λ bound. task_tree bound
+        ≡ task_bound (net_by (N.net_of names.now)) task.now) }
 {
     match task {
         RawTask::Ste {

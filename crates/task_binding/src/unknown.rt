@@ -48,7 +48,8 @@ fn in_quints<N: Resolve>(
     found: Option<Mention>,
     quints: &[RawQuint],
 ) -> Result<Option<Mention>, AllocError>
-    ensures { IfOk result (λ next. GoesOn (N.net_of names.now) (map quint_mention quints.now) found next) }
+    ensures { IfOk result (λ next. GoesOn (N.net_of names.now)
+        (map quint_mention quints.now) found next) }
 {
     let mut found = found;
     for quint in quints {
@@ -63,7 +64,8 @@ fn in_binds<N: Resolve>(
     found: Option<Mention>,
     binds: &[RawBind],
 ) -> Result<Option<Mention>, AllocError>
-    ensures { IfOk result (λ next. GoesOn (N.net_of names.now) (map bind_mention binds.now) found next) }
+    ensures { IfOk result (λ next. GoesOn (N.net_of names.now)
+        (map bind_mention binds.now) found next) }
 {
     let mut found = found;
     for bind in binds {
@@ -78,7 +80,8 @@ fn in_edge<N: Resolve>(
     found: Option<Mention>,
     edge: &RawEdge,
 ) -> Result<Option<Mention>, AllocError>
-    ensures { IfOk result (λ next. GoesOn (N.net_of names.now) (edge_mentions edge.now) found next) }
+    ensures { IfOk result (λ next. GoesOn (N.net_of names.now)
+        (edge_mentions edge.now) found next) }
 {
     let found = in_binds(names, found, edge.ant.as_slice())?;
     in_binds(names, found, edge.con.as_slice())
@@ -120,7 +123,8 @@ fn in_task<N: Resolve>(
     found: Option<Mention>,
     task: &RawTask,
 ) -> Result<Option<Mention>, AllocError>
-    ensures { IfOk result (λ next. GoesOn (N.net_of names.now) (task_mentions task.now) found next) }
+    ensures { IfOk result (λ next. GoesOn (N.net_of names.now)
+        (task_mentions task.now) found next) }
 {
     match task {
         RawTask::Ste { ant, con, .. } => {
