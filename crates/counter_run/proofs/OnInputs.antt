@@ -7,7 +7,8 @@ use Rattle.net_core.specs.Flat.{HasOneDriver}
 use Rattle.net_core.specs.Run.{IsRun}
 use Rattle.net_core.specs.OneRun.{IsGivenRun}
 use Rattle.ste_model.specs.declared.run.Run.{Run}
-use Rattle.counter_run.specs.Runs.{HasRows, IsRunOn}
+use Rattle.ste_model.specs.Runs.{HasRows}
+use Rattle.counter_run.specs.Runs.{IsRunOn}
 use Rattle.counter_run.specs.Undriven.{undriven_nets}
 use Rattle.counter_run.specs.private.Matrix.{IsMatrix, cell}
 use Rattle.counter_run.proofs.Cells.{same_lists}
