@@ -42,15 +42,16 @@ abbrev pub cube_text : List (List ℕ) → List (VarId × Bool) → List ℕ
 cube_text vars [] = codes "1"
 cube_text vars (literal ∷ literals) = joined (codes " & ") (map (literal_text vars) (literal ∷ literals))
 
--- the line of a list of cubes, joined by ` | `, with ` | ...` behind them where there are more; an empty list has none
+-- The line of cubes with a title, joined by ` | `, with ` | ...` behind them where there are more; without cubes there is no line.
+abbrev pub cubes_line : List ℕ → List (List ℕ) → List (List (VarId × Bool)) → Bool → List ℕ
+cubes_line title vars [] more = []
+cubes_line title vars (cube ∷ cubes) more =
+    codes "  " ++ title ++ codes ": " ++ joined (codes " | ") (map (cube_text vars) (cube ∷ cubes))
+    ++ (if more then codes " | ..." else []) ++ codes "\n"
+
+-- the line of a list of cubes
 abbrev pub list_line : List ℕ → List (List ℕ) → CubeList → List ℕ
-list_line title vars list = cubes_line list.cubes list.more
-  where
-    abbrev cubes_line : List (List (VarId × Bool)) → Bool → List ℕ
-    cubes_line [] more = []
-    cubes_line (cube ∷ cubes) more =
-        codes "  " ++ title ++ codes ": " ++ joined (codes " | ") (map (cube_text vars) (cube ∷ cubes))
-        ++ (if more then codes " | ..." else []) ++ codes "\n"
+list_line title vars list = cubes_line title vars list.cubes list.more
 
 -- the lines of the strong, the weak and the contradictory assignments
 abbrev pub guards_text : List (List ℕ) → Guards → List ℕ
@@ -95,10 +96,13 @@ names_net (Gste graph) id =
 abbrev pub is_shown : Bool → Task → ℕ → Bool
 is_shown wave task id = wave || names_net task id
 
--- the line of a net in a run, where it is shown: its own name, and its bits from time 0 on
+-- the line of a net in a run: its own name, and its bits from time 0 on
+abbrev pub net_line : List ℕ × List Bool → List ℕ
+net_line net = codes "    " ++ net.0 ++ codes ": " ++ map bit_code net.1 ++ codes "\n"
+
+-- the line of a net in a run, where it is shown
 abbrev pub row_line : Bool → Task → ℕ × (List ℕ × List Bool) → List ℕ
-row_line wave task at =
-    if is_shown wave task at.0 then codes "    " ++ at.1.0 ++ codes ": " ++ map bit_code at.1.1 ++ codes "\n" else []
+row_line wave task at = if is_shown wave task at.0 then net_line at.1 else []
 
 -- the lines of the printed run, where one is told: a line for each shown net, in the order of the nets
 abbrev pub run_text : List (List ℕ) → Bool → Task → Option Run → List ℕ

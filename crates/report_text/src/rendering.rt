@@ -1,12 +1,101 @@
 //! The text of a report; begin with `render`.
 
-ghost use Rattle.std.specs.Prelude.{◌≡◌, ◌≤◌, ◌<◌, All, IfOk, IfSome, length};
-ghost use Rattle.report_text.specs.Text.{report_text};
+ghost use Rattle.std.specs.Prelude.{◌≡◌, ◌≤◌, ◌<◌, ◌++◌, All, IfOk, IfSome, codes, flat_map, length, zip};
+ghost use Rattle.report_text.specs.Text.{nodes_line, report_text, task_text, verdict_words};
 
+use crate::cubes::put_guards;
+use crate::failure::{put_fails, put_least, put_path};
+use crate::runs::put_run;
 use net_names::NetNames;
 use std::alloc::{AllocError, Global};
-use ste_base::Items;
-use ste_model::{Report, Tasks};
+use ste_base::Name;
+use ste_model::{Report, Task, Tasks, Verdict};
+
+/// Puts the words of a verdict behind a text.
+fn put_verdict(text: &mut Vec<u8>, verdict: Verdict) -> Result<(), AllocError>
+    ensures { IfOk result (λ _. text.new.items ≡ text.old.items ++ verdict_words verdict) }
+{
+    match verdict {
+        Verdict::Pass => text.extend_from_slice(b"pass"),
+        Verdict::Weak => text.extend_from_slice(b"weak failure"),
+        Verdict::Strong => text.extend_from_slice(b"strong failure"),
+        Verdict::Vacuous => text.extend_from_slice(b"contradictory antecedent"),
+        Verdict::Budget => text.extend_from_slice(b"budget"),
+    }
+}
+
+/// Puts the line with the name and the verdict of a task behind a text.
+fn put_head(text: &mut Vec<u8>, report: &Report) -> Result<(), AllocError>
+    ensures { IfOk result (λ _. text.new.items ≡ text.old.items
+        ++ (report.now.name ++ (codes ": " ++ (verdict_words report.now.verdict ++ codes "\n")))) }
+{
+    text.extend_from_slice(report.name.bytes())?;
+    text.extend_from_slice(b": ")?;
+    put_verdict(text, report.verdict)?;
+    text.push(b'\n')?;
+    Ok(())
+}
+
+/// Puts the lines of a task behind a text.
+fn put_task(
+    alloc: Global,
+    text: &mut Vec<u8>,
+    names: &NetNames,
+    vars: &[Name],
+    wave: bool,
+    task: &Task,
+    report: &Report,
+) -> Result<(), AllocError>
+    requires fails { IfSome report.now.fails (λ place. place.0.0 < length names.now.own) }
+    requires rows { IfSome report.now.run (λ run. length run.rows ≤ length names.now.own) }
+    ensures { IfOk result (λ _. text.new.items ≡ text.old.items
+        ++ task_text names.now.own vars.now wave (task.now, report.now)) }
+{
+    put_head(text, report)?;
+    put_guards(text, vars, &report.guards)?;
+    put_least(text, vars, &report.least)?;
+    put_path(alloc, text, report.path.as_slice())?;
+    put_fails(alloc, text, names, report.fails)?;
+    put_run(alloc, text, names, wave, task, &report.run)
+}
+
+/// Puts the lines of each task behind a text.
+fn put_tasks(
+    alloc: Global,
+    text: &mut Vec<u8>,
+    names: &NetNames,
+    tasks: &Tasks,
+    reports: &[Report],
+    wave: bool,
+) -> Result<(), AllocError>
+    requires fails { All (λ report. IfSome report.fails
+        (λ place. place.0.0 < length names.now.own)) reports.now }
+    requires rows { All (λ report. IfSome report.run
+        (λ run. length run.rows ≤ length names.now.own)) reports.now }
+    ensures { IfOk result (λ _. text.new.items ≡ text.old.items
+        ++ flat_map (task_text names.now.own tasks.now.vars wave) (zip tasks.now.tasks reports.now)) }
+{
+    let vars = tasks.vars.as_slice();
+    for (place, report) in reports.iter().enumerate() {
+        if let Some(task) = tasks.tasks.as_slice().get(place) {
+            put_task(alloc, text, names, vars, wave, task, report)?;
+        }
+    }
+    Ok(())
+}
+
+/// Puts the line of the number of shared nodes behind a text, where it is told.
+fn put_nodes(alloc: Global, text: &mut Vec<u8>, nodes: Option<u32>) -> Result<(), AllocError>
+    ensures { IfOk result (λ _. text.new.items ≡ text.old.items ++ nodes_line nodes) }
+{
+    if let Some(nodes) = nodes {
+        let number = format!(in alloc; "{nodes}")?;
+        text.extend_from_slice(b"shared nodes: ")?;
+        text.extend_from_slice(number.as_bytes())?;
+        text.push(b'\n')?;
+    }
+    Ok(())
+}
 
 /// The text of the reports of tasks, one for each task in order, over nets with these names. A run shows the nets that its
 /// task names, with `wave` all nets. `nodes` is the number of shared nodes, where it is to be told.
@@ -27,5 +116,8 @@ pub fn render(
     ensures { IfOk result (λ text. text.items
         ≡ report_text names.now.own tasks.now.vars wave nodes tasks.now.tasks reports.now) }
 {
-    Ok(Vec::new(alloc))
+    let mut text = Vec::new(alloc);
+    put_tasks(alloc, &mut text, names, tasks, reports, wave)?;
+    put_nodes(alloc, &mut text, nodes)?;
+    Ok(text)
 }
