@@ -38,6 +38,21 @@ fn put_next_literal(
     put_literal(text, vars, literal)
 }
 
+/// Puts literals behind a text that has another at its end.
+fn put_next_literals(
+    text: &mut Vec<u8>,
+    vars: &[Name],
+    literals: &[(VarId, bool)],
+) -> Result<(), AllocError>
+    ensures { IfOk result (λ _. text.new.items ≡ text.old.items
+        ++ flat_map (λ other. codes " & " ++ other) (map (literal_text vars.now) literals.now)) }
+{
+    for literal in literals {
+        put_next_literal(text, vars, *literal)?;
+    }
+    Ok(())
+}
+
 /// Puts a cube behind a text: its literals, the blank cube as `1`.
 fn put_cube(text: &mut Vec<u8>, vars: &[Name], cube: &[(VarId, bool)]) -> Result<(), AllocError>
     ensures { IfOk result (λ _. text.new.items ≡ text.old.items ++ cube_text vars.now cube.now) }
@@ -47,10 +62,7 @@ fn put_cube(text: &mut Vec<u8>, vars: &[Name], cube: &[(VarId, bool)]) -> Result
         return Ok(());
     };
     put_literal(text, vars, *first)?;
-    for literal in others {
-        put_next_literal(text, vars, *literal)?;
-    }
-    Ok(())
+    put_next_literals(text, vars, others)
 }
 
 /// Puts a cube behind a text that has another at its end.

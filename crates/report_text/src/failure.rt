@@ -1,9 +1,9 @@
 //! What a failure shows: the least assignment, the path and the failing place; begin with `put_least`.
 
-ghost use Rattle.std.specs.Prelude.{◌≡◌, ◌<◌, ◌++◌, IfOk, IfSome, flat_map, length, zip};
+ghost use Rattle.std.specs.Prelude.{◌≡◌, ◌<◌, ◌++◌, IfOk, IfSome, Some, flat_map, length, zip};
 ghost use Rattle.report_text.specs.Text.{bit_part, edge_part, fails_line, least_line, path_line};
 
-use crate::runs::bit_code;
+use crate::pieces::{bit_code, put_number};
 use net_names::NetNames;
 use std::alloc::{AllocError, Global};
 use ste_base::{Items, Name, NodeId, Time};
@@ -52,10 +52,8 @@ pub fn put_least(
 fn put_edge(alloc: Global, text: &mut Vec<u8>, edge: u32) -> Result<(), AllocError>
     ensures { IfOk result (λ _. text.new.items ≡ text.old.items ++ edge_part edge) }
 {
-    let number = format!(in alloc; "{edge}")?;
     text.push(b' ')?;
-    text.extend_from_slice(number.as_bytes())?;
-    Ok(())
+    put_number(alloc, text, edge)
 }
 
 /// Puts the numbers of edges behind a text.
@@ -81,6 +79,26 @@ pub fn put_path(alloc: Global, text: &mut Vec<u8>, edges: &[u32]) -> Result<(), 
     Ok(())
 }
 
+/// Puts the line of a failing place behind a text: a net's own name, and a time.
+fn put_place(
+    alloc: Global,
+    text: &mut Vec<u8>,
+    names: &NetNames,
+    id: NodeId,
+    time: Time,
+) -> Result<(), AllocError>
+    requires { id.0 < length names.now.own }
+    ensures { IfOk result (λ _. text.new.items
+        ≡ text.old.items ++ fails_line names.now.own (Some (id, time))) }
+{
+    text.extend_from_slice(b"  fails: ")?;
+    text.extend_from_slice(names.name(id).bytes())?;
+    text.extend_from_slice(b" at ")?;
+    put_number(alloc, text, time)?;
+    text.push(b'\n')?;
+    Ok(())
+}
+
 /// Puts the line of the failing place behind a text, where one is told.
 pub fn put_fails(
     alloc: Global,
@@ -92,13 +110,8 @@ pub fn put_fails(
     ensures { IfOk result (λ _. text.new.items
         ≡ text.old.items ++ fails_line names.now.own fails) }
 {
-    if let Some((id, time)) = fails {
-        let number = format!(in alloc; "{time}")?;
-        text.extend_from_slice(b"  fails: ")?;
-        text.extend_from_slice(names.name(id).bytes())?;
-        text.extend_from_slice(b" at ")?;
-        text.extend_from_slice(number.as_bytes())?;
-        text.push(b'\n')?;
+    match fails {
+        Some((id, time)) => put_place(alloc, text, names, id, time),
+        None => Ok(()),
     }
-    Ok(())
 }

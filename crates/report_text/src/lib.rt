@@ -4,6 +4,7 @@
 mod cubes;
 mod failure;
 mod marks;
+mod pieces;
 mod rendering;
 mod runs;
 

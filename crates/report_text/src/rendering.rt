@@ -1,10 +1,11 @@
 //! The text of a report; begin with `render`.
 
-ghost use Rattle.std.specs.Prelude.{◌≡◌, ◌≤◌, ◌<◌, ◌++◌, All, IfOk, IfSome, codes, flat_map, length, zip};
+ghost use Rattle.std.specs.Prelude.{◌≡◌, ◌≤◌, ◌<◌, ◌++◌, All, IfOk, IfSome, Some, codes, flat_map, length, zip};
 ghost use Rattle.report_text.specs.Text.{nodes_line, report_text, task_text, verdict_words};
 
 use crate::cubes::put_guards;
 use crate::failure::{put_fails, put_least, put_path};
+use crate::pieces::put_number;
 use crate::runs::put_run;
 use net_names::NetNames;
 use std::alloc::{AllocError, Global};
@@ -84,17 +85,24 @@ fn put_tasks(
     Ok(())
 }
 
+/// Puts the line of a number of shared nodes behind a text.
+fn put_count(alloc: Global, text: &mut Vec<u8>, nodes: u32) -> Result<(), AllocError>
+    ensures { IfOk result (λ _. text.new.items ≡ text.old.items ++ nodes_line (Some nodes)) }
+{
+    text.extend_from_slice(b"shared nodes: ")?;
+    put_number(alloc, text, nodes)?;
+    text.push(b'\n')?;
+    Ok(())
+}
+
 /// Puts the line of the number of shared nodes behind a text, where it is told.
 fn put_nodes(alloc: Global, text: &mut Vec<u8>, nodes: Option<u32>) -> Result<(), AllocError>
     ensures { IfOk result (λ _. text.new.items ≡ text.old.items ++ nodes_line nodes) }
 {
-    if let Some(nodes) = nodes {
-        let number = format!(in alloc; "{nodes}")?;
-        text.extend_from_slice(b"shared nodes: ")?;
-        text.extend_from_slice(number.as_bytes())?;
-        text.push(b'\n')?;
+    match nodes {
+        Some(count) => put_count(alloc, text, count),
+        None => Ok(()),
     }
-    Ok(())
 }
 
 /// The text of the reports of tasks, one for each task in order, over nets with these names. A run shows the nets that its

@@ -1,32 +1,16 @@
 //! The printed run: a line for each shown net; begin with `put_run`.
 
-ghost use Rattle.std.specs.Prelude.{◌≡◌, ◌≤◌, ◌<◌, ◌++◌, [], false, IfOk, IfSome, flat_map, length, map, slice_index_or, zip};
+ghost use Rattle.std.specs.Prelude.{◌≡◌, ◌≤◌, ◌<◌, ◌++◌, [], false, IfOk, IfSome, Some, flat_map, length, slice_index_or, zip};
 ghost use Rattle.std.specs.List.{enumerate_from};
-ghost use Rattle.report_text.specs.Text.{bit_code, net_line, run_text};
+ghost use Rattle.report_text.specs.Text.{net_line, run_text};
 ghost use Rattle.report_text.specs.private.Marks.{marked_line};
 
 use crate::marks::shown_nets;
+use crate::pieces::put_codes;
 use net_names::NetNames;
 use std::alloc::{AllocError, Global};
 use ste_base::{Items, NodeId};
 use ste_model::{Run, Task};
-
-/// The character of a bit.
-pub fn bit_code(bit: bool) -> u8
-    ensures { result ≡ bit_code bit }
-{
-    if bit { b'1' } else { b'0' }
-}
-
-/// Puts bits behind a text.
-fn put_codes(text: &mut Vec<u8>, bits: &[bool]) -> Result<(), AllocError>
-    ensures { IfOk result (λ _. text.new.items ≡ text.old.items ++ map bit_code bits.now) }
-{
-    for bit in bits {
-        text.push(bit_code(*bit))?;
-    }
-    Ok(())
-}
 
 /// Puts the line of a net in a run behind a text.
 fn put_net(text: &mut Vec<u8>, name: &[u8], bits: &[bool]) -> Result<(), AllocError>
@@ -104,6 +88,25 @@ fn put_rows(
     Ok(())
 }
 
+/// Puts the lines of a run of a task behind a text.
+fn put_lines(
+    alloc: Global,
+    text: &mut Vec<u8>,
+    names: &NetNames,
+    wave: bool,
+    task: &Task,
+    run: &Run,
+) -> Result<(), AllocError>
+    requires { length run.now.rows ≤ length names.now.own }
+    ensures { IfOk result (λ _. text.new.items
+        ≡ text.old.items ++ run_text names.now.own wave task.now (Some run.now)) }
+{
+    let rows = run.rows.as_slice();
+    let marks = shown_nets(alloc, wave, task, rows.len())?;
+    text.extend_from_slice(b"  run:\n")?;
+    put_rows(text, names, &marks, rows)
+}
+
 /// Puts the lines of the run of a task behind a text, where one is told: of the nets that the task
 /// names, with `wave` of all nets.
 pub fn put_run(
@@ -118,11 +121,8 @@ pub fn put_run(
     ensures { IfOk result (λ _. text.new.items
         ≡ text.old.items ++ run_text names.now.own wave task.now run.now) }
 {
-    if let Some(run) = run {
-        let rows = run.rows.as_slice();
-        let marks = shown_nets(alloc, wave, task, rows.len())?;
-        text.extend_from_slice(b"  run:\n")?;
-        put_rows(text, names, &marks, rows)?;
+    match run {
+        Some(run) => put_lines(alloc, text, names, wave, task, run),
+        None => Ok(()),
     }
-    Ok(())
 }
