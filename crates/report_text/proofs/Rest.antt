@@ -16,19 +16,6 @@ nothing_left [] ys (suc i) l = refl
 nothing_left (x ∷ xs) [] (suc i) l = beside_nothing (drop i xs)
 nothing_left (x ∷ xs) (y ∷ ys) (suc i) l = nothing_left xs ys i (omega arith)
 
--- behind the end of the first nothing is left
-pub nothing_before : {X Y : Type 0} → (xs : List X) (ys : List Y) (i : ℕ) → length xs ≤ i → zip (drop i xs) ys ≡ []
-nothing_before [] ys zero l = refl
-nothing_before (x ∷ xs) ys zero l = absurd (omega arith)
-nothing_before [] ys (suc i) l = refl
-nothing_before (x ∷ xs) ys (suc i) l = nothing_before xs ys i (omega arith)
-
--- what is left begins with the pair at the place
-pub pair_next : {X Y : Type 0} → (xs : List X) (ys : List Y) (i : ℕ) (d : X) (e : Y) → i < length xs → i < length ys → zip (drop i xs) (drop i ys) ≡ (get_or xs i d, get_or ys i e) ∷ zip (drop (i + 1) xs) (drop (i + 1) ys)
-pair_next xs ys i d e l m =
-    ap (λ ones. zip ones (drop i ys)) (drop_more xs i d l)
-    ∙ ap (λ others. zip (get_or xs i d ∷ drop (i + 1) xs) others) (drop_more ys i e m)
-
 -- with nothing left the text is whole
 pub at_end : {Z : Type 0} → (f : List Z → List ℕ) (text before : List ℕ) (rest whole : List Z) → f [] ≡ [] → rest ≡ [] → text ++ f rest ≡ before ++ f whole → text ≡ before ++ f whole
 at_end f text before rest whole blank none left = sym (append-nil text) ∙ (ap (λ r. text ++ r) (sym blank) ∙ (ap (λ r. text ++ f r) (sym none) ∙ left))

@@ -1,6 +1,6 @@
 //! What a failure shows: the least assignment, the path and the failing place; begin with `put_least`.
 
-ghost use Rattle.std.specs.Prelude.{◌≡◌, ◌<◌, ◌++◌, IfOk, IfSome, Some, flat_map, length, zip};
+ghost use Rattle.std.specs.Prelude.{◌≡◌, ◌<◌, ◌++◌, [], IfOk, IfSome, Some, flat_map, length, slice_index_or, zip};
 ghost use Rattle.report_text.specs.Text.{bit_part, edge_part, fails_line, least_line, path_line};
 
 use crate::pieces::{bit_code, put_number};
@@ -79,6 +79,16 @@ pub fn put_path(alloc: Global, text: &mut Vec<u8>, edges: &[u32]) -> Result<(), 
     Ok(())
 }
 
+/// Puts the own name of a net behind a text.
+fn put_name(text: &mut Vec<u8>, names: &NetNames, id: NodeId) -> Result<(), AllocError>
+    requires { id.0 < length names.now.own }
+    ensures { IfOk result (λ _. text.new.items
+        ≡ text.old.items ++ slice_index_or names.now.own id.0 []) }
+{
+    text.extend_from_slice(names.name(id).bytes())?;
+    Ok(())
+}
+
 /// Puts the line of a failing place behind a text: a net's own name, and a time.
 fn put_place(
     alloc: Global,
@@ -92,7 +102,7 @@ fn put_place(
         ≡ text.old.items ++ fails_line names.now.own (Some (id, time))) }
 {
     text.extend_from_slice(b"  fails: ")?;
-    text.extend_from_slice(names.name(id).bytes())?;
+    put_name(text, names, id)?;
     text.extend_from_slice(b" at ")?;
     put_number(alloc, text, time)?;
     text.push(b'\n')?;

@@ -28,7 +28,7 @@ fn put_verdict(text: &mut Vec<u8>, verdict: Verdict) -> Result<(), AllocError>
 /// Puts the line with the name and the verdict of a task behind a text.
 fn put_head(text: &mut Vec<u8>, report: &Report) -> Result<(), AllocError>
     ensures { IfOk result (λ _. text.new.items ≡ text.old.items
-        ++ (report.now.name ++ (codes ": " ++ (verdict_words report.now.verdict ++ codes "\n")))) }
+        ++ (report.now.name ++ codes ": " ++ verdict_words report.now.verdict ++ codes "\n")) }
 {
     text.extend_from_slice(report.name.bytes())?;
     text.extend_from_slice(b": ")?;
@@ -57,7 +57,8 @@ fn put_task(
     put_least(text, vars, &report.least)?;
     put_path(alloc, text, report.path.as_slice())?;
     put_fails(alloc, text, names, report.fails)?;
-    put_run(alloc, text, names, wave, task, &report.run)
+    put_run(alloc, text, names, wave, task, &report.run)?;
+    Ok(())
 }
 
 /// Puts the lines of each task behind a text.

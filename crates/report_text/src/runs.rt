@@ -104,7 +104,8 @@ fn put_lines(
     let rows = run.rows.as_slice();
     let marks = shown_nets(alloc, wave, task, rows.len())?;
     text.extend_from_slice(b"  run:\n")?;
-    put_rows(text, names, &marks, rows)
+    put_rows(text, names, &marks, rows)?;
+    Ok(())
 }
 
 /// Puts the lines of the run of a task behind a text, where one is told: of the nets that the task
