@@ -8,11 +8,7 @@ use ste_base::{Name, VarId};
 use ste_model::{Cube, CubeList, Guards};
 
 /// Puts a literal behind a text: the name of its variable, behind `!` where its bit is 0.
-fn put_literal(
-    text: &mut Vec<u8>,
-    vars: &[Name],
-    literal: (VarId, bool),
-) -> Result<(), AllocError>
+fn put_literal(text: &mut Vec<u8>, vars: &[Name], literal: (VarId, bool)) -> Result<(), AllocError>
     ensures { IfOk result (λ _. text.new.items ≡ text.old.items ++ literal_text vars.now literal) }
 {
     let (var, bit) = literal;
