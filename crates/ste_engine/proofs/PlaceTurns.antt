@@ -3,8 +3,12 @@ use Rattle.std.proofs.Common.{◌≡◌, ◌≢◌, ℕ, zero, suc, ◌+◌, ◌
 use Rattle.std.specs.Prelude.{Any, IfOk, IsSome}
 use Rattle.std.specs.List.{AllZip}
 use Rattle.std.proofs.lemmas.Bool.{cases_lt}
-use Rattle.dd_nodes.specs.Stores.{Keeps, Store}
-use Rattle.dd_nodes.proofs.Stores.{IsGood, Keeps-trans}
+use Rattle.dd_nodes.specs.Diagram.{Function}
+use Rattle.dd_nodes.specs.Functions.{IsCofactorOf}
+use Rattle.dd_nodes.specs.Spending.{Spends}
+use Rattle.dd_nodes.specs.Stores.{Store}
+use Rattle.dd_nodes.proofs.Spending.{Spends-then}
+use Rattle.dd_nodes.proofs.Stores.{Builds-nothing, IsGood, Keeps-trans}
 use Rattle.dd_ops.specs.declared.fault.OpFault.{OpFault}
 use Rattle.dd_ops.specs.declared.fault.OpFault.TheVariants.{StepsOut}
 use Rattle.dual_rail.specs.declared.rails.Rails.{Rails}
@@ -118,3 +122,12 @@ module _ (net : RawNet) (task : Assertion) (bits : List Bool) (failure : Failure
 pub not_some : (o : Option NodeId) → ((node : NodeId) → o ≡ Some node → ⊥) → o ≡ None
 not_some None never = refl
 not_some (Some node) never = absurd (never node refl)
+
+-- a call that makes nothing may stand behind any that builds
+pub spends_same : (fs : List Function) (s t u : Store) (none : Type 0) → IsGood t → IsGood u → Spends fs s t none → MakesNothing t u → Spends fs s u ⊥
+spends_same fs s t u none gt gu b same = Spends-then fs s t u none ⊥ gt gu b (record {
+  keeps = same.keeps;
+  limit = same.limit;
+  builds = Builds-nothing (IsCofactorOf t.vars fs) t u same.made;
+  spent = λ out. absurd out;
+})

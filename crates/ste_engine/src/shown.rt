@@ -12,6 +12,7 @@ ghost use Rattle.ste_engine.specs.private.Reports.{IsFailureOf, IsRunDue, TellFi
 use crate::failing::Failure;
 use crate::place::failing_place;
 use crate::results::Results;
+use counter_run::ste_run;
 use dd_nodes::{Nodes, Ref};
 use dd_ops::Ops;
 use dd_query::least;
@@ -92,8 +93,11 @@ fn run_due(
     requires strong { IsStrong net.now.raw task.now bits.now }
     ensures { IfOk result (λ run. IsRunDue net.now.raw task.now bits.now run) }
 {
-    let _ = are_quints_bindable(net, task.ant.as_slice());
-    Ok(None)
+    if !are_quints_bindable(net, task.ant.as_slice()) {
+        return Ok(None);
+    }
+    let run = ste_run(alloc, net, task, bits)?;
+    Ok(Some(run))
 }
 
 /// What a failure shows, from the verdict and the references that tell the findings.
