@@ -1,12 +1,12 @@
 -- Work functions where all is constant: a call that builds these makes nothing, and cannot be out of steps.
-use Rattle.std.proofs.Common.{◌≡◌, ℕ, zero, suc, ◌<◌, Bool, true, false, not, List, [], ◌∷◌, ◌++◌, map, length, Option, None, Some, refl, sym, ◌∙◌, ap, subst, arith, Contains, All, inl, inr}
+use Rattle.std.proofs.Common.{◌≡◌, ℕ, zero, suc, Bool, true, false, not, List, [], ◌∷◌, ◌++◌, map, length, Option, None, Some, refl, sym, ◌∙◌, ap, subst, arith, Contains, All, inl, inr}
 use Rattle.std.specs.Prelude.{◌==◌, ◌&&◌, ◌||◌, if◌then◌else◌, IsSome, slice_get, slice_index_or}
 use Rattle.std.proofs.lemmas.List.Elements.{Contains-append_right}
 use Rattle.dd_nodes.specs.declared.node.Ref.{Ref}
 use Rattle.dd_nodes.specs.Diagram.{IsCofactor}
 use Rattle.dd_nodes.specs.Functions.{IsCofactorOf}
 use Rattle.dd_nodes.specs.Spending.{Spends}
-use Rattle.dd_nodes.specs.Stores.{IsRef, Means, Store, function}
+use Rattle.dd_nodes.specs.Stores.{Means, Store, function}
 use Rattle.dd_nodes.proofs.Members.{Contains-cons_cases, Contains-none}
 use Rattle.dd_nodes.proofs.Spending.{one_means, zero_means}
 use Rattle.dd_nodes.proofs.Stores.{IsGood}

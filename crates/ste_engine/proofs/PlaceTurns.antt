@@ -1,6 +1,6 @@
 -- One time more under one assignment, and the place where it fails.
-use Rattle.std.proofs.Common.{◌≡◌, ◌≢◌, ℕ, zero, suc, ◌+◌, ◌<◌, Bool, List, [], ◌∷◌, length, map, Option, None, Some, refl, sym, ◌∙◌, ap, subst, arith, All, Result, Ok, Err, inl, inr}
-use Rattle.std.specs.Prelude.{Any, IfOk, IsSome}
+use Rattle.std.proofs.Common.{◌≡◌, ◌≢◌, ℕ, suc, ◌+◌, ◌<◌, Bool, List, length, Option, None, Some, refl, sym, ◌∙◌, subst, arith, All, Result, Err, inl, inr}
+use Rattle.std.specs.Prelude.{Any, IsSome}
 use Rattle.std.specs.List.{AllZip}
 use Rattle.std.proofs.lemmas.Bool.{cases_lt}
 use Rattle.dd_nodes.specs.Diagram.{Function}
@@ -20,7 +20,7 @@ use Rattle.net_core.specs.Work.{ArePossibleEach, SymbolicAsked, SymbolicSet, tim
 use Rattle.ste_base.specs.declared.id.NodeId.{NodeId}
 use Rattle.ste_model.specs.declared.task.Assertion.{Assertion}
 use Rattle.ste_model.specs.Asked.{cuts_at, depth}
-use Rattle.ste_model.specs.Found.{IsFound, IsTableOf}
+use Rattle.ste_model.specs.Found.{IsTableOf}
 use Rattle.ste_model.specs.Report.{IsFailingPlace}
 use Rattle.ste_model.specs.Work.{latches_at, symbolic_asked_at, symbolic_cuts_at}
 use Rattle.sym_step.specs.declared.cut.Cut.{Cut}
@@ -32,7 +32,7 @@ use Rattle.ste_engine.proofs.Constants.{never_out, nothing_made, of_time}
 use Rattle.ste_engine.proofs.Family.{family_at}
 use Rattle.ste_engine.proofs.FirstFails.{IsFirstFail}
 use Rattle.ste_engine.proofs.FixedTasks.{constant_cuts, constant_family, constant_latches, constant_table, fixed_depth, fixed_whole}
-use Rattle.ste_engine.proofs.Times.{firsts_are, held_long, zip_refs}
+use Rattle.ste_engine.proofs.Times.{held_long, zip_refs}
 
 -- ---- nothing is made
 

@@ -1,6 +1,6 @@
 -- What a failure shows, from the parts; and the report.
-use Rattle.std.proofs.Common.{◌≡◌, ◌≢◌, ℕ, ◌<◌, Bool, true, false, List, length, Option, None, Some, refl, sym, ◌∙◌, subst, All, inl, inr}
-use Rattle.std.specs.Prelude.{◌⊎◌, ◌↔◌, IsTrue}
+use Rattle.std.proofs.Common.{◌≡◌, ℕ, Bool, true, false, List, Option, None, Some, refl, sym, ◌∙◌, inl, inr}
+use Rattle.std.specs.Prelude.{◌⊎◌, IsTrue}
 use Rattle.dd_nodes.specs.declared.node.Ref.{Ref}
 use Rattle.dd_nodes.specs.Diagram.{Function}
 use Rattle.dd_nodes.specs.Stores.{Means, Store, function}
@@ -10,7 +10,6 @@ use Rattle.net_core.specs.Work.{SymbolicSet}
 use Rattle.ste_base.specs.declared.id.NodeId.{NodeId}
 use Rattle.ste_model.specs.declared.run.Run.{Run}
 use Rattle.ste_model.specs.declared.task.Assertion.{Assertion}
-use Rattle.ste_model.specs.declared.task.Task.TheVariants.{Ste}
 use Rattle.ste_model.specs.declared.verdict.Verdict.TheVariants.{Strong, Weak}
 use Rattle.ste_model.specs.Asked.{asked_at, depth}
 use Rattle.ste_model.specs.Assignments.{SomeAssignment, Tells}
@@ -18,7 +17,6 @@ use Rattle.ste_model.specs.Found.{FailsStrongly, FailsWeakly, IsContradictory, I
 use Rattle.ste_model.specs.Least.{IsLeast, IsLeastOf}
 use Rattle.ste_model.specs.Need.{IsWholeTable}
 use Rattle.ste_model.specs.Report.{IsDue, IsFailingPlace, IsPrintedUnder, IsShown}
-use Rattle.ste_model.specs.Shown.{IsBindable}
 use Rattle.ste_model.specs.Work.{contradictory_where, strong_where, weak_where}
 use Rattle.ste_model.proofs.Tables.{same_table}
 use Rattle.ste_model.proofs.Wheres.{results_are_findings}

@@ -1,10 +1,10 @@
 -- From the functions of the results to the verdict, and from what calls leave to what the engine answers.
 use Rattle.std.proofs.Common.{◌≡◌, ◌≢◌, ℕ, zero, suc, ◌<◌, ◌+◌, Bool, true, false, List, [], ◌∷◌, length, arith, sym, ap, refl, subst, ◌∙◌, inl, inr, All}
-use Rattle.std.specs.Prelude.{◌⊎◌, ◌↔◌, IsTrue, IsSome}
+use Rattle.std.specs.Prelude.{◌⊎◌, IsSome}
 use Rattle.std.specs.List.{AllPairs}
 use Rattle.dd_nodes.specs.declared.node.Ref.{Ref}
 use Rattle.dd_nodes.specs.Diagram.{Function}
-use Rattle.dd_nodes.specs.Stores.{Store, function, Means}
+use Rattle.dd_nodes.specs.Stores.{Store, function}
 use Rattle.dd_nodes.specs.Spending.{Spends}
 use Rattle.dd_nodes.proofs.Spending.{too_few}
 use Rattle.dd_nodes.proofs.Stores.{IsGood}

@@ -1,7 +1,5 @@
 use Rattle.std.proofs.Common.{◌≡◌, ◌≢◌, sym, ◌∙◌, ap, subst, Err}
 use Rattle.std.proofs.lemmas.Result.{IfOk-weaker}
-use Rattle.dd_nodes.specs.Functions.{IsCofactorOf}
-use Rattle.dd_nodes.specs.Spending.{Spends}
 use Rattle.dd_nodes.specs.Stores.{Store}
 use Rattle.dd_nodes.proofs.Spending.{Spends-out}
 use Rattle.dd_nodes.proofs.Stores.{Keeps-trans, Means-keeps}
@@ -10,9 +8,7 @@ use Rattle.net_core.specs.Run.{IsSettled}
 use Rattle.net_core.proofs.Ordered.{settled_by_order}
 use Rattle.ste_model.specs.declared.report.Report.{Report}
 use Rattle.ste_model.specs.declared.task.Assertion.{Assertion}
-use Rattle.ste_model.specs.declared.verdict.Verdict.{Verdict}
 use Rattle.ste_model.specs.declared.verdict.Verdict.TheVariants.{Budget}
-use Rattle.ste_model.specs.Found.{IsVerdictOf}
 use Rattle.ste_model.specs.Need.{IsWholeTable}
 use Rattle.ste_model.specs.Report.{IsReportOf, budget_report}
 use Rattle.ste_model.specs.Work.{task_work}

@@ -1,7 +1,6 @@
-use Rattle.std.proofs.Common.{◌≡◌, ◌<◌, ◌≤◌, ◌+◌, ℕ, Bool, List, Option, None, Some, All, length, map, Ok, Err, sym, ◌∙◌, ap, subst, arith}
+use Rattle.std.proofs.Common.{◌≡◌, ◌<◌, ◌≤◌, ◌+◌, ℕ, Bool, List, Option, All, length, map, Ok, Err, sym, ◌∙◌, ap, subst, arith}
 use Rattle.std.specs.List.{AllZip}
 use Rattle.dd_nodes.specs.Stores.{Store}
-use Rattle.dd_nodes.proofs.Stores.{IsGood}
 use Rattle.dual_rail.specs.declared.rails.Rails.{Rails}
 use Rattle.dual_rail.specs.Rail.{AreRails}
 use Rattle.net_core.specs.declared.bit_set.BitSet.{BitSet}
@@ -12,11 +11,9 @@ use Rattle.ste_model.specs.declared.task.Quint.{Quint}
 use Rattle.ste_model.specs.Asked.{cuts_at, depth}
 use Rattle.ste_model.specs.Found.{IsTableOf}
 use Rattle.ste_model.specs.Work.{constant_set, latches_at, symbolic_cuts_at}
-use Rattle.sym_step.specs.declared.cut.Cut.{Cut}
 use Rattle.sym_step.specs.declared.made.Step.{Step}
 use Rattle.sym_step.specs.Step.{IsCutBy, IsStep, rails_at}
 use Rattle.sym_step.proofs.Cutting.{Demands-keep}
-use Rattle.ste_engine.specs.declared.asks.Ask.{Ask}
 use Rattle.ste_engine.specs.declared.failing.Failure.{Failure}
 use Rattle.ste_engine.specs.private.Places.{fixed_asks, fixed_quint, fixed_task}
 use Rattle.ste_engine.specs.private.Times.{IsTimeline}

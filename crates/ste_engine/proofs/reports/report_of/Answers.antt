@@ -1,4 +1,4 @@
-use Rattle.std.proofs.Common.{◌≡◌, refl, sym, ◌∙◌, subst}
+use Rattle.std.proofs.Common.{sym, ◌∙◌, subst}
 use Rattle.dd_nodes.specs.Stores.{Store, function}
 use Rattle.net_core.specs.declared.raw.RawNet.{RawNet}
 use Rattle.ste_model.specs.declared.task.Assertion.{Assertion}
