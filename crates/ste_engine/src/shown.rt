@@ -69,16 +69,7 @@ fn least_failure<N: Nodes>(
         Some(bits) => bits,
         None => unreachable!(),
     };
-    let place = failing_place(
-        alloc,
-        ops,
-        nodes,
-        net,
-        rows,
-        task,
-        bits.as_slice(),
-        failure,
-    )?;
+    let place = failing_place(alloc, ops, nodes, net, rows, task, bits.as_slice(), failure)?;
     Ok(LeastFailure { bits, place })
 }
 
@@ -140,16 +131,7 @@ pub fn shown_of<N: Nodes>(
             })
         }
         Verdict::Weak => {
-            let first = least_failure(
-                alloc,
-                ops,
-                nodes,
-                net,
-                rows,
-                task,
-                r.weak,
-                Failure::Weak,
-            )?;
+            let first = least_failure(alloc, ops, nodes, net, rows, task, r.weak, Failure::Weak)?;
             Ok(Shown {
                 least: Some(first.bits),
                 fails: Some(first.place),

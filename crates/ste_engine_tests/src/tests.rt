@@ -552,12 +552,15 @@ fn worked_examples_have_their_reports(rt: HostRuntime) -> Result<(), Fail> {
         let (report, _) = report_of(
             alloc, &ready, told.reset, told.ant, told.con, 1000, told.max,
         )?;
-        assert_eq!(&rt; report.name.bytes(), b"t");
+        assert_eq!(&rt; report.name.bytes(), b"t".as_slice());
         assert_eq!(&rt; report.verdict, told.verdict, "verdict of {k}");
         let guards = &report.guards;
         assert!(&rt; has_cubes(&guards.strong, told.strong), "strong of {k}");
         assert!(&rt; has_cubes(&guards.weak, told.weak), "weak of {k}");
-        assert!(&rt; has_cubes(&guards.contradictory, told.contradictory), "contradictory of {k}");
+        assert!(&rt;
+            has_cubes(&guards.contradictory, told.contradictory),
+            "contradictory of {k}"
+        );
         assert_eq!(&rt; guards.contradictory.more, told.more, "more of {k}");
         assert!(&rt; !guards.strong.more && !guards.weak.more);
         let least = report.least.as_ref().map(|bits| bits.as_slice());
@@ -586,7 +589,7 @@ fn a_budget_report_is_blank(rt: HostRuntime) -> Result<(), Fail> {
     let claim = &[("y", Value::One, Value::P, 0, 1)];
     let (report, used) = report_of(alloc, &ready, false, given, claim, 0, 8)?;
     assert_eq!(&rt; used, 0);
-    assert_eq!(&rt; report.name.bytes(), b"t");
+    assert_eq!(&rt; report.name.bytes(), b"t".as_slice());
     assert_eq!(&rt; report.verdict, Verdict::Budget);
     assert!(&rt; has_cubes(&report.guards.strong, &[]));
     assert!(&rt; report.least.is_none() && report.fails.is_none() && report.run.is_none());

@@ -136,8 +136,8 @@ returns-in-Ok-clause-kept g c =
     let gu = g.met.N.Nodes.diagram c.report_of.new.nodes in
     let vars : u.vars ≡ s.vars = same.keeps.vars ∙ b.spends.keeps.vars in
     let kept : IsKept net task u = λ table whole f (k, has, cofactor).
-      let x = (c.in-Ok.ensures table (subst (λ v. IsWholeTable net v task table) vars whole)).ok.kept k has in
-      held_cofactor u k f x.0 gu (Means-keeps t u k x.0 gt gu same.keeps x.1) cofactor in
+    let x = (c.in-Ok.ensures table (subst (λ v. IsWholeTable net v task table) vars whole)).ok.kept k has in
+    held_cofactor u k f x.0 gu (Means-keeps t u k x.0 gt gu same.keeps x.1) cofactor in
     IfOk-weaker c.report_of.result (λ (report : Report). IsReportOf net t.vars c.args.cubes task report) (λ (report : Report). report.verdict ≢ Budget → IsKept net task u) (λ report is some. kept) c.report_of.ensures.report
 
 pub returns-in-Err-StepsOut-clause-budget : goal.returns-in-Err-StepsOut-clause-budget
