@@ -21,11 +21,11 @@ pub struct Command<'a> {
     /// What is done.
     pub action: Action<'a>,
     /// How many workers share the tasks, 1 to 64.
-    pub workers: u64,
+    pub workers: u32,
     /// Node steps for each task, 1 to 16,000,000; none where they are not given.
     pub steps: Option<u64>,
     /// How many cubes of a list are written at most, 1 to 64.
-    pub cubes: u64,
+    pub cubes: u32,
     /// Whether a run shows every net.
     pub wave: bool,
     /// Whether the number of shared nodes is written.

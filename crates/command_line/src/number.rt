@@ -1,6 +1,6 @@
 //! Numbers among the words; begin with `number_given`.
 
-ghost use Rattle.std.specs.Prelude.{◌≡◌};
+ghost use Rattle.std.specs.Prelude.{◌≡◌, ◌≤◌, IfSome};
 ghost use Rattle.std.specs.List.{list_all};
 ghost use Rattle.command_line.specs.Command.{is_digit, is_number, number_given};
 
@@ -26,7 +26,8 @@ fn is_number(text: &[u8]) -> bool
 /// The number from 1 to `greatest` that a text gives in decimal digits, without a sign and without
 /// a leading zero. None for every other text. It takes no memory.
 pub fn number_given(text: &str, greatest: u64) -> Option<u64>
-    ensures { result ≡ number_given greatest text.now }
+    ensures given { result ≡ number_given greatest text.now }
+    ensures within { IfSome result (λ number. number ≤ greatest) }
 {
     let digits = text.as_bytes();
     if !is_number(digits) {

@@ -138,11 +138,14 @@ fn action_in<'a>(matches: &ArgMatches<'a>) -> Option<Action<'a>>
 }
 
 /// The number of an option, the usual one where it is not given.
-fn number_or(text: Option<&str>, usual: u64, greatest: u64) -> Option<u64>
+fn number_or(text: Option<&str>, usual: u32, greatest: u32) -> Option<u32>
     ensures { result ≡ number_or usual greatest (option_map (λ t. t.now) text.entry) }
 {
     match text {
-        Some(text) => number_given(text, greatest),
+        Some(text) => {
+            let number = number_given(text, u64::from(greatest))?;
+            Some(number as u32)
+        }
         None => Some(usual),
     }
 }

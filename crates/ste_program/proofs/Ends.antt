@@ -1,32 +1,13 @@
 -- How a run ends, over plain variables: what a status says, and what follows for all of them.
 use Rattle.std.proofs.Common.{◌≡◌, ◌≤◌, ℕ, zero, suc, Bool, true, false, cond, List, [], ◌∷◌, length, Option, None, Some, refl, ap, sym, ◌∙◌, subst, take, inl, inr, arith}
 use Rattle.std.specs.Prelude.{◌≢◌, ◌⊎◌, slice_get}
-use Rattle.std.specs.List.{AllZip}
-use Rattle.blif_syntax.specs.declared.models.Model.{Model}
 use Rattle.command_line.specs.Command.{Action, Command, bench, check, info, sim}
-use Rattle.hierarchy.specs.Faults.{IsFree, IsRefusal}
-use Rattle.hierarchy.proofs.Refused.{before_is_refusal}
-use Rattle.flat_net.specs.Corresponds.{flat_bits}
-use Rattle.flat_net.specs.Flat.{IsFlat}
-use Rattle.flat_net.proofs.OneToOne.{corresponds}
-use Rattle.flat_net.proofs.Parting.{shallow}
-use Rattle.net_core.specs.declared.raw.RawNet.{RawNet}
-use Rattle.ste_model.specs.Asked.{depth}
-use Rattle.ste_model.specs.Found.{IsVerdictOf}
-use Rattle.ste_model.specs.Holds.{Holds}
-use Rattle.ste_model.specs.declared.task.Assertion.{Assertion}
-use Rattle.ste_model.specs.declared.task.Task.TheVariants.{Ste}
-use Rattle.ste_model.proofs.Passes.{pass_holds}
 use Rattle.ste_io.specs.Outside.{FilesState, SinkState, Store, took, with_names}
 use Rattle.ste_program.specs.Answer.{AskedSome, BrokeOff, IsDecided, NoneRose, Reported, WantedMemory, WasFaulted, WasRefused, WentOut, WhyNoReport, status_of}
-use Rattle.ste_model.specs.declared.verdict.Verdict.{Verdict}
-use Rattle.ste_model.specs.declared.verdict.Verdict.TheVariants.{Pass, Vacuous}
-use Rattle.ste_program.specs.Check.{IsVerdictOn, task_steps}
 use Rattle.ste_program.specs.Command.{files_of, files_up_to, net_file, second_file}
-use Rattle.ste_program.specs.Holds.{HoldsOf}
 use Rattle.ste_program.specs.Message.{cannot_write, message_of, out_of_memory}
 use Rattle.ste_program.specs.Order.{IsFirst, refusals}
-use Rattle.ste_program.specs.Report.{IsReport, IsWritten, PassHolds, PassesHold}
+use Rattle.ste_program.specs.Report.{IsReport}
 use Rattle.ste_program.specs.private.Endings.{IsEnded, IsTold}
 use Rattle.ste_program.specs.private.Made.{IsMade}
 use Rattle.ste_program.specs.declared.refusal.File.{File}
@@ -210,45 +191,6 @@ ended_not_failed command files files' err err' found result why (inr (inr broke)
 pub told_wanting : (out err err' : SinkState) (result : Status) → IsTold out_of_memory NoMemory result err err' → result ≡ NoMemory → WantedMemory out out err err'
 told_wanting out err err' result (inl told) e = record { untouched = refl; told = told.1 }
 told_wanting out err err' result (inr broke) e = let is = broke.0 in absurd (cc (is, e))
-
--- the elements of two lists at one place
-at_place : {A B : Type 0} (R : A → B → Type 0) (xs : List A) (ys : List B) (place : ℕ) (x : A) (y : B) → AllZip R xs ys → slice_get xs place ≡ Some x → slice_get ys place ≡ Some y → R x y
-at_place R [] ys place x y all here there = absurd (cc here)
-at_place R (a ∷ xs) [] place x y all here there = absurd (cc there)
-at_place R (a ∷ xs) (b ∷ ys) zero x y all here there =
-    let first : a ≡ x = cc here in
-    let second : b ≡ y = cc there in
-    subst (λ k. R x k) second (subst (λ k. R k b) first all.0)
-at_place R (a ∷ xs) (b ∷ ys) (suc place) x y all here there = at_place R xs ys place x y all.1 here there
-
--- what holds of the flat net holds of the hierarchy
-held : (models : List Model) (net : RawNet) (vars : ℕ) (task : Assertion) → IsFree (IsRefusal models) → IsFlat models net → Holds net vars task → HoldsOf models vars task
-held models net vars task sound flat holds bits long run is_run meets =
-    let low = shallow models (λ fault h. sound fault (before_is_refusal models fault h)) in
-    let runs = corresponds models net low flat (depth task) in
-    holds bits long (flat_bits models run)
-    (record { is_run = runs.to_flat run is_run.is_run; starts = λ some. runs.starts_to_flat task.reset run some is_run.is_run (is_run.starts some) }) meets
-
--- pass and contradictory antecedent are no budget
-no_budget : (net : RawNet) (vars steps : ℕ) (task : Assertion) (verdict : Verdict) → (verdict ≡ Pass) ⊎ (verdict ≡ Vacuous) → IsVerdictOn net vars steps (Ste task) verdict → IsVerdictOf net vars task verdict
-no_budget net vars steps task verdict says (inl told) = told
-no_budget net vars steps task verdict (inl pass) (inr over) = let is = over.0 in absurd (cc (pass, is))
-no_budget net vars steps task verdict (inr vacuous) (inr over) = let is = over.0 in absurd (cc (vacuous, is))
-
--- where a check says pass, the assertion holds
-check_holds : (action : Action) (steps : Option ℕ) (net_text second_text : List ℕ) (passes : Bool) (bytes : List ℕ) (written : IsWritten action steps net_text second_text passes bytes) → PassesHold action steps net_text second_text passes bytes written
-check_holds (check net tasks) steps net_text second_text passes bytes written = λ place task verdict here there says.
-    let n = written.reading.flattened in
-    let judged : IsVerdictOn written.net (length written.tasks.vars) (task_steps steps (length written.tasks.tasks)) (Ste task) verdict =
-    at_place (IsVerdictOn written.net (length written.tasks.vars) (task_steps steps (length written.tasks.tasks))) written.tasks.tasks written.report.verdicts place (Ste task) verdict written.report.judged here there in
-    held written.models written.net (length written.tasks.vars) task n.sound n.flat
-    (pass_holds written.net (length written.tasks.vars) task verdict n.settled says (no_budget written.net (length written.tasks.vars) (task_steps steps (length written.tasks.tasks)) task verdict says judged))
-check_holds (info net) steps net_text second_text passes bytes written = tt
-check_holds (sim net inputs) steps net_text second_text passes bytes written = tt
-check_holds (bench stages) steps net_text second_text passes bytes written = tt
-
-pub passes_hold : (command : Option Command) (files : FilesState) → PassHolds command files
-passes_hold command files passes bytes report = check_holds report.asked.action report.asked.steps report.net_text report.second_text passes bytes report.written
 
 went_later : (bytes : List ℕ) (sink sink' : SinkState) → WentOut bytes sink sink' → sink.faults ≤ sink'.faults
 went_later bytes sink sink' e = same_count sink.faults sink'.faults (ap (λ (s : SinkState). s.faults) e)

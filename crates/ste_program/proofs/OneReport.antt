@@ -1,5 +1,5 @@
 -- A report is one: what two texts say determines what is written on them.
-use Rattle.std.proofs.Common.{◌≡◌, ℕ, zero, suc, ◌+◌, Bool, List, [], ◌∷◌, ◌++◌, length, Option, Some, Ok, refl, ap, sym, ◌∙◌, subst}
+use Rattle.std.proofs.Common.{◌≡◌, ℕ, zero, suc, ◌+◌, Bool, List, [], ◌∷◌, ◌++◌, length, map, Option, Some, Ok, refl, ap, sym, ◌∙◌, subst}
 use Rattle.std.specs.Prelude.{if◌then◌else◌, codes}
 use Rattle.std.specs.List.{AllZip}
 use Rattle.blif_lines.specs.Lines.{lines_of}
@@ -7,35 +7,44 @@ use Rattle.blif_syntax.specs.declared.models.Model.{Model}
 use Rattle.clock_step.specs.Answer.{IsAnswer}
 use Rattle.command_line.specs.Command.{Action, Command, bench, check, info, sim}
 use Rattle.hierarchy.specs.Lines.{outputs_of, top}
-use Rattle.hierarchy.specs.Names.{net_named}
+use Rattle.hierarchy.specs.Names.{net_named, own_name}
+use Rattle.hierarchy.specs.Nets.{nets}
 use Rattle.net_core.specs.Source.{source_of}
 use Rattle.net_core.specs.declared.raw.Gate.{Gate}
 use Rattle.net_core.specs.declared.raw.RawNet.{RawNet}
 use Rattle.flat_net.specs.Flat.{IsFlat}
+use Rattle.ste_model.specs.declared.report.Report.{Report}
+use Rattle.ste_model.specs.declared.verdict.Verdict.{Verdict}
 use Rattle.ste_program.specs.Check.{IsCheck}
 use Rattle.ste_program.specs.Command.{net_file, second_file}
 use Rattle.ste_program.specs.Info.{IsInfo, count_line, free_below, info_text, is_free}
-use Rattle.ste_program.specs.Report.{Agree, IsWritten, OneReport, text_at, verdicts_in}
+use Rattle.ste_program.specs.Report.{Agree, IsWritten, OneReport, reports_in, text_at}
 use Rattle.ste_program.specs.Simulated.{IsSimulated, sim_text}
 use Rattle.ste_program.proofs.Fetched.{read_told}
 use Rattle.ste_program.proofs.NetlistText.{one_netlist}
 use Rattle.ste_program.proofs.SameInputs.{outputs_same}
 use Rattle.ste_program.proofs.SameNets.{AreAlike, AreSame, flats_same, sources_same}
-use Rattle.ste_program.proofs.SameVerdicts.{reports_agree}
+use Rattle.ste_program.proofs.SameReports.{reports_agree}
 use Rattle.ste_program.proofs.TextStages.{one_reading}
 
--- what two reports on the same texts have in common
-abbrev AreOne : (action : Action) (steps : Option ℕ) (net_text second_text : List ℕ) (passes others : Bool) (bytes others_bytes : List ℕ) → IsWritten action steps net_text second_text passes bytes → IsWritten action steps net_text second_text others others_bytes → Type 0
-AreOne action steps net_text second_text passes others bytes others_bytes one two =
-    AllZip Agree (verdicts_in action steps net_text second_text passes bytes one) (verdicts_in action steps net_text second_text others others_bytes two)
-    × (verdicts_in action steps net_text second_text passes bytes one ≡ verdicts_in action steps net_text second_text others others_bytes two → (passes ≡ others) × (bytes ≡ others_bytes))
+-- the verdict of a report
+abbrev verdict_in : Report → Verdict
+verdict_in report = report.verdict
 
-checks_same : (steps : Option ℕ) (net_text task_text : List ℕ) (passes others : Bool) (bytes others_bytes : List ℕ) (one : IsCheck steps net_text task_text passes bytes) (two : IsCheck steps net_text task_text others others_bytes) →
-    AllZip Agree one.report.verdicts two.report.verdicts × (one.report.verdicts ≡ two.report.verdicts → (passes ≡ others) × (bytes ≡ others_bytes))
-checks_same steps net_text task_text passes others bytes others_bytes one two =
+-- what two reports on the same texts have in common
+abbrev AreOne : (action : Action) (asked : Command) (net_text second_text : List ℕ) (passes others : Bool) (bytes others_bytes : List ℕ) → IsWritten action asked net_text second_text passes bytes → IsWritten action asked net_text second_text others others_bytes → Type 0
+AreOne action asked net_text second_text passes others bytes others_bytes one two =
+    AllZip Agree (reports_in action asked net_text second_text passes bytes one) (reports_in action asked net_text second_text others others_bytes two)
+    × (map verdict_in (reports_in action asked net_text second_text passes bytes one) ≡ map verdict_in (reports_in action asked net_text second_text others others_bytes two) → (passes ≡ others) × (bytes ≡ others_bytes))
+
+checks_same : (steps : Option ℕ) (cubes : ℕ) (wave : Bool) (net_text task_text : List ℕ) (passes others : Bool) (bytes others_bytes : List ℕ) (one : IsCheck steps cubes wave net_text task_text passes bytes) (two : IsCheck steps cubes wave net_text task_text others others_bytes) →
+    AllZip Agree one.report.reports two.report.reports × (map verdict_in one.report.reports ≡ map verdict_in two.report.reports → (passes ≡ others) × (bytes ≡ others_bytes))
+checks_same steps cubes wave net_text task_text passes others bytes others_bytes one two =
     let readings = one_reading net_text task_text one.models two.models one.net two.net one.tasks two.tasks one.reading two.reading in
-    reports_agree two.models one.net two.net _ _ one.tasks two.tasks passes others bytes others_bytes
-    (subst (λ (ms : List Model). IsFlat ms one.net) readings.0 one.reading.flattened.flat) two.reading.flattened.flat readings.1 readings.2 one.report two.report
+    let n = two.reading.flattened in
+    reports_agree two.models one.net two.net _ _ _ _ cubes wave one.tasks two.tasks passes others bytes others_bytes
+    (subst (λ (ms : List Model). IsFlat ms one.net) readings.0 one.reading.flattened.flat) n.flat n.in_range n.settled
+    (ap (λ (ms : List Model). map own_name (nets ms)) readings.0) readings.1 readings.2 one.report two.report
 
 -- the same nets are free
 free_same : (net other : RawNet) (n : ℕ) → AreSame net other → free_below net n ≡ free_below other n
@@ -82,30 +91,30 @@ simulations_same net_text input_text bytes others_bytes one two =
     (subst (λ (ms : List Model). IsAnswer (net_named ms) one.net (lines_of input_text) (Ok one.inputs)) same one.given) two.given one.run two.run in
     one.written ∙ (ap (λ (ms : List Model). sim_text (outputs_of (top ms)) one.rows) same ∙ (ap (sim_text (outputs_of (top two.models))) rows ∙ sym two.written))
 
-written_same : (action : Action) (steps : Option ℕ) (net_text second_text : List ℕ) (passes others : Bool) (bytes others_bytes : List ℕ) (one : IsWritten action steps net_text second_text passes bytes) (two : IsWritten action steps net_text second_text others others_bytes) →
-    AreOne action steps net_text second_text passes others bytes others_bytes one two
-written_same (check net tasks) steps net_text second_text passes others bytes others_bytes one two = checks_same steps net_text second_text passes others bytes others_bytes one two
-written_same (info net) steps net_text second_text passes others bytes others_bytes one two = (tt, (λ same. (one.0 ∙ sym two.0, infos_same net_text bytes others_bytes one.1 two.1)))
-written_same (sim net inputs) steps net_text second_text passes others bytes others_bytes one two = (tt, (λ same. (one.0 ∙ sym two.0, simulations_same net_text second_text bytes others_bytes one.1 two.1)))
-written_same (bench stages) steps net_text second_text passes others bytes others_bytes one two = absurd one
+written_same : (action : Action) (asked : Command) (net_text second_text : List ℕ) (passes others : Bool) (bytes others_bytes : List ℕ) (one : IsWritten action asked net_text second_text passes bytes) (two : IsWritten action asked net_text second_text others others_bytes) →
+    AreOne action asked net_text second_text passes others bytes others_bytes one two
+written_same (check net tasks) asked net_text second_text passes others bytes others_bytes one two = checks_same asked.steps asked.cubes asked.wave net_text second_text passes others bytes others_bytes one two
+written_same (info net) asked net_text second_text passes others bytes others_bytes one two = (tt, (λ same. (one.0 ∙ sym two.0, infos_same net_text bytes others_bytes one.1 two.1)))
+written_same (sim net inputs) asked net_text second_text passes others bytes others_bytes one two = (tt, (λ same. (one.0 ∙ sym two.0, simulations_same net_text second_text bytes others_bytes one.1 two.1)))
+written_same (bench stages) asked net_text second_text passes others bytes others_bytes one two = absurd one
 
 -- what is read of a file is one text
 one_text : (held : Option (List ℕ)) (one other : List ℕ) → held ≡ Some one → held ≡ Some other → one ≡ other
 one_text held one other f g = let both : Some one ≡ Some other = sym f ∙ g in let same : one ≡ other = cc in same
 
 -- a report on texts that are the same
-module _ (asked : Command) (net_text second_text : List ℕ) (passes others : Bool) (bytes others_bytes : List ℕ) (two : IsWritten asked.action asked.steps net_text second_text others others_bytes) where
-  abbrev IsOne : (command : Command) (one_net one_second : List ℕ) → IsWritten command.action command.steps one_net one_second passes bytes → Type 0
+module _ (asked : Command) (net_text second_text : List ℕ) (passes others : Bool) (bytes others_bytes : List ℕ) (two : IsWritten asked.action asked net_text second_text others others_bytes) where
+  abbrev IsOne : (command : Command) (one_net one_second : List ℕ) → IsWritten command.action command one_net one_second passes bytes → Type 0
   IsOne command one_net one_second written =
-      AllZip Agree (verdicts_in command.action command.steps one_net one_second passes bytes written) (verdicts_in asked.action asked.steps net_text second_text others others_bytes two)
-      × (verdicts_in command.action command.steps one_net one_second passes bytes written ≡ verdicts_in asked.action asked.steps net_text second_text others others_bytes two → (passes ≡ others) × (bytes ≡ others_bytes))
+      AllZip Agree (reports_in command.action command one_net one_second passes bytes written) (reports_in asked.action asked net_text second_text others others_bytes two)
+      × (map verdict_in (reports_in command.action command one_net one_second passes bytes written) ≡ map verdict_in (reports_in asked.action asked net_text second_text others others_bytes two) → (passes ≡ others) × (bytes ≡ others_bytes))
 
-  moved : (command : Command) (one_net one_second : List ℕ) → asked ≡ command → net_text ≡ one_net → second_text ≡ one_second → (written : IsWritten command.action command.steps one_net one_second passes bytes) → IsOne command one_net one_second written
+  moved : (command : Command) (one_net one_second : List ℕ) → asked ≡ command → net_text ≡ one_net → second_text ≡ one_second → (written : IsWritten command.action command one_net one_second passes bytes) → IsOne command one_net one_second written
   moved command one_net one_second same net second =
-      subst (λ (c : Command). (written : IsWritten c.action c.steps one_net one_second passes bytes) → IsOne c one_net one_second written) same
-      (subst (λ (n : List ℕ). (written : IsWritten asked.action asked.steps n one_second passes bytes) → IsOne asked n one_second written) net
-      (subst (λ (t : List ℕ). (written : IsWritten asked.action asked.steps net_text t passes bytes) → IsOne asked net_text t written) second
-      (λ written. written_same asked.action asked.steps net_text second_text passes others bytes others_bytes written two)))
+      subst (λ (c : Command). (written : IsWritten c.action c one_net one_second passes bytes) → IsOne c one_net one_second written) same
+      (subst (λ (n : List ℕ). (written : IsWritten asked.action asked n one_second passes bytes) → IsOne asked n one_second written) net
+      (subst (λ (t : List ℕ). (written : IsWritten asked.action asked net_text t passes bytes) → IsOne asked net_text t written) second
+      (λ written. written_same asked.action asked net_text second_text passes others bytes others_bytes written two)))
 
 -- a command has one report at most on what the files hold
 pub one_report : OneReport

@@ -91,7 +91,7 @@ unreported command before after net_text second_text found done texts (inr first
 
 -- a report is made of them
 made_of : (command : Command) (before after : FilesState) (net_text second_text : List ℕ) (passes : Bool) (bytes : List ℕ) → is_undone command ≡ false → AreTexts command before after net_text second_text →
-    IsWritten command.action command.steps net_text second_text passes bytes → IsMade (Some command) before after passes bytes
+    IsWritten command.action command net_text second_text passes bytes → IsMade (Some command) before after passes bytes
 made_of command before after net_text second_text passes bytes done texts written = record {
   report = record {
     asked = command;
@@ -111,7 +111,7 @@ made_of command before after net_text second_text passes bytes done texts writte
 -- a report, or why there is none, with the texts that were fetched for it
 pub made_or_not : {T : Type 0} (result : Result T Refusal) (passes : T → Bool) (bytes : T → List ℕ) (given : Option Command) (command : Command) (before after : FilesState) (net_text second_text : List ℕ) →
     given ≡ Some command → is_undone command ≡ false → AreTexts command before after net_text second_text →
-    MatchResult result (λ made. IsWritten command.action command.steps net_text second_text (passes made) (bytes made)) (λ found. OrMemory (IsFirst (text_stages command.action command.steps net_text second_text)) found) →
+    MatchResult result (λ made. IsWritten command.action command net_text second_text (passes made) (bytes made)) (λ found. OrMemory (IsFirst (text_stages command.action command.steps net_text second_text)) found) →
     MatchResult result (λ made. IsMade given before after (passes made) (bytes made)) (λ found. WhyNoReport given before after found)
 made_or_not (Ok made) passes bytes given command before after net_text second_text is done texts h =
     subst (λ (c : Option Command). IsMade c before after (passes made) (bytes made)) (sym is) (made_of command before after net_text second_text (passes made) (bytes made) done texts h)
@@ -150,7 +150,7 @@ reported_silent_of command files store passes bytes told r is =
             (
               two.1,
               (
-                (λ other h. none_first (text_stages c.action c.steps r.net_text r.second_text) other (text_silent c.action c.steps r.net_text r.second_text passes bytes r.written)
+                (λ other h. none_first (text_stages c.action c.steps r.net_text r.second_text) other (text_silent c.action c r.net_text r.second_text passes bytes r.written)
                     (of_text (λ t. IsFirst (text_stages c.action c.steps r.net_text t) other) (text_at (second_file c.action) store) r.second_text second
                     (of_text (λ text. IsSomeAnd (text_at (second_file c.action) store) (λ t. IsFirst (text_stages c.action c.steps text t) other)) (text_at (net_file c.action) store) r.net_text net h))),
                 tt,

@@ -89,13 +89,13 @@ gate_bits_moved net other bit same h = λ k d l.
     ∙ (ap (λ (function : List Bool → Bool). function (map (λ (input : NodeId). bit input.0) one.inputs)) at.1.function
     ∙ ap (gate_bit other twin) (bits_alike bit one.inputs twin.inputs at.1.inputs)))
 
-undriven_moved : (net other : RawNet) (id : ℕ) → AreSame net other → IsUndriven net id → IsUndriven other id
+pub undriven_moved : (net other : RawNet) (id : ℕ) → AreSame net other → IsUndriven net id → IsUndriven other id
 undriven_moved net other id same h = record {
   by_gate = λ k d l e. let at = gate_at net other net.gates other.gates k d same.gates l in h.by_gate k d at.0 (at.1.output ∙ e);
   by_latch = subst (λ (latches : List Latch). All (λ latch. latch.output.0 ≢ id) latches) same.latches h.by_latch;
 }
 
-run_moved : (net other : RawNet) (n : ℕ) (run : ℕ → ℕ → Bool) → AreSame net other → IsRun net n run → IsRun other n run
+pub run_moved : (net other : RawNet) (n : ℕ) (run : ℕ → ℕ → Bool) → AreSame net other → IsRun net n run → IsRun other n run
 run_moved net other n run same h = record {
   gates = λ t l. gate_bits_moved net other (run t) same (h.gates t l);
   latches = λ t l. subst (λ (latches : List Latch). All (λ latch. run (suc t) latch.output.0 ≡ run t latch.input.0) latches) same.latches (h.latches t l);

@@ -1,7 +1,7 @@
--- Flat nets of one hierarchy have the same possible sets, and tasks that say the same ask the same: so they have the same verdicts.
+-- Flat nets of one hierarchy have the same possible sets, and tasks that say the same ask the same: so the same is found of them.
 use Rattle.std.proofs.Common.{◌≡◌, ◌<◌, ℕ, zero, suc, Bool, List, [], ◌∷◌, ◌++◌, length, map, get_or, refl, ap, sym, ◌∙◌, subst, max, fold, inl, inr}
-use Rattle.std.specs.Prelude.{Any, codes, zip, ◌&&◌, nat_le, nat_lt}
-use Rattle.std.specs.List.{AllZip, flat_map, list_all}
+use Rattle.std.specs.Prelude.{Any, ◌&&◌, nat_le, nat_lt}
+use Rattle.std.specs.List.{AllZip}
 use Rattle.ste_base.specs.declared.id.NodeId.{NodeId}
 use Rattle.bool_expr.specs.Value.{value_of}
 use Rattle.bool_expr.proofs.Values.{one_tree_has_one_value}
@@ -23,11 +23,7 @@ use Rattle.ste_model.specs.Asked.{asked_at, cuts_at, depth, latest, quint_at}
 use Rattle.ste_model.specs.Found.{FailsStrongly, FailsWeakly, IsContradictory, IsEmptySomewhere, IsFound, IsStrong, IsTableOf, IsVerdict, IsVerdictOf, IsWeak}
 use Rattle.ste_model.specs.Table.{IsPossible, latch_sets}
 use Rattle.ste_model.specs.Trees.{QuintTree, quint_tree, task_tree}
-use Rattle.ste_model.proofs.Verdicts.{one_verdict}
-use Rattle.ste_model.specs.declared.task.Tasks.{Tasks}
-use Rattle.ste_program.specs.Check.{IsReportOn, IsVerdictOn, is_pass, report_line, task_name, verdict_words}
-use Rattle.ste_program.specs.Report.{Agree}
-use Rattle.ste_program.proofs.SameNets.{AreSame, flats_same, gate_at}
+use Rattle.ste_program.proofs.SameNets.{AreSame, gate_at}
 
 -- the sets of inputs by their numbers
 by_number : (sets : ℕ → BitSet) (inputs : List NodeId) → map (λ (input : NodeId). sets input.0) inputs ≡ map sets (map (λ (input : NodeId). input.0) inputs)
@@ -66,7 +62,9 @@ table_moved net other reset asked n table same back h = λ t l.
     (possible_moved net other (latch_sets net reset table t) (asked t) (table t) same back (h t l))
 
 -- two assertions say the same
-record SaysSame (one twin : Assertion) : Type 0 where
+pub record SaysSame (one twin : Assertion) : Type 0 where
+  pub ants : map quint_tree one.ant ≡ map quint_tree twin.ant
+  pub cons : map quint_tree one.con ≡ map quint_tree twin.con
   pub name : one.name ≡ twin.name
   pub reset : one.reset ≡ twin.reset
   pub deep : depth one ≡ depth twin
@@ -105,12 +103,14 @@ tos_are (quint ∷ quints) = ap (λ l. quint.to ∷ l) (tos_are quints)
 latest_same : (ones twins : List Quint) → map quint_tree ones ≡ map quint_tree twins → latest ones ≡ latest twins
 latest_same ones twins e = ap (fold max 0) (tos_are ones ∙ (ap (map (λ (tree : QuintTree). tree.to)) e ∙ sym (tos_are twins)))
 
-says_same : (one twin : Assertion) → task_tree (Ste one) ≡ task_tree (Ste twin) → SaysSame one twin
+pub says_same : (one twin : Assertion) → task_tree (Ste one) ≡ task_tree (Ste twin) → SaysSame one twin
 says_same one twin e =
     let name : one.name ≡ twin.name = cc e in
     let reset : one.reset ≡ twin.reset = cc e in
     let ants : map quint_tree one.ant ≡ map quint_tree twin.ant = cc e in
     let cons : map quint_tree one.con ≡ map quint_tree twin.con = cc e in record {
+      ants = ants;
+      cons = cons;
       name = name;
       reset = reset;
       deep = ap (λ n. max n (latest one.con)) (latest_same one.ant twin.ant ants) ∙ ap (max (latest twin.ant)) (latest_same one.con twin.con cons);
@@ -126,7 +126,7 @@ asked_same one twin bits same = λ i t. at_time t i
 
 -- what is found of an assertion on a net is found of one that says the same, on a net that is the same
 module _ (net other : RawNet) (one twin : Assertion) (same : AreSame net other) (back : AreSame other net) (says : SaysSame one twin) where
-  of_table : (bits : List Bool) (table : ℕ → ℕ → BitSet) → IsTableOf net one bits table → IsTableOf other twin bits table
+  pub of_table : (bits : List Bool) (table : ℕ → ℕ → BitSet) → IsTableOf net one bits table → IsTableOf other twin bits table
   of_table bits table h =
       let on_net = table_moved net other one.reset (asked_at one bits) (depth one) table same back h in
       subst (λ n. IsPossible other twin.reset (asked_at twin bits) n table) says.deep
@@ -136,7 +136,7 @@ module _ (net other : RawNet) (one twin : Assertion) (same : AreSame net other) 
   of_empty : (table : ℕ → ℕ → BitSet) → IsEmptySomewhere net one table → IsEmptySomewhere other twin table
   of_empty table h = (h.0, subst (λ n. h.0 < n) says.deep h.1, (h.2.0, subst (λ n. h.2.0 < n) same.nets h.2.1, h.2.2))
 
-  of_contradictory : (bits : List Bool) → IsContradictory net one bits → IsContradictory other twin bits
+  pub of_contradictory : (bits : List Bool) → IsContradictory net one bits → IsContradictory other twin bits
   of_contradictory bits h = (h.0, of_table bits h.0 h.1, of_empty h.0 h.2)
 
   of_found : (Fails : (ℕ → BitSet) → Cut → Type 0) (bits : List Bool) → ((table : ℕ → ℕ → BitSet) → IsEmptySomewhere other twin table → IsEmptySomewhere net one table) → IsFound Fails net one bits → IsFound Fails other twin bits
@@ -147,8 +147,10 @@ module _ (net other : RawNet) (one twin : Assertion) (same : AreSame net other) 
     (h.3.0, subst (λ n. h.3.0 < n) says.deep h.3.1, subst (λ (cuts : List Cut). Any (Fails (h.0 h.3.0)) cuts) (says.asked bits h.3.0) h.3.2),
   )
 
-back_says : (one twin : Assertion) → SaysSame one twin → SaysSame twin one
+pub back_says : (one twin : Assertion) → SaysSame one twin → SaysSame twin one
 back_says one twin h = record {
+  ants = sym h.ants;
+  cons = sym h.cons;
   name = sym h.name;
   reset = sym h.reset;
   deep = sym h.deep;
@@ -165,71 +167,20 @@ verdict_alike vars S W C T V D Vacuous s t w v c d h = ((λ some. h.0 (some.0, s
 verdict_alike vars S W C T V D Pass s t w v c d h = ((λ some. h.0 (some.0, some.1, t some.0 some.2)), (λ some. h.1 (some.0, some.1, v some.0 some.2)), (λ each. h.2 (λ bits long. d bits (each bits long))))
 verdict_alike vars S W C T V D Budget s t w v c d h = absurd h
 
-strong_moved : (net other : RawNet) (one twin : Assertion) → AreSame net other → AreSame other net → SaysSame one twin → (bits : List Bool) → IsStrong net one bits → IsStrong other twin bits
+pub strong_moved : (net other : RawNet) (one twin : Assertion) → AreSame net other → AreSame other net → SaysSame one twin → (bits : List Bool) → IsStrong net one bits → IsStrong other twin bits
 strong_moved net other one twin same back says bits h =
     of_found net other one twin same back says FailsStrongly bits (λ table empty. of_empty other net twin one back same (back_says one twin says) table empty) h
 
-weak_moved : (net other : RawNet) (one twin : Assertion) → AreSame net other → AreSame other net → SaysSame one twin → (bits : List Bool) → IsWeak net one bits → IsWeak other twin bits
+pub weak_moved : (net other : RawNet) (one twin : Assertion) → AreSame net other → AreSame other net → SaysSame one twin → (bits : List Bool) → IsWeak net one bits → IsWeak other twin bits
 weak_moved net other one twin same back says bits h = (
   (λ strong. h.0 (strong_moved other net twin one back same (back_says one twin says) bits strong)),
   of_found net other one twin same back says FailsWeakly bits (λ table empty. of_empty other net twin one back same (back_says one twin says) table empty) h.1,
 )
 
-verdict_moved : (net other : RawNet) (vars : ℕ) (one twin : Assertion) (verdict : Verdict) → AreSame net other → AreSame other net → SaysSame one twin → IsVerdictOf net vars one verdict → IsVerdictOf other vars twin verdict
+pub verdict_moved : (net other : RawNet) (vars : ℕ) (one twin : Assertion) (verdict : Verdict) → AreSame net other → AreSame other net → SaysSame one twin → IsVerdictOf net vars one verdict → IsVerdictOf other vars twin verdict
 verdict_moved net other vars one twin verdict same back says h =
     let returned = back_says one twin says in
     verdict_alike vars (IsStrong net one) (IsWeak net one) (IsContradictory net one) (IsStrong other twin) (IsWeak other twin) (IsContradictory other twin) verdict
     (strong_moved net other one twin same back says) (strong_moved other net twin one back same returned)
     (weak_moved net other one twin same back says) (weak_moved other net twin one back same returned)
     (of_contradictory net other one twin same back says) (of_contradictory other net twin one back same returned) h
-
--- what is told of tasks that say the same agrees, but where one is budget
-told_agree : (net other : RawNet) (vars one_steps two_steps : ℕ) (t u : Assertion) (v w : Verdict) → AreSame net other → AreSame other net → SaysSame t u → IsVerdictOn net vars one_steps (Ste t) v → IsVerdictOn other vars two_steps (Ste u) w → Agree v w
-told_agree net other vars one_steps two_steps t u v w same back says (inr f) g = inr (inl f.0)
-told_agree net other vars one_steps two_steps t u v w same back says (inl f) (inr g) = inr (inr g.0)
-told_agree net other vars one_steps two_steps t u v w same back says (inl f) (inl g) = inl (one_verdict.same other vars u v w (verdict_moved net other vars t u v same back says f) g)
-
-verdicts_agree : (net other : RawNet) (vars one_steps two_steps : ℕ) (tasks twins : List Task) (verdicts others : List Verdict) → AreSame net other → AreSame other net → map task_tree tasks ≡ map task_tree twins →
-    AllZip (IsVerdictOn net vars one_steps) tasks verdicts → AllZip (IsVerdictOn other vars two_steps) twins others → AllZip Agree verdicts others
-verdicts_agree net other vars m n [] [] [] [] same back e f g = tt
-verdicts_agree net other vars m n [] [] [] (v ∷ others) same back e f g = absurd g
-verdicts_agree net other vars m n [] [] (v ∷ verdicts) others same back e f g = absurd f
-verdicts_agree net other vars m n [] (t ∷ twins) verdicts others same back e f g = absurd (cc e)
-verdicts_agree net other vars m n (t ∷ tasks) [] verdicts others same back e f g = absurd (cc e)
-verdicts_agree net other vars m n (t ∷ tasks) (u ∷ twins) [] others same back e f g = absurd f
-verdicts_agree net other vars m n (t ∷ tasks) (u ∷ twins) (v ∷ verdicts) [] same back e f g = absurd g
-verdicts_agree net other vars m n (Gste t ∷ tasks) (u ∷ twins) (v ∷ verdicts) (w ∷ others) same back e f g = absurd f.0
-verdicts_agree net other vars m n (Ste t ∷ tasks) (Gste u ∷ twins) (v ∷ verdicts) (w ∷ others) same back e f g = absurd g.0
-verdicts_agree net other vars m n (Ste t ∷ tasks) (Ste u ∷ twins) (v ∷ verdicts) (w ∷ others) same back e f g =
-    let first : task_tree (Ste t) ≡ task_tree (Ste u) = cc e in
-    let trees : map task_tree tasks ≡ map task_tree twins = cc e in
-    (told_agree net other vars m n t u v w same back (says_same t u first) f.0 g.0, verdicts_agree net other vars m n tasks twins verdicts others same back trees f.1 g.1)
-
--- tasks that say the same have the same names, and so the same lines with the same verdicts
-name_same : (t u : Task) → task_tree t ≡ task_tree u → task_name t ≡ task_name u
-name_same (Ste t) (Ste u) e = (says_same t u e).name
-name_same (Ste t) (Gste u) e = absurd (cc e)
-name_same (Gste t) (Ste u) e = absurd (cc e)
-name_same (Gste t) (Gste u) e = cc e
-
-lines_same : (tasks twins : List Task) (verdicts : List Verdict) → map task_tree tasks ≡ map task_tree twins → flat_map report_line (zip tasks verdicts) ≡ flat_map report_line (zip twins verdicts)
-lines_same [] [] verdicts e = refl
-lines_same [] (u ∷ twins) verdicts e = absurd (cc e)
-lines_same (t ∷ tasks) [] verdicts e = absurd (cc e)
-lines_same (t ∷ tasks) (u ∷ twins) [] e = refl
-lines_same (t ∷ tasks) (u ∷ twins) (v ∷ verdicts) e =
-    let first : task_tree t ≡ task_tree u = cc e in
-    let trees : map task_tree tasks ≡ map task_tree twins = cc e in
-    ap (λ (n : List ℕ). (n ++ codes ": " ++ verdict_words v ++ codes "\n") ++ flat_map report_line (zip tasks verdicts)) (name_same t u first)
-    ∙ ap (λ l. report_line (u, v) ++ l) (lines_same tasks twins verdicts trees)
-
-pub reports_agree : (models : List Model) (net other : RawNet) (m n : ℕ) (tasks twins : Tasks) (passes others : Bool) (bytes others_bytes : List ℕ) → IsFlat models net → IsFlat models other → tasks.vars ≡ twins.vars → map task_tree tasks.tasks ≡ map task_tree twins.tasks →
-    (one : IsReportOn net m tasks passes bytes) (two : IsReportOn other n twins others others_bytes) → AllZip Agree one.verdicts two.verdicts × (one.verdicts ≡ two.verdicts → (passes ≡ others) × (bytes ≡ others_bytes))
-reports_agree models net other m n tasks twins passes others bytes others_bytes f g vars trees one two =
-    let judged = subst (λ (names : List (List ℕ)). AllZip (IsVerdictOn net (length names) m) tasks.tasks one.verdicts) vars one.judged in (
-      verdicts_agree net other (length twins.vars) m n tasks.tasks twins.tasks one.verdicts two.verdicts (flats_same models net other f g) (flats_same models other net g f) trees judged two.judged,
-      (λ same. (
-        one.passing ∙ (ap (list_all is_pass) same ∙ sym two.passing),
-        one.written ∙ (lines_same tasks.tasks twins.tasks one.verdicts trees ∙ (ap (λ (verdicts : List Verdict). flat_map report_line (zip twins.tasks verdicts)) same ∙ sym two.written)),
-      )),
-    )

@@ -41,7 +41,7 @@ is_simulated net_text input_text models net names inputs rows bytes spelled n an
   net = net;
   inputs = inputs;
   rows = rows;
-  flattened = record { netlist = spelled; sound = n.sound; flat = n.flat; settled = n.settled };
+  flattened = record { netlist = spelled; sound = n.sound; flat = n.flat; in_range = n.in_range; settled = n.settled };
   given = by_netlist models net names input_text (Ok inputs) n.named answer;
   run = run;
   written = written ∙ ap (λ (ones : List (List ℕ)). sim_text ones rows) (outputs_named models net names n.flat n.named);

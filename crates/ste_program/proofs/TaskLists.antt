@@ -33,13 +33,13 @@ use Rattle.ste_model.specs.declared.verdict.Verdict.{Verdict}
 use Rattle.assert_syntax.specs.Spelled.{task_tree}
 use Rattle.assert_syntax.proofs.Whole.{a_parse}
 use Rattle.ste_program.specs.TaskFile.{AreTasks}
-use Rattle.ste_program.specs.private.Judged.{AreJudged}
 use Rattle.ste_model.specs.declared.verdict.Verdict.TheVariants.{Pass, Weak, Strong, Vacuous, Budget}
-use Rattle.ste_model.specs.Found.{IsVerdictOf}
+use Rattle.ste_model.specs.Report.{IsReportOf, budget_report}
+use Rattle.ste_model.specs.declared.report.Report.{Report}
 use Rattle.std.specs.declared.alloc.AllocError.{AllocError}
 use Rattle.dd_nodes.specs.Stores.{Store, empty_store}
 use Rattle.ste_engine.specs.Engine.{IsBudget}
-use Rattle.ste_program.specs.Check.{AreTooFew, IsCheck, IsReportOn, IsVerdictOn, are_too_many, report_line, task_steps}
+use Rattle.ste_program.specs.Check.{IsCheck, IsReportOn, IsToldOf, are_too_many, task_steps}
 use Rattle.ste_program.specs.private.Made.{IsCheckable}
 use Rattle.ste_program.proofs.Declared.{AreDeclared}
 use Rattle.ste_program.specs.private.Prepared.{IsPrepared}
@@ -71,51 +71,47 @@ declared_ant nets vars task h = all_left (λ (quint : Quint). IsTrue (reads vars
 pub declared_con : (nets vars : ℕ) (task : Assertion) → IsCheckable nets vars (Ste task) → ReadBelow vars task.con
 declared_con nets vars task h = all_right (λ (quint : Quint). IsTrue (reads vars quint.guard && reads vars quint.value)) task.ant task.con h.2
 
--- a verdict that is that of the definition, or budget for want of steps
-pub told_of : (net : RawNet) (vars steps : ℕ) (task : Assertion) (verdict : Verdict) → (verdict ≢ Budget → IsVerdictOf net vars task verdict) → (verdict ≡ Budget → AreTooFew net vars steps task) → IsVerdictOn net vars steps (Ste task) verdict
-told_of net vars steps task Pass told short = inl (told (λ e. absurd (cc e)))
-told_of net vars steps task Weak told short = inl (told (λ e. absurd (cc e)))
-told_of net vars steps task Strong told short = inl (told (λ e. absurd (cc e)))
-told_of net vars steps task Vacuous told short = inl (told (λ e. absurd (cc e)))
-told_of net vars steps task Budget told short = inr (refl, short refl)
-
 -- the engine's answer over a store that holds nothing
-pub engine_told : (net : RawNet) (vars steps : ℕ) (task : Assertion) (before after : Store) (result : Result Verdict AllocError) → before ≡ empty_store steps vars →
-    IfOk result (λ verdict. verdict ≢ Budget → IsVerdictOf net before.vars task verdict) → (result ≡ Ok Budget → IsBudget net task before after) → IfOk result (λ verdict. IsVerdictOn net vars steps (Ste task) verdict)
-engine_told net vars steps task before after (Err fault) is told short = tt
-engine_told net vars steps task before after (Ok verdict) is told short =
-    told_of net vars steps task verdict
-    (λ other. subst (λ (s : Store). IsVerdictOf net s.vars task verdict) is (told other))
-    (λ budget need is_need.
-    let spent = subst (λ (s : Store). IsBudget net task s after) is (short (ap Ok budget)) in
-    let few = spent.few need is_need in omega (arith, few))
+pub engine_told : (net : RawNet) (vars steps cubes : ℕ) (task : Assertion) (before after : Store) (result : Result Report AllocError) → before ≡ empty_store steps vars →
+    IfOk result (λ report. report.verdict ≢ Budget → IsReportOf net before.vars cubes task report) → IfOk result (λ report. report.verdict ≡ Budget → (report ≡ budget_report task.name) × IsBudget net task before after) →
+    IfOk result (λ report. IsToldOf net vars steps cubes (Ste task) report)
+engine_told net vars steps cubes task before after (Err fault) is told short = tt
+engine_told net vars steps cubes task before after (Ok report) is told short = by report.verdict refl
+  where
+    told_by : report.verdict ≢ Budget → IsToldOf net vars steps cubes (Ste task) report
+    told_by other = inl (subst (λ (s : Store). IsReportOf net s.vars cubes task report) is (told other))
 
--- one more task with its verdict and line
-zip_end : (net : RawNet) (vars steps : ℕ) (tasks : List Task) (verdicts : List Verdict) (task : Task) (verdict : Verdict) → AllZip (IsVerdictOn net vars steps) tasks verdicts → IsVerdictOn net vars steps task verdict →
-    AllZip (IsVerdictOn net vars steps) (tasks ++ task ∷ []) (verdicts ++ verdict ∷ []) × (zip (tasks ++ task ∷ []) (verdicts ++ verdict ∷ []) ≡ zip tasks verdicts ++ (task, verdict) ∷ [])
-zip_end net vars steps [] [] task verdict all one = ((one, tt), refl)
-zip_end net vars steps [] (y ∷ ys) task verdict all one = absurd all
-zip_end net vars steps (x ∷ xs) [] task verdict all one = absurd all
-zip_end net vars steps (x ∷ xs) (y ∷ ys) task verdict all one =
-    let rest = zip_end net vars steps xs ys task verdict all.1 one in
-    ((all.0, rest.0), ap (λ l. (x, y) ∷ l) rest.1)
+    by : (verdict : Verdict) → report.verdict ≡ verdict → IsToldOf net vars steps cubes (Ste task) report
+    by Pass e = told_by (λ f. let both : Pass ≡ Budget = sym e ∙ f in absurd (cc both))
+    by Weak e = told_by (λ f. let both : Weak ≡ Budget = sym e ∙ f in absurd (cc both))
+    by Strong e = told_by (λ f. let both : Strong ≡ Budget = sym e ∙ f in absurd (cc both))
+    by Vacuous e = told_by (λ f. let both : Vacuous ≡ Budget = sym e ∙ f in absurd (cc both))
+    by Budget e =
+        let answer = short e in
+        inr (
+          answer.0,
+          (λ need is_need.
+              let spent = subst (λ (s : Store). IsBudget net task s after) is answer.1 in
+              let few = spent.few need is_need in omega (arith, few)),
+        )
 
-pub judged_more : (net : RawNet) (vars steps : ℕ) (tasks : List Task) (verdicts after : List Verdict) (lines line longer : List ℕ) (i : ℕ) (task : Task) (verdict : Verdict) → i < length tasks → task ≡ get_or tasks i task →
-    AreJudged net vars steps (take i tasks) verdicts lines → IsVerdictOn net vars steps task verdict → line ≡ report_line (task, verdict) → longer ≡ lines ++ line → after ≡ verdicts ++ verdict ∷ [] →
-    AreJudged net vars steps (take (i + 1) tasks) after longer
-judged_more net vars steps tasks verdicts after lines line longer i task verdict l is before one its_line more pushed =
+-- one more task with its report
+told_end : (net : RawNet) (vars steps cubes : ℕ) (tasks : List Task) (reports : List Report) (task : Task) (report : Report) → AllZip (IsToldOf net vars steps cubes) tasks reports → IsToldOf net vars steps cubes task report →
+    AllZip (IsToldOf net vars steps cubes) (tasks ++ task ∷ []) (reports ++ report ∷ [])
+told_end net vars steps cubes [] [] task report all one = (one, tt)
+told_end net vars steps cubes [] (y ∷ ys) task report all one = absurd all
+told_end net vars steps cubes (x ∷ xs) [] task report all one = absurd all
+told_end net vars steps cubes (x ∷ xs) (y ∷ ys) task report all one = (all.0, told_end net vars steps cubes xs ys task report all.1 one)
+
+pub told_more : (net : RawNet) (vars steps cubes : ℕ) (tasks : List Task) (reports after : List Report) (i : ℕ) (task : Task) (report : Report) → i < length tasks → task ≡ get_or tasks i task →
+    AllZip (IsToldOf net vars steps cubes) (take i tasks) reports → IsToldOf net vars steps cubes task report → after ≡ reports ++ report ∷ [] → AllZip (IsToldOf net vars steps cubes) (take (i + 1) tasks) after
+told_more net vars steps cubes tasks reports after i task report l is before one pushed =
     let grown : take (i + 1) tasks ≡ take i tasks ++ task ∷ [] = ap (λ k. take k tasks) (add-one i) ∙ take-suc tasks i task l ∙ ap (λ x. take i tasks ++ x ∷ []) (sym is) in
-    let both = zip_end net vars steps (take i tasks) verdicts task verdict before.0 one in
-    let flat : flat_map report_line (zip (take i tasks) verdicts ++ (task, verdict) ∷ []) ≡ lines ++ line =
-    flat_map-append report_line (zip (take i tasks) verdicts) ((task, verdict) ∷ [])
-    ∙ (ap (λ k. flat_map report_line (zip (take i tasks) verdicts) ++ k) (append-nil (report_line (task, verdict)))
-    ∙ (ap (λ k. k ++ report_line (task, verdict)) (sym before.1) ∙ ap (λ k. lines ++ k) (sym its_line))) in
-    subst (λ ts. AreJudged net vars steps ts after longer) (sym grown)
-    (subst (λ vs. AreJudged net vars steps (take i tasks ++ task ∷ []) vs longer) (sym pushed)
-    (both.0, more ∙ sym (ap (flat_map report_line) both.1 ∙ flat)))
+    subst (λ ts. AllZip (IsToldOf net vars steps cubes) ts after) (sym grown)
+    (subst (λ rs. AllZip (IsToldOf net vars steps cubes) (take i tasks ++ task ∷ []) rs) (sym pushed) (told_end net vars steps cubes (take i tasks) reports task report before one))
 
-pub judged_end : (net : RawNet) (vars steps : ℕ) (tasks : List Task) (verdicts : List Verdict) (lines : List ℕ) (i : ℕ) → length tasks ≤ i → AreJudged net vars steps (take i tasks) verdicts lines → AreJudged net vars steps tasks verdicts lines
-judged_end net vars steps tasks verdicts lines i l h = subst (λ ts. AreJudged net vars steps ts verdicts lines) (take_all i tasks l) h
+pub told_all : (net : RawNet) (vars steps cubes : ℕ) (tasks : List Task) (reports : List Report) (i : ℕ) → length tasks ≤ i → AllZip (IsToldOf net vars steps cubes) (take i tasks) reports → AllZip (IsToldOf net vars steps cubes) tasks reports
+told_all net vars steps cubes tasks reports i l h = subst (λ ts. AllZip (IsToldOf net vars steps cubes) ts reports) (take_all i tasks l) h
 
 -- a number that a text names is that of a net
 in_range : (models : List Model) (text : List ℕ) (found : Option ℕ) → net_named models text ≡ found → IsSome found → unwrap_or found 0 < length (nets models)
@@ -201,19 +197,20 @@ steps_bounded (Some steps) (suc raws) tasks few same some =
     omega (arith, within, least)
 
 -- the steps of each task, in what is prepared
-pub each_bounded : (steps : Option ℕ) (net_text task_text : List ℕ) (net : RawNet) (tasks : Tasks) (each count : ℕ) → IsPrepared steps net_text task_text net tasks → 0 < length tasks.tasks → each ≡ task_steps steps count → count ≡ length tasks.tasks → each ≤ 16000000
-each_bounded steps net_text task_text net tasks each count made some is counted =
+pub each_bounded : (steps : Option ℕ) (net_text task_text : List ℕ) (names : List (List ℕ)) (net : RawNet) (tasks : Tasks) (each count : ℕ) → IsPrepared steps net_text task_text names net tasks → 0 < length tasks.tasks → each ≡ task_steps steps count → count ≡ length tasks.tasks → each ≤ 16000000
+each_bounded steps net_text task_text names net tasks each count made some is counted =
     subst (λ n. n ≤ 16000000) (sym (is ∙ ap (task_steps steps) counted))
     (steps_bounded steps (length made.reading.raw.tasks) (length tasks.tasks) made.few (as_many made.models made.reading.raw tasks made.reading.bound) some)
 
 -- what a check writes
-pub is_check : (steps : Option ℕ) (net_text task_text : List ℕ) (net : RawNet) (tasks : Tasks) (each count : ℕ) (passes : Bool) (bytes : List ℕ) → IsPrepared steps net_text task_text net tasks → each ≡ task_steps steps count → count ≡ length tasks.tasks →
-    IsReportOn net each tasks passes bytes → IsCheck steps net_text task_text passes bytes
-is_check steps net_text task_text net tasks each count passes bytes made is counted report = record {
+pub is_check : (steps : Option ℕ) (cubes : ℕ) (wave : Bool) (net_text task_text : List ℕ) (names : List (List ℕ)) (net : RawNet) (tasks : Tasks) (each count : ℕ) (passes : Bool) (bytes : List ℕ) → IsPrepared steps net_text task_text names net tasks → each ≡ task_steps steps count → count ≡ length tasks.tasks →
+    IsReportOn names net each cubes wave tasks passes bytes → IsCheck steps cubes wave net_text task_text passes bytes
+is_check steps cubes wave net_text task_text names net tasks each count passes bytes made is counted report = record {
   models = made.models;
   net = net;
   tasks = tasks;
   reading = made.reading;
   few = made.few;
-  report = subst (λ n. IsReportOn net n tasks passes bytes) (is ∙ ap (task_steps steps) counted) report;
+  report = subst (λ ns. IsReportOn ns net (task_steps steps (length tasks.tasks)) cubes wave tasks passes bytes) made.named
+      (subst (λ n. IsReportOn names net n cubes wave tasks passes bytes) (is ∙ ap (task_steps steps) counted) report);
 }

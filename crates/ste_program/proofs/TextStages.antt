@@ -9,7 +9,7 @@ use Rattle.blif_syntax.specs.declared.models.Model.{Model}
 use Rattle.clock_step.specs.Answer as inputs
 use Rattle.clock_step.specs.declared.fault.InputFault.{InputFault}
 use Rattle.clock_step.specs.declared.inputs.Inputs.{Inputs}
-use Rattle.command_line.specs.Command.{Action, bench, check, info, sim}
+use Rattle.command_line.specs.Command.{Action, Command, bench, check, info, sim}
 use Rattle.hierarchy.specs.Faults.{IsFree, IsRefusal}
 use Rattle.hierarchy.specs.Names.{net_named}
 use Rattle.hierarchy.specs.Nets.{nets}
@@ -168,8 +168,8 @@ inputs_silent : (net_text input_text : List ℕ) (models : List Model) (net : Ra
 inputs_silent net_text input_text models net given spelled flat answer other h =
     spelled_has_no_fault (net_named models) net (lines_of input_text) given h.0 h.2.told answer (input_fault_moved net_text input_text models net h.0 spelled flat h.2)
 
-check_silent : (steps : Option ℕ) (net_text task_text : List ℕ) (passes : Bool) (bytes : List ℕ) → IsCheck steps net_text task_text passes bytes → AllSilent (check_stages steps net_text task_text)
-check_silent steps net_text task_text passes bytes written =
+check_silent : (steps : Option ℕ) (cubes : ℕ) (wave : Bool) (net_text task_text : List ℕ) (passes : Bool) (bytes : List ℕ) → IsCheck steps cubes wave net_text task_text passes bytes → AllSilent (check_stages steps net_text task_text)
+check_silent steps cubes wave net_text task_text passes bytes written =
     let h = written.reading in
     let n = h.flattened in (
       faulty_silent net_text written.models n.netlist,
@@ -192,17 +192,17 @@ check_silent steps net_text task_text passes bytes written =
     )
 
 -- what is written is not refused
-pub text_silent : (action : Action) (steps : Option ℕ) (net_text second_text : List ℕ) (passes : Bool) (bytes : List ℕ) → IsWritten action steps net_text second_text passes bytes → AllSilent (text_stages action steps net_text second_text)
-text_silent (check net tasks) steps net_text second_text passes bytes written = check_silent steps net_text second_text passes bytes written
-text_silent (info net) steps net_text second_text passes bytes written =
+pub text_silent : (action : Action) (asked : Command) (net_text second_text : List ℕ) (passes : Bool) (bytes : List ℕ) → IsWritten action asked net_text second_text passes bytes → AllSilent (text_stages action asked.steps net_text second_text)
+text_silent (check net tasks) asked net_text second_text passes bytes written = check_silent asked.steps asked.cubes asked.wave net_text second_text passes bytes written
+text_silent (info net) asked net_text second_text passes bytes written =
     let h = written.1 in
     let n = h.flattened in
     (faulty_silent net_text h.models n.netlist, (hierarchy_silent net_text h.models n.netlist n.sound, (loop_silent net_text h.models h.net n.netlist n.flat n.settled, tt)))
-text_silent (sim net inputs) steps net_text second_text passes bytes written =
+text_silent (sim net inputs) asked net_text second_text passes bytes written =
     let h = written.1 in
     let n = h.flattened in
     (faulty_silent net_text h.models n.netlist, (hierarchy_silent net_text h.models n.netlist n.sound, (loop_silent net_text h.models h.net n.netlist n.flat n.settled, (inputs_silent net_text second_text h.models h.net h.inputs n.netlist n.flat h.given, tt))))
-text_silent (bench stages) steps net_text second_text passes bytes written = absurd written
+text_silent (bench stages) asked net_text second_text passes bytes written = absurd written
 
 -- two texts have one reading at most
 pub one_reading : OneReading
@@ -325,11 +325,12 @@ module _ (steps : Option ℕ) (net_text task_text : List ℕ) (models : List Mod
             )))
 
         -- they are checked
-        pub is_prepared : are_too_many steps (length raw.tasks) ≡ false → is_checked_so_far raw ≡ true → IsPrepared steps net_text task_text net bound
+        pub is_prepared : are_too_many steps (length raw.tasks) ≡ false → is_checked_so_far raw ≡ true → IsPrepared steps net_text task_text names.own net bound
         is_prepared few checked = record {
           models = models;
+          named = of_net.named.own_known;
           reading = record {
-            flattened = record { netlist = spelled; sound = of_net.sound; flat = of_net.flat; settled = of_net.settled };
+            flattened = record { netlist = spelled; sound = of_net.sound; flat = of_net.flat; in_range = of_net.in_range; settled = of_net.settled };
             raw = raw;
             spelled = read;
             bound = answer;

@@ -1,40 +1,27 @@
 -- Meaning. What a check writes on the texts of a netlist and of a task file. Source: this project's own choice; that a check may
 -- end within a bound of steps is Voss's.
-use Rattle.std.specs.Prelude.{◌≡◌, ◌<◌, ◌⊎◌, ◌*◌, ◌/◌, ◌++◌, ℕ, Bool, true, false, nat_lt, min, List, length, codes, Option, Some, None, zip}
-use Rattle.std.specs.List.{AllZip, flat_map, list_all}
+use Rattle.std.specs.Prelude.{◌≡◌, ◌<◌, ◌⊎◌, ◌*◌, ◌/◌, ℕ, Bool, true, false, nat_lt, map, min, List, length, Option, Some, None}
+use Rattle.std.specs.List.{AllZip, list_all}
 use Rattle.blif_syntax.specs.declared.models.Model.{Model}
+use Rattle.hierarchy.specs.Names.{own_name}
+use Rattle.hierarchy.specs.Nets.{nets}
 use Rattle.net_core.specs.declared.raw.RawNet.{RawNet}
+use Rattle.ste_model.specs.declared.report.Report.{Report}
 use Rattle.ste_model.specs.declared.task.Task.{Task}
 use Rattle.ste_model.specs.declared.task.Task.TheVariants.{Ste, Gste}
 use Rattle.ste_model.specs.declared.task.Tasks.{Tasks}
 use Rattle.ste_model.specs.declared.verdict.Verdict.{Verdict}
 use Rattle.ste_model.specs.declared.verdict.Verdict.TheVariants.{Pass, Weak, Strong, Vacuous, Budget}
 use Rattle.ste_model.specs.declared.task.Assertion.{Assertion}
-use Rattle.ste_model.specs.Found.{IsVerdictOf}
 use Rattle.ste_model.specs.Need.{IsNeed}
+use Rattle.ste_model.specs.Report.{IsReportOf, budget_report}
+use Rattle.report_text.specs.Text.{report_text}
 use Rattle.ste_program.specs.Reading.{IsReading}
-
--- the words of a verdict
-abbrev pub verdict_words : Verdict → List ℕ
-verdict_words Pass = codes "pass"
-verdict_words Weak = codes "weak failure"
-verdict_words Strong = codes "strong failure"
-verdict_words Vacuous = codes "contradictory antecedent"
-verdict_words Budget = codes "budget"
 
 -- the verdict is pass
 abbrev pub is_pass : Verdict → Bool
 is_pass Pass = true
 is_pass other = false
-
--- the name of a task
-abbrev pub task_name : Task → List ℕ
-task_name (Ste task) = task.name
-task_name (Gste task) = task.name
-
--- the line of a task in the report: its name, and the words of its verdict
-abbrev pub report_line : Task × Verdict → List ℕ
-report_line at = task_name at.0 ++ codes ": " ++ verdict_words at.1 ++ codes "\n"
 
 -- the node steps of each of so many tasks: those that are given, or else the smaller of 1,000,000 and the share of 16,000,000
 abbrev pub task_steps : Option ℕ → ℕ → ℕ
@@ -45,30 +32,32 @@ task_steps None tasks = min 1000000 (16000000 / tasks)
 abbrev pub AreTooFew : RawNet → ℕ → ℕ → Assertion → Type 0
 AreTooFew net vars steps task = (need : ℕ) → IsNeed net vars task need → steps < need
 
--- What may be told of a task over so many variables, with so many steps: its verdict; or budget, where the steps are too few. Of a
--- graph nothing is told so far.
-abbrev pub IsVerdictOn : RawNet → ℕ → ℕ → Task → Verdict → Type 0
-IsVerdictOn net vars steps (Ste task) verdict = IsVerdictOf net vars task verdict ⊎ ((verdict ≡ Budget) × AreTooFew net vars steps task)
-IsVerdictOn net vars steps (Gste task) verdict = ⊥
+-- What may be told of a task over so many variables, with so many steps and at most so many cubes in a list: its report; or budget,
+-- where the steps are too few. Of a graph nothing is told so far.
+abbrev pub IsToldOf : RawNet → ℕ → ℕ → ℕ → Task → Report → Type 0
+IsToldOf net vars steps cubes (Ste task) report =
+    IsReportOf net vars cubes task report ⊎ ((report ≡ budget_report task.name) × AreTooFew net vars steps task)
+IsToldOf net vars steps cubes (Gste task) report = ⊥
 
--- A report on tasks over a net, with so many steps for each: the verdict of each task, a line for each in the order of the tasks,
--- and whether each verdict is pass.
-pub record IsReportOn (net : RawNet) (steps : ℕ) (tasks : Tasks) (passes : Bool) (bytes : List ℕ) : Type 0 where
-  pub verdicts : List Verdict
-  pub judged : AllZip (IsVerdictOn net (length tasks.vars) steps) tasks.tasks verdicts
-  pub passing : passes ≡ list_all is_pass verdicts
-  pub written : bytes ≡ flat_map report_line (zip tasks.tasks verdicts)
+-- A report on tasks over a net whose nets have these own names, with so many steps for each: what is told of each task, in order, its
+-- text, and whether each verdict is pass.
+pub record IsReportOn (names : List (List ℕ)) (net : RawNet) (steps cubes : ℕ) (wave : Bool) (tasks : Tasks) (passes : Bool) (bytes : List ℕ) : Type 0 where
+  pub reports : List Report
+  pub told : AllZip (IsToldOf net (length tasks.vars) steps cubes) tasks.tasks reports
+  pub passing : passes ≡ list_all (λ report. is_pass report.verdict) reports
+  pub written : bytes ≡ report_text names tasks.vars wave None tasks.tasks reports
 
 -- the node steps of each task, where they are given, are too many over so many tasks: together more than 16,000,000
 abbrev pub are_too_many : Option ℕ → ℕ → Bool
 are_too_many None tasks = false
 are_too_many (Some steps) tasks = nat_lt 16000000 (steps * tasks)
 
--- what a check with these steps writes on two texts, and whether each task passes
-pub record IsCheck (steps : Option ℕ) (net_text task_text : List ℕ) (passes : Bool) (bytes : List ℕ) : Type 0 where
+-- what a check with these steps, so many cubes in a list, and all nets in a run or not, writes on two texts, and whether each task
+-- passes
+pub record IsCheck (steps : Option ℕ) (cubes : ℕ) (wave : Bool) (net_text task_text : List ℕ) (passes : Bool) (bytes : List ℕ) : Type 0 where
   pub models : List Model
   pub net : RawNet
   pub tasks : Tasks
   pub reading : IsReading net_text task_text models net tasks
   pub few : are_too_many steps (length reading.raw.tasks) ≡ false
-  pub report : IsReportOn net (task_steps steps (length tasks.tasks)) tasks passes bytes
+  pub report : IsReportOn (map own_name (nets models)) net (task_steps steps (length tasks.tasks)) cubes wave tasks passes bytes

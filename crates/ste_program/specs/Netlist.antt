@@ -12,6 +12,7 @@ use Rattle.blif_syntax.specs.declared.models.Model.{Model}
 use Rattle.hierarchy.specs.Faults.{IsFree, IsRefusal}
 use Rattle.hierarchy.specs.Names.{own_name}
 use Rattle.hierarchy.specs.Nets.{nets}
+use Rattle.net_core.specs.Flat.{IsInRange}
 use Rattle.net_core.specs.Loop.{IsLeastUnsettled}
 use Rattle.net_core.specs.Run.{IsSettled}
 use Rattle.net_core.specs.declared.raw.RawNet.{RawNet}
@@ -31,12 +32,13 @@ pub record IsNetlist (text : List ℕ) (models : List Model) : Type 0 where
 abbrev pub IsNetlistFault : List ℕ → BlifFault → Type 0
 IsNetlistFault text fault = (fault ≢ OutOfMemory) × IsAnswer (net_lines text) (Err fault)
 
--- The text spells these models, whose hierarchy has no fault, and this is their flat net, in which no gates form a loop. The net's
--- covers are numbered freely.
+-- The text spells these models, whose hierarchy has no fault, and this is their flat net, whose numbers are in range and in which no
+-- gates form a loop. The net's covers are numbered freely.
 pub record IsFlattened (text : List ℕ) (models : List Model) (net : RawNet) : Type 0 where
   pub netlist : IsNetlist text models
   pub sound : IsFree (IsRefusal models)
   pub flat : IsFlat models net
+  pub in_range : IsInRange net
   pub settled : IsSettled net
 
 -- gates of the flat net drive one another in a loop: this is the own name of the least net that does not settle

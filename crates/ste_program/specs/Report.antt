@@ -1,16 +1,17 @@
 -- Meaning, and two laws. What a command writes on what the files hold. Source: this project's own choice.
-use Rattle.std.specs.Prelude.{◌≡◌, ◌≤◌, ◌⊎◌, ⊤, ℕ, Bool, true, false, List, [], length, Option, Some, None, IfSome, slice_get}
+use Rattle.std.specs.Prelude.{◌≡◌, ◌≤◌, ◌⊎◌, ⊤, ℕ, Bool, true, false, List, [], length, map, Option, Some, None, IfSome, slice_get}
 use Rattle.std.specs.FinMap.{get}
 use Rattle.std.specs.List.{AllZip}
 use Rattle.command_line.specs.Command.{Action, Command, bench, check, info, sim}
 use Rattle.ste_model.specs.declared.task.Assertion.{Assertion}
 use Rattle.ste_model.specs.declared.task.Task.TheVariants.{Ste}
-use Rattle.ste_model.specs.declared.verdict.Verdict.{Verdict}
+use Rattle.ste_model.specs.declared.report.Report.{Report as TaskReport}
+use Rattle.ste_model.specs.declared.run.Run.{Run}
 use Rattle.ste_model.specs.declared.verdict.Verdict.TheVariants.{Budget, Pass, Vacuous}
 use Rattle.ste_io.specs.Outside.{FilesState, Store}
 use Rattle.ste_program.specs.Check.{IsCheck}
 use Rattle.ste_program.specs.Command.{is_undone, net_file, second_file}
-use Rattle.ste_program.specs.Holds.{HoldsOf}
+use Rattle.ste_program.specs.Holds.{BreaksIn, HoldsOf}
 use Rattle.ste_program.specs.Info.{IsInfo}
 use Rattle.ste_program.specs.Simulated.{IsSimulated}
 
@@ -27,12 +28,12 @@ text_at (Some name) store = get store name
 abbrev pub IsRead : Option Store → Option (List ℕ) → List ℕ → Type 0
 IsRead holds file text = IfSome holds (λ store. text_at file store ≡ Some text)
 
--- what an action writes on two texts, and whether each task passes; `info` has the second for nothing
-abbrev pub IsWritten : Action → Option ℕ → List ℕ → List ℕ → Bool → List ℕ → Type 0
-IsWritten (check net tasks) steps net_text second_text passes bytes = IsCheck steps net_text second_text passes bytes
-IsWritten (info net) steps net_text second_text passes bytes = (passes ≡ true) × IsInfo net_text bytes
-IsWritten (sim net inputs) steps net_text second_text passes bytes = (passes ≡ true) × IsSimulated net_text second_text bytes
-IsWritten (bench stages) steps net_text second_text passes bytes = ⊥
+-- what the action of a command writes on two texts, and whether each task passes; `info` has the second for nothing
+abbrev pub IsWritten : Action → Command → List ℕ → List ℕ → Bool → List ℕ → Type 0
+IsWritten (check net tasks) asked net_text second_text passes bytes = IsCheck asked.steps asked.cubes asked.wave net_text second_text passes bytes
+IsWritten (info net) asked net_text second_text passes bytes = (passes ≡ true) × IsInfo net_text bytes
+IsWritten (sim net inputs) asked net_text second_text passes bytes = (passes ≡ true) × IsSimulated net_text second_text bytes
+IsWritten (bench stages) asked net_text second_text passes bytes = ⊥
 
 -- what a command writes, and whether each task passes
 pub record IsReport (command : Option Command) (files : FilesState) (passes : Bool) (bytes : List ℕ) : Type 0 where
@@ -45,39 +46,56 @@ pub record IsReport (command : Option Command) (files : FilesState) (passes : Bo
   pub second_read : IsRead files.holds (second_file asked.action) second_text
   pub net_small : length net_text ≤ greatest
   pub second_small : length second_text ≤ greatest
-  pub written : IsWritten asked.action asked.steps net_text second_text passes bytes
+  pub written : IsWritten asked.action asked net_text second_text passes bytes
 
 -- where a check says pass, or contradictory antecedent, of an assertion, the assertion holds
-abbrev pub PassesHold : (action : Action) (steps : Option ℕ) (net_text second_text : List ℕ) (passes : Bool) (bytes : List ℕ) → IsWritten action steps net_text second_text passes bytes → Type 0
-PassesHold (check net tasks) steps net_text second_text passes bytes written =
-    (place : ℕ) (task : Assertion) (verdict : Verdict) →
-    slice_get written.tasks.tasks place ≡ Some (Ste task) → slice_get written.report.verdicts place ≡ Some verdict →
-    (verdict ≡ Pass) ⊎ (verdict ≡ Vacuous) → HoldsOf written.models (length written.tasks.vars) task
-PassesHold (info net) steps net_text second_text passes bytes written = ⊤
-PassesHold (sim net inputs) steps net_text second_text passes bytes written = ⊤
-PassesHold (bench stages) steps net_text second_text passes bytes written = ⊤
+abbrev pub PassesHold : (action : Action) (asked : Command) (net_text second_text : List ℕ) (passes : Bool) (bytes : List ℕ) → IsWritten action asked net_text second_text passes bytes → Type 0
+PassesHold (check net tasks) asked net_text second_text passes bytes written =
+    (place : ℕ) (task : Assertion) (report : TaskReport) →
+    slice_get written.tasks.tasks place ≡ Some (Ste task) → slice_get written.report.reports place ≡ Some report →
+    (report.verdict ≡ Pass) ⊎ (report.verdict ≡ Vacuous) → HoldsOf written.models (length written.tasks.vars) task
+PassesHold (info net) asked net_text second_text passes bytes written = ⊤
+PassesHold (sim net inputs) asked net_text second_text passes bytes written = ⊤
+PassesHold (bench stages) asked net_text second_text passes bytes written = ⊤
 
 -- Law: where a report says pass, or contradictory antecedent, of an assertion, the assertion holds of the hierarchy as it was
 -- written: for every assignment, each two-valued run of its depth that meets the antecedent meets the consequent.
 abbrev pub PassHolds : Option Command → FilesState → Type 0
 PassHolds command files =
     (passes : Bool) (bytes : List ℕ) (report : IsReport command files passes bytes) →
-    PassesHold report.asked.action report.asked.steps report.net_text report.second_text passes bytes report.written
+    PassesHold report.asked.action report.asked report.net_text report.second_text passes bytes report.written
 
--- the verdicts that a check tells
-abbrev pub verdicts_in : (action : Action) (steps : Option ℕ) (net_text second_text : List ℕ) (passes : Bool) (bytes : List ℕ) → IsWritten action steps net_text second_text passes bytes → List Verdict
-verdicts_in (check net tasks) steps net_text second_text passes bytes written = written.report.verdicts
-verdicts_in (info net) steps net_text second_text passes bytes written = []
-verdicts_in (sim net inputs) steps net_text second_text passes bytes written = []
-verdicts_in (bench stages) steps net_text second_text passes bytes written = []
+-- where a check tells a run of an assertion, the run breaks the assertion under the least assignment that is told
+abbrev pub TheyBreak : (action : Action) (asked : Command) (net_text second_text : List ℕ) (passes : Bool) (bytes : List ℕ) → IsWritten action asked net_text second_text passes bytes → Type 0
+TheyBreak (check net tasks) asked net_text second_text passes bytes written =
+    (place : ℕ) (task : Assertion) (report : TaskReport) (run : Run) →
+    slice_get written.tasks.tasks place ≡ Some (Ste task) → slice_get written.report.reports place ≡ Some report → report.run ≡ Some run →
+    (bits : List Bool) × (report.least ≡ Some bits) × (length bits ≡ length written.tasks.vars) × BreaksIn written.models task bits run
+TheyBreak (info net) asked net_text second_text passes bytes written = ⊤
+TheyBreak (sim net inputs) asked net_text second_text passes bytes written = ⊤
+TheyBreak (bench stages) asked net_text second_text passes bytes written = ⊤
 
-abbrev pub verdicts_of : (command : Option Command) (files : FilesState) (passes : Bool) (bytes : List ℕ) → IsReport command files passes bytes → List Verdict
-verdicts_of command files passes bytes report =
-    verdicts_in report.asked.action report.asked.steps report.net_text report.second_text passes bytes report.written
+-- Law: each run that a report tells is a run of the hierarchy as it was written, meets the antecedent of its assertion and breaks the
+-- consequent, under the least assignment that is told.
+abbrev pub RunsBreak : Option Command → FilesState → Type 0
+RunsBreak command files =
+    (passes : Bool) (bytes : List ℕ) (report : IsReport command files passes bytes) →
+    TheyBreak report.asked.action report.asked report.net_text report.second_text passes bytes report.written
 
--- both verdicts are the same, or one of them is budget
-abbrev pub Agree : Verdict → Verdict → Type 0
-Agree one other = (one ≡ other) ⊎ ((one ≡ Budget) ⊎ (other ≡ Budget))
+-- the reports of the tasks that a check tells
+abbrev pub reports_in : (action : Action) (asked : Command) (net_text second_text : List ℕ) (passes : Bool) (bytes : List ℕ) → IsWritten action asked net_text second_text passes bytes → List TaskReport
+reports_in (check net tasks) asked net_text second_text passes bytes written = written.report.reports
+reports_in (info net) asked net_text second_text passes bytes written = []
+reports_in (sim net inputs) asked net_text second_text passes bytes written = []
+reports_in (bench stages) asked net_text second_text passes bytes written = []
+
+abbrev pub reports_of : (command : Option Command) (files : FilesState) (passes : Bool) (bytes : List ℕ) → IsReport command files passes bytes → List TaskReport
+reports_of command files passes bytes report =
+    reports_in report.asked.action report.asked report.net_text report.second_text passes bytes report.written
+
+-- both reports of a task are the same, or one of them says budget
+abbrev pub Agree : TaskReport → TaskReport → Type 0
+Agree one other = (one ≡ other) ⊎ ((one.verdict ≡ Budget) ⊎ (other.verdict ≡ Budget))
 
 -- Law: on what the files hold, where they tell it, two reports of a command agree on each task, but where one of them says budget;
 -- and with the same verdicts they are one.
@@ -85,5 +103,6 @@ abbrev pub OneReport : Type 0
 OneReport =
     (command : Option Command) (files : FilesState) (store : Store) → files.holds ≡ Some store →
     (passes others : Bool) (bytes others_bytes : List ℕ) (one : IsReport command files passes bytes) (other : IsReport command files others others_bytes) →
-    AllZip Agree (verdicts_of command files passes bytes one) (verdicts_of command files others others_bytes other)
-    × (verdicts_of command files passes bytes one ≡ verdicts_of command files others others_bytes other → (passes ≡ others) × (bytes ≡ others_bytes))
+    AllZip Agree (reports_of command files passes bytes one) (reports_of command files others others_bytes other)
+    × (map (λ (report : TaskReport). report.verdict) (reports_of command files passes bytes one)
+    ≡ map (λ (report : TaskReport). report.verdict) (reports_of command files others others_bytes other) → (passes ≡ others) × (bytes ≡ others_bytes))

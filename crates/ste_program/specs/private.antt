@@ -1,5 +1,4 @@
 pub mod Texts
-pub mod Judged
 pub mod Made
 pub mod Prepared
 pub mod Simulated

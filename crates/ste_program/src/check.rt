@@ -1,44 +1,41 @@
-//! The report of a check: `check` gives its bytes, and whether every task passes.
+//! What a check writes: `check` gives its bytes, and whether every task passes.
 ghost use Rattle.std.specs.Prelude.{◌≡◌, ◌≤◌, ◌<◌, List, All, IfOk, MatchResult, Ok, length, map};
 ghost use Rattle.std.specs.List.{list_all};
 ghost use Rattle.blif_syntax.specs.declared.models.Model.{Model};
 ghost use Rattle.hierarchy.specs.Names.{net_named};
 ghost use Rattle.hierarchy.specs.Nets.{nets};
 ghost use Rattle.net_core.specs.Cases.{cases_of};
-ghost use Rattle.ste_model.specs.declared.task.Task.TheVariants.{Ste};
-ghost use Rattle.sym_step.specs.Step.{rows_of};
 ghost use Rattle.task_binding.specs.Answer.{IsAnswer};
-ghost use Rattle.ste_program.specs.Check.{IsCheck, IsReportOn, IsVerdictOn, are_too_many, is_pass, report_line, task_name, task_steps, verdict_words};
+ghost use Rattle.ste_program.specs.Check.{IsCheck, IsReportOn, are_too_many, is_pass, task_steps};
 ghost use Rattle.ste_program.specs.Order.{IsFirst, check_stages, has_faulty_tasks};
 ghost use Rattle.ste_program.specs.Reading.{is_assertion, is_checked_so_far};
 ghost use Rattle.ste_program.specs.Report.{greatest};
 ghost use Rattle.ste_program.specs.TaskFile.{AreTasks};
-ghost use Rattle.ste_program.specs.private.Judged.{AreJudged};
 ghost use Rattle.ste_program.specs.private.Made.{IsCheckable, IsNetOf, IsNotBound};
 ghost use Rattle.ste_program.specs.private.Prepared.{IsPrepared};
 ghost use Rattle.ste_program.specs.private.Texts.{OrMemory};
 
+use crate::judging::{is_pass, reports_of};
 use crate::netlist::{FlatNet, models_of, net_of};
 use crate::refusal::Refusal;
-use crate::report::Report;
+use crate::report::Written;
 use assert_syntax::{RawTask, RawTasks, read_tasks};
 use blif_lines::logical_lines;
-use dd_nodes::PlainNodes;
-use net_core::Net;
+use report_text::render;
 use std::alloc::{AllocError, Global};
-use ste_engine::check_ste;
-use ste_model::{Assertion, Task, Tasks, Verdict};
+use ste_model::{Report, Tasks};
 use sym_step::GateRows;
 use task_binding::bind_tasks;
 
-/// What is checked: a net, and assertions over it.
+/// What is checked: a net with the names of its nets, and assertions over it.
 #[derive(Drop)]
 struct Prepared {
-    net: Net,
+    flat: FlatNet,
     tasks: Tasks,
-    ghost inputs: { All (λ cover. cover.inputs ≤ 1000) net.raw.covers },
-    ghost cases: { All (λ cover. cases_of cover.inputs cover.rows ≤ 65536) net.raw.covers },
-    ghost checkable: { All (IsCheckable net.raw.nets (length tasks.vars)) tasks.tasks },
+    ghost named: { length flat.names.own ≡ flat.net.raw.nets },
+    ghost inputs: { All (λ cover. cover.inputs ≤ 1000) flat.net.raw.covers },
+    ghost cases: { All (λ cover. cases_of cover.inputs cover.rows ≤ 65536) flat.net.raw.covers },
+    ghost checkable: { All (IsCheckable flat.net.raw.nets (length tasks.vars)) tasks.tasks },
     ghost some: { 0 < length tasks.tasks },
     ghost few: { length tasks.vars ≤ 1000 },
 }
@@ -115,7 +112,8 @@ fn prepare(
     requires net { length net_text.items ≤ greatest }
     requires tasks { length task_text.items ≤ greatest }
     ensures { MatchResult result
-        (λ made. IsPrepared steps net_text.items task_text.items made.net.raw made.tasks)
+        (λ made. IsPrepared steps net_text.items task_text.items made.flat.names.own
+        made.flat.net.raw made.tasks)
         (λ found. OrMemory (IsFirst (check_stages steps net_text.items task_text.items)) found) }
 {
     let models = match models_of(alloc, net_text) {
@@ -137,53 +135,11 @@ fn prepare(
     if are_too_many(steps, raw.tasks.len()) {
         return Err(Refusal::TooManySteps);
     }
-    let FlatNet { net, names: _ } = flat;
     if is_checked_so_far(&raw) {
-        Ok(Prepared { net, tasks })
+        Ok(Prepared { flat, tasks })
     } else {
         Err(Refusal::NotYet)
     }
-}
-
-/// Whether the verdict is pass.
-fn is_pass(verdict: Verdict) -> bool
-    ensures { result ≡ is_pass verdict }
-{
-    matches!(verdict, Verdict::Pass)
-}
-
-/// The words of a verdict.
-fn verdict_words(verdict: Verdict) -> &'static str
-    ensures { result.now ≡ verdict_words verdict }
-{
-    match verdict {
-        Verdict::Pass => "pass",
-        Verdict::Weak => "weak failure",
-        Verdict::Strong => "strong failure",
-        Verdict::Vacuous => "contradictory antecedent",
-        Verdict::Budget => "budget",
-    }
-}
-
-/// The name of a task.
-fn task_name(task: &Task) -> &[u8]
-    ensures { result.now ≡ task_name task.now }
-{
-    match task {
-        Task::Ste(task) => task.name.bytes(),
-        Task::Gste(task) => task.name.bytes(),
-    }
-}
-
-/// The line of a task in the report.
-fn report_line(alloc: Global, task: &Task, verdict: Verdict) -> Result<Vec<u8>, AllocError>
-    ensures { IfOk result (λ line. line.items ≡ report_line (task.now, verdict)) }
-{
-    let mut line = task_name(task).to_vec(alloc)?;
-    line.extend_from_slice(b": ")?;
-    line.extend_from_slice(verdict_words(verdict).as_bytes())?;
-    line.extend_from_slice(b"\n")?;
-    Ok(line)
 }
 
 /// The node steps of each of so many tasks.
@@ -197,112 +153,61 @@ fn task_steps(steps: Option<u64>, tasks: usize) -> u64
     }
 }
 
-/// The verdict of an assertion over so many variables, with so many steps.
-fn assertion_verdict(
-    alloc: Global,
-    net: &Net,
-    rows: &GateRows,
-    vars: u32,
-    steps: u32,
-    task: &Assertion,
-) -> Result<Verdict, AllocError>
-    requires rows { rows.now.covers ≡ map rows_of net.now.raw.covers }
-    requires checkable { IsCheckable net.now.raw.nets vars (Ste task.now) }
-    requires steps { steps ≤ 16000000 }
-    ensures { IfOk result (λ verdict. IsVerdictOn net.now.raw vars steps (Ste task.now) verdict) }
-{
-    let mut nodes = PlainNodes::new(alloc, vars, steps)?;
-    check_ste(alloc, &mut nodes, net, rows, task)
-}
-
-/// The verdict of a task over so many variables, with so many steps.
-fn verdict_of(
-    alloc: Global,
-    net: &Net,
-    rows: &GateRows,
-    vars: u32,
-    steps: u32,
-    task: &Task,
-) -> Result<Verdict, AllocError>
-    requires rows { rows.now.covers ≡ map rows_of net.now.raw.covers }
-    requires checkable { IsCheckable net.now.raw.nets vars task.now }
-    requires steps { steps ≤ 16000000 }
-    ensures { IfOk result (λ verdict. IsVerdictOn net.now.raw vars steps task.now verdict) }
-{
-    match task {
-        Task::Ste(task) => assertion_verdict(alloc, net, rows, vars, steps, task),
-        // A task that is a graph is no task that is checked.
-        Task::Gste(_) => unreachable!(),
-    }
-}
-
-/// The verdicts of tasks, in their order, and their lines in the report.
-#[derive(Drop)]
-struct Judged {
-    verdicts: Vec<Verdict>,
-    lines: Vec<u8>,
-}
-
-/// The verdicts of tasks over so many variables, with so many steps for each, and their lines.
-fn judge(
-    alloc: Global,
-    net: &Net,
-    rows: &GateRows,
-    vars: u32,
-    steps: u32,
-    tasks: &[Task],
-) -> Result<Judged, AllocError>
-    requires rows { rows.now.covers ≡ map rows_of net.now.raw.covers }
-    requires checkable { All (IsCheckable net.now.raw.nets vars) tasks.now }
-    requires steps { steps ≤ 16000000 }
-    ensures { IfOk result (λ made. AreJudged net.now.raw vars steps tasks.now
-        made.verdicts.items made.lines.items) }
-{
-    let mut verdicts = Vec::new(alloc);
-    let mut lines = Vec::new(alloc);
-    for task in tasks {
-        let verdict = verdict_of(alloc, net, rows, vars, steps, task)?;
-        let line = report_line(alloc, task, verdict)?;
-        lines.extend_from_slice(&line)?;
-        verdicts.push(verdict)?;
-    }
-    Ok(Judged { verdicts, lines })
-}
-
 /// Whether every verdict is pass.
-fn all_pass(verdicts: &[Verdict]) -> bool
-    ensures { result ≡ list_all is_pass verdicts.now }
+fn all_pass(reports: &[Report]) -> bool
+    ensures { result ≡ list_all (λ report. is_pass report.verdict) reports.now }
 {
-    verdicts.iter().all(|verdict| is_pass(*verdict))
+    reports.iter().all(|report| is_pass(report.verdict))
 }
 
-/// The report on what is prepared, with so many steps for each task.
-fn report_on(alloc: Global, steps: u32, prepared: &Prepared) -> Result<Report, AllocError>
+/// What a check writes on what is prepared, with so many steps for each task.
+fn report_on(
+    alloc: Global,
+    steps: u32,
+    cubes: u32,
+    wave: bool,
+    prepared: &Prepared,
+) -> Result<Written, AllocError>
     requires { steps ≤ 16000000 }
-    ensures { IfOk result (λ report.
-        IsReportOn prepared.now.net.raw steps prepared.now.tasks report.passes report.bytes) }
+    ensures { IfOk result (λ written. IsReportOn prepared.now.flat.names.own
+        prepared.now.flat.net.raw steps cubes wave prepared.now.tasks
+        written.passes written.bytes) }
 {
-    let tasks = prepared.tasks.tasks.as_slice();
-    let vars = prepared.tasks.vars.len() as u32;
-    let rows = GateRows::of(alloc, &prepared.net)?;
-    let Judged { verdicts, lines } = judge(alloc, &prepared.net, &rows, vars, steps, tasks)?;
-    Ok(Report {
-        bytes: lines.into(),
-        passes: all_pass(&verdicts),
+    let net = &prepared.flat.net;
+    let tasks = &prepared.tasks;
+    let rows = GateRows::of(alloc, net)?;
+    let vars = tasks.vars.len() as u32;
+    let reports = reports_of(
+        alloc,
+        net,
+        &rows,
+        vars,
+        steps,
+        cubes,
+        tasks.tasks.as_slice(),
+    )?;
+    let text = render(alloc, &prepared.flat.names, tasks, &reports, wave, None)?;
+    Ok(Written {
+        bytes: text.into(),
+        passes: all_pass(&reports),
     })
 }
 
-/// What a check with these node steps of each task writes on the texts of a netlist and of a task file.
+/// What a check writes on the texts of a netlist and of a task file, with these node steps of each task, where they are given, and at
+/// most so many cubes in a list. A run shows the nets that its task names, with `wave` all nets.
 pub fn check(
     alloc: Global,
     steps: Option<u64>,
+    cubes: u32,
+    wave: bool,
     net_text: Vec<u8>,
     task_text: Vec<u8>,
-) -> Result<Report, Refusal>
+) -> Result<Written, Refusal>
     requires net { length net_text.items ≤ greatest }
     requires tasks { length task_text.items ≤ greatest }
     ensures { MatchResult result
-        (λ report. IsCheck steps net_text.items task_text.items report.passes report.bytes)
+        (λ written. IsCheck steps cubes wave net_text.items task_text.items
+        written.passes written.bytes)
         (λ found. OrMemory (IsFirst (check_stages steps net_text.items task_text.items)) found) }
 {
     let prepared = match prepare(alloc, steps, net_text, task_text) {
@@ -310,8 +215,8 @@ pub fn check(
         Err(found) => return Err(found),
     };
     let each = task_steps(steps, prepared.tasks.tasks.len());
-    match report_on(alloc, each as u32, &prepared) {
-        Ok(report) => Ok(report),
+    match report_on(alloc, each as u32, cubes, wave, &prepared) {
+        Ok(written) => Ok(written),
         Err(_) => Err(Refusal::OutOfMemory),
     }
 }

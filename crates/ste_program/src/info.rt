@@ -8,7 +8,7 @@ ghost use Rattle.ste_program.specs.private.Texts.{OrMemory};
 
 use crate::netlist::{FlatNet, netlist_of};
 use crate::refusal::Refusal;
-use crate::report::Report;
+use crate::report::Written;
 use net_core::{Net, Source};
 use std::alloc::{AllocError, Global};
 use ste_base::NodeId;
@@ -63,7 +63,7 @@ fn info_text(alloc: Global, name: &[u8], net: &Net) -> Result<Vec<u8>, AllocErro
 }
 
 /// What `info` writes on the text of a netlist.
-pub fn info(alloc: Global, text: Vec<u8>) -> Result<Report, Refusal>
+pub fn info(alloc: Global, text: Vec<u8>) -> Result<Written, Refusal>
     requires { length text.items ≤ greatest }
     ensures { MatchResult result
         (λ report. (report.passes ≡ true) × IsInfo text.items report.bytes)
@@ -74,7 +74,7 @@ pub fn info(alloc: Global, text: Vec<u8>) -> Result<Report, Refusal>
         Err(found) => return Err(found),
     };
     match info_text(alloc, names.top().bytes(), &net) {
-        Ok(bytes) => Ok(Report {
+        Ok(bytes) => Ok(Written {
             bytes: bytes.into(),
             passes: true,
         }),

@@ -4,6 +4,7 @@
 mod check;
 mod command;
 mod info;
+mod judging;
 pub mod laws;
 mod message;
 mod netlist;

@@ -20,25 +20,32 @@ use ste_io::Files;
 
 /// What the program writes, and whether every task passes; where there is no task every one does.
 #[derive(Drop)]
-pub struct Report {
+pub struct Written {
     pub bytes: Items<u8>,
     pub passes: bool,
 }
 
 /// What a command writes on its texts.
-fn on_texts(alloc: Global, command: &Command<'_>, texts: Texts) -> Result<Report, Refusal>
+fn on_texts(alloc: Global, command: &Command<'_>, texts: Texts) -> Result<Written, Refusal>
     requires done { is_undone command.now ≡ false }
     requires net { length texts.net.items ≤ greatest }
     requires second { length texts.second.items ≤ greatest }
     ensures { MatchResult result
-        (λ report. IsWritten command.now.action command.now.steps
-        texts.net.items texts.second.items report.passes report.bytes)
+        (λ written. IsWritten command.now.action command.now
+        texts.net.items texts.second.items written.passes written.bytes)
         (λ found. OrMemory (IsFirst (text_stages command.now.action command.now.steps
         texts.net.items texts.second.items)) found) }
 {
     let Texts { net, second } = texts;
     match command.action {
-        Action::Check { .. } => check(alloc, command.steps, net, second),
+        Action::Check { .. } => check(
+            alloc,
+            command.steps,
+            command.cubes,
+            command.wave,
+            net,
+            second,
+        ),
         Action::Info { .. } => info(alloc, net),
         Action::Sim { .. } => simulated(alloc, net, second),
         // What is not done so far has no texts.
@@ -51,7 +58,7 @@ pub fn report_of<F: Files>(
     alloc: Global,
     command: &Option<Command<'_>>,
     files: &mut F,
-) -> Result<Report, Refusal>
+) -> Result<Written, Refusal>
     ensures { MatchResult result
         (λ report. IsMade command.now (F.state files.old) (F.state files.new)
         report.passes report.bytes)

@@ -6,11 +6,11 @@ ghost use Rattle.command_line.specs.Command.{command_of};
 ghost use Rattle.ste_program.specs.Command.{files_of};
 ghost use Rattle.ste_program.specs.Message.{cannot_write};
 ghost use Rattle.ste_io.specs.Outside.{Store, with_names};
-ghost use Rattle.ste_program.specs.Report.{PassHolds};
+ghost use Rattle.ste_program.specs.Report.{PassHolds, RunsBreak};
 
 use crate::message::message_of;
 use crate::refusal::Refusal;
-use crate::report::{Report, report_of};
+use crate::report::{Written, report_of};
 use command_line::{Command, command_of};
 use std::alloc::Global;
 use ste_io::{Files, Sink, write_whole};
@@ -61,7 +61,7 @@ fn refuse<E: Sink>(
 }
 
 /// Writes the report, or the message that it could not be written.
-fn write_report<O: Sink, E: Sink>(report: &Report, out: &mut O, err: &mut E) -> Status
+fn write_report<O: Sink, E: Sink>(report: &Written, out: &mut O, err: &mut E) -> Status
     ensures written { result ≢ Status.Faulted →
         WentOut report.now.bytes (O.state out.old) (O.state out.new)
         × (E.state err.new ≡ E.state err.old) }
@@ -143,6 +143,10 @@ pub fn run<F: Files, O: Sink, E: Sink>(
     // Where a report says pass, or contradictory antecedent, the assertion holds: for every assignment, each two-valued
     // run that meets the antecedent meets the consequent.
     ensures pass_holds { PassHolds (command_of words.now) (F.state files.old) }
+
+    // Each run that a report tells is a two-valued run, meets the antecedent of its assertion and breaks the consequent,
+    // under the least assignment that is told.
+    ensures runs_break { RunsBreak (command_of words.now) (F.state files.old) }
 
     // Status 2: the first refusal was told, and nothing is on the output.
     ensures refused { result ≡ Status.Refused → WasRefused (command_of words.now)

@@ -10,7 +10,7 @@ ghost use Rattle.ste_program.specs.private.Texts.{OrMemory};
 
 use crate::netlist::{FlatNet, netlist_of};
 use crate::refusal::Refusal;
-use crate::report::Report;
+use crate::report::Written;
 use blif_lines::logical_lines;
 use clock_step::{Inputs, read_inputs, simulate};
 use net_names::NetNames;
@@ -98,7 +98,7 @@ fn text_of(alloc: Global, flat: &FlatNet, inputs: Inputs) -> Result<Vec<u8>, All
 }
 
 /// What `sim` writes on the texts of a netlist and of an input file.
-pub fn simulated(alloc: Global, net_text: Vec<u8>, input_text: Vec<u8>) -> Result<Report, Refusal>
+pub fn simulated(alloc: Global, net_text: Vec<u8>, input_text: Vec<u8>) -> Result<Written, Refusal>
     requires net { length net_text.items ≤ greatest }
     requires inputs { length input_text.items ≤ greatest }
     ensures { MatchResult result
@@ -115,7 +115,7 @@ pub fn simulated(alloc: Global, net_text: Vec<u8>, input_text: Vec<u8>) -> Resul
         Err(found) => return Err(found),
     };
     match text_of(alloc, &flat, inputs) {
-        Ok(bytes) => Ok(Report {
+        Ok(bytes) => Ok(Written {
             bytes: bytes.into(),
             passes: true,
         }),

@@ -1,5 +1,6 @@
 //! What `run` writes and answers for words of every kind: the counts of a net, simulations, options, refusals of words.
 
+use crate::hierarchies::TWICE;
 use crate::tests::{INVERTER, INVERTS, NOT_YET};
 use std::alloc::{AllocError, Global};
 use std::process::Abort;
@@ -251,6 +252,49 @@ fn steps_and_budgets(rt: HostRuntime) -> Result<(), Fail> {
         "e: pass\n",
         "",
     )?;
+    Ok(())
+}
+
+#[test]
+fn cubes_and_waves(rt: HostRuntime) -> Result<(), Fail> {
+    let alloc = rt.alloc();
+    let doubted =
+        ".vars p q\n.ste t1\n.ant a = p from 0 to 1\n.ant a = q from 0 to 1\n.con y = !p from 0 to 1\n.end\n";
+    let one = "t1: pass\n  contradictory: !p & q | ...\n";
+    let two = "t1: pass\n  contradictory: !p & q | p & !q\n";
+    for (words, out) in [
+        ("check n s --cubes 1", one),
+        ("check n s --cubes 2", two),
+        ("check n s", two),
+    ] {
+        expect(
+            &rt,
+            alloc,
+            words,
+            INVERTER,
+            doubted,
+            Status::Passed,
+            out,
+            "",
+        )?;
+    }
+    let refuted = ".vars p\n.ste h\n.ant a = p from 0 to 1\n.con y = !p from 0 to 1\n.end\n";
+    let named =
+        "h: strong failure\n  strong: 1\n  least: p=0\n  fails: y at 0\n  run:\n    a: 0\n    y: 0\n";
+    let all =
+        "h: strong failure\n  strong: 1\n  least: p=0\n  fails: y at 0\n  run:\n    a: 0\n    y: 0\n    m: 0\n    0/n: 1\n    1/n: 1\n";
+    for (words, out) in [("check n s", named), ("check n s --wave", all)] {
+        expect(
+            &rt,
+            alloc,
+            words,
+            TWICE,
+            refuted,
+            Status::NotPassed,
+            out,
+            "",
+        )?;
+    }
     Ok(())
 }
 

@@ -6,7 +6,7 @@ use std::process::Abort;
 use std::test::Fail;
 use ste_program::run::Status;
 
-const TWICE: &str =
+pub const TWICE: &str =
     ".model top\n.inputs a\n.outputs y\n.subckt mid a=a b=a y=m\n.subckt mid a=m b=a y=y\n.end\n.model mid\n.inputs a b\n.outputs y\n.subckt nor2 p=a q=b r=n\n.names n y\n0 1\n.end\n.model nor2\n.inputs p q\n.outputs r\n.names p q r\n00 1\n.end\n";
 
 #[test]
@@ -27,7 +27,7 @@ fn hierarchies_that_are_checked(rt: HostRuntime) -> Result<(), Fail> {
             TWICE,
             ".vars p\n.ste h\n.ant a = p from 0 to 1\n.con y = p from 0 to 1\n.con 0/0/r = p from 0 to 1\n.end\n",
             Status::NotPassed,
-            "h: strong failure\n",
+            "h: strong failure\n  strong: 1\n  least: p=0\n  fails: 0/n at 0\n  run:\n    a: 0\n    y: 0\n    0/n: 1\n",
         ),
         // an inner net, given
         (

@@ -15,7 +15,7 @@ fn task_files_that_are_read(rt: HostRuntime) -> Result<(), Fail> {
             INVERTER,
             ".ste w\n.con y = 0 from 0 to 21\n.end",
             Status::NotPassed,
-            "w: weak failure\n",
+            "w: weak failure\n  weak: 1\n  least:\n  fails: y at 0\n",
         ),
         // a comment, a continued line, wide blanks
         (
@@ -29,7 +29,7 @@ fn task_files_that_are_read(rt: HostRuntime) -> Result<(), Fail> {
             INVERTER,
             ".vars p\n.ste a\n.ant a = p from 0 to 1\n.con y = !p from 0 to 1\n.end\n.ste b\n.con y = p from 0 to 1\n.end\n.ste c\n.end\n",
             Status::NotPassed,
-            "a: pass\nb: weak failure\nc: pass\n",
+            "a: pass\nb: weak failure\n  weak: 1\n  least: p=0\n  fails: y at 0\nc: pass\n",
         ),
     ] {
         expect(&rt, alloc, net, tasks, status, out, "")?;
@@ -46,7 +46,7 @@ fn guards_and_first_values(rt: HostRuntime) -> Result<(), Fail> {
             INVERTER,
             ".vars p\n.ste t1\n.ant a = p from 0 to 1\n.con y = 1 when p from 0 to 1\n.end\n",
             Status::NotPassed,
-            "t1: strong failure\n",
+            "t1: strong failure\n  strong: p\n  least: p=1\n  fails: y at 0\n  run:\n    a: 1\n    y: 0\n",
         ),
         (
             INVERTER,
@@ -59,7 +59,7 @@ fn guards_and_first_values(rt: HostRuntime) -> Result<(), Fail> {
             ".model l\n.inputs d\n.outputs q\n.latch d q 1\n.end\n",
             ".ste r reset\n.con q = 1 from 0 to 1\n.end\n.ste f\n.con q = 1 from 0 to 1\n.end\n",
             Status::NotPassed,
-            "r: pass\nf: weak failure\n",
+            "r: pass\nf: weak failure\n  weak: 1\n  least:\n  fails: q at 0\n",
         ),
         // nodes that are called as words of the grammar are
         (
@@ -127,6 +127,10 @@ fn task_files_that_are_refused(rt: HostRuntime) -> Result<(), Fail> {
     Ok(())
 }
 
+/// The report of an inverter that is said to copy.
+const STRONG: &str =
+    "t1: strong failure\n  strong: 1\n  least: p=0\n  fails: y at 0\n  run:\n    a: 0\n    y: 1\n";
+
 /// A task whose consequent has so many signs `!` before `p`.
 fn turned(alloc: Global, signs: u32) -> Result<String, AllocError> {
     let mut text = String::from_str(alloc, ".vars p\n.ste t1\n.ant a = p from 0 to 1\n.con y = ")?;
@@ -141,7 +145,7 @@ fn turned(alloc: Global, signs: u32) -> Result<String, AllocError> {
 fn nesting(rt: HostRuntime) -> Result<(), Fail> {
     let alloc = rt.alloc();
     for (signs, status, out, err) in [
-        (100, Status::NotPassed, "t1: strong failure\n", ""),
+        (100, Status::NotPassed, STRONG, ""),
         (101, Status::Refused, "", "stework: t:4: too deep\n"),
     ] {
         let tasks = turned(alloc, signs)?;
@@ -206,7 +210,7 @@ fn wide_gates_and_many_variables(rt: HostRuntime) -> Result<(), Fail> {
         nine,
         fails,
         Status::NotPassed,
-        "w: weak failure\n",
+        "w: weak failure\n  weak: 1\n  least:\n  fails: y at 0\n",
         "",
     )?;
     let all =

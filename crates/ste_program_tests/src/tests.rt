@@ -76,31 +76,31 @@ fn examples_of_one_gate(rt: HostRuntime) -> Result<(), Fail> {
             INVERTER,
             ".vars p\n.ste t1\n.ant a = p from 0 to 1\n.con y = p from 0 to 1\n.end\n",
             Status::NotPassed,
-            "t1: strong failure\n",
+            "t1: strong failure\n  strong: 1\n  least: p=0\n  fails: y at 0\n  run:\n    a: 0\n    y: 1\n",
         ),
         (
             INVERTER,
             ".vars p\n.ste t1\n.con y = !p from 0 to 1\n.end\n",
             Status::NotPassed,
-            "t1: weak failure\n",
+            "t1: weak failure\n  weak: 1\n  least: p=0\n  fails: y at 0\n",
         ),
         (
             INVERTER,
             ".vars p\n.ste t1\n.ant a = p from 0 to 1\n.ant a = !p from 0 to 1\n.con y = !p from 0 to 1\n.end\n",
             Status::NotPassed,
-            "t1: contradictory antecedent\n",
+            "t1: contradictory antecedent\n  contradictory: 1\n",
         ),
         (
             INVERTER,
             ".vars p q\n.ste t1\n.ant a = p from 0 to 1\n.ant a = q from 0 to 1\n.con y = !p from 0 to 1\n.end\n",
             Status::Passed,
-            "t1: pass\n",
+            "t1: pass\n  contradictory: !p & q | p & !q\n",
         ),
         (
             INVERTER,
             ".vars p\n.ste t1\n.ant a = p from 0 to 1\n.con y = !p from 0 to 2\n.end\n",
             Status::NotPassed,
-            "t1: weak failure\n",
+            "t1: weak failure\n  weak: 1\n  least: p=0\n  fails: y at 1\n",
         ),
         (
             INVERTER,
@@ -128,7 +128,7 @@ fn examples_of_gates_and_latches(rt: HostRuntime) -> Result<(), Fail> {
             BOTH,
             ".ste g\n.con y = 0 from 0 to 1\n.end\n",
             Status::NotPassed,
-            "g: weak failure\n",
+            "g: weak failure\n  weak: 1\n  least:\n  fails: y at 0\n",
         ),
         (
             SHIFT,
@@ -140,7 +140,7 @@ fn examples_of_gates_and_latches(rt: HostRuntime) -> Result<(), Fail> {
             SHIFT,
             ".vars p\n.ste s\n.ant d = p from 0 to 1\n.con c = p from 2 to 3\n.end\n",
             Status::NotPassed,
-            "s: weak failure\n",
+            "s: weak failure\n  weak: 1\n  least: p=0\n  fails: c at 2\n",
         ),
         (
             TOGGLE,
@@ -152,13 +152,13 @@ fn examples_of_gates_and_latches(rt: HostRuntime) -> Result<(), Fail> {
             TOGGLE,
             ".vars p\n.ste f\n.ant q = p from 0 to 1\n.con q = p from 1 to 2\n.end\n",
             Status::NotPassed,
-            "f: strong failure\n",
+            "f: strong failure\n  strong: 1\n  least: p=0\n  fails: q at 1\n  run:\n    q: 01\n",
         ),
         (
             LATCH,
             ".ste l\n.con q = 1 from 0 to 1\n.end\n",
             Status::NotPassed,
-            "l: weak failure\n",
+            "l: weak failure\n  weak: 1\n  least:\n  fails: q at 0\n",
         ),
         (
             LATCH,
@@ -250,7 +250,7 @@ fn netlists_of_every_form(rt: HostRuntime) -> Result<(), Fail> {
             ".model l\n.inputs d\n.outputs q\n.latch d q 1\n.end\n",
             ".ste f\n.con q = 1 from 0 to 1\n.end\n",
             Status::NotPassed,
-            "f: weak failure\n",
+            "f: weak failure\n  weak: 1\n  least:\n  fails: q at 0\n",
         ),
     ] {
         expect(&rt, alloc, net, task, status, out, "")?;
@@ -263,15 +263,16 @@ fn set_of_output(rt: &impl Abort, alloc: Global, net: &str, given: &str) -> Resu
     let task = format!(in alloc; ".ste t\n{given}.con y = 1 from 0 to 1\n.end\n")?;
     let words = check_words(alloc)?;
     let mut files = files(alloc, net, task.as_str(), &[])?;
-    let mut output = MemorySink::new(alloc, 100, 100, Vec::new(alloc))?;
+    let mut output = MemorySink::new(alloc, 200, 100, Vec::new(alloc))?;
     let mut errors = MemorySink::new(alloc, 100, 100, Vec::new(alloc))?;
     let _ = run(alloc, &words, &mut files, &mut output, &mut errors);
     if output.bytes() == "t: pass\n".as_bytes() {
         Ok(b'1')
-    } else if output.bytes() == "t: strong failure\n".as_bytes() {
+    } else if output.bytes().starts_with("t: strong failure\n".as_bytes()) {
         Ok(b'0')
     } else {
-        assert_eq!(rt; output.bytes(), "t: weak failure\n".as_bytes());
+        let weak = "t: weak failure\n  weak: 1\n  least:\n  fails: y at 0\n";
+        assert_eq!(rt; output.bytes(), weak.as_bytes());
         Ok(b'X')
     }
 }

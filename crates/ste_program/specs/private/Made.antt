@@ -8,6 +8,7 @@ use Rattle.hierarchy.specs.Nets.{nets}
 use Rattle.hierarchy.specs.declared.fault.NetFault.{NetFault}
 use Rattle.flat_net.specs.Flat.{IsFlat}
 use Rattle.net_core.specs.Cases.{cases_of}
+use Rattle.net_core.specs.Flat.{IsInRange}
 use Rattle.net_core.specs.Run.{IsSettled}
 use Rattle.net_core.specs.declared.raw.RawNet.{RawNet}
 use Rattle.net_names.specs.Names.{AreNamesOf}
@@ -31,6 +32,7 @@ use Rattle.ste_program.specs.declared.refusal.Refusal.TheVariants as refusal
 pub record IsNetOf (models : List Model) (net : RawNet) (names : NetNames) : Type 0 where
   pub sound : IsFree (IsRefusal models)
   pub flat : IsFlat models net
+  pub in_range : IsInRange net
   pub settled : IsSettled net
   pub named : AreNamesOf models names
   pub inputs : All (λ cover. cover.inputs ≤ 1000) net.covers

@@ -1,4 +1,7 @@
-use Rattle.std.proofs.Common.{◌∙◌, ap, sym}
+use Rattle.std.proofs.Common.{ℕ, List, length, ◌∙◌, ap, sym}
+use Rattle.std.proofs.lemmas.List.{length-map}
+use Rattle.hierarchy.specs.Names.{own_name}
+use Rattle.hierarchy.specs.Nets.{nets}
 use Rattle.ste_program.specs.Check.{are_too_many}
 use Rattle.ste_program.proofs.Declared.{quints_declared}
 use Rattle.ste_program.proofs.TaskLists.{few_vars, promised, some_tasks}
@@ -37,6 +40,7 @@ invariant_of-result c =
     let checked = sym c.is_checked_so_far.ensures ∙ c.if-is_checked_so_far.true in
     let declared = quints_declared models c.args.task_text.items raw tasks c.in-Ok-tasks_of.ensures bound in
     record {
+      named = ap (λ (own : List (List ℕ)). length own) n.named.own_known ∙ length-map (nets models) own_name ∙ sym n.flat.nets;
       inputs = n.inputs;
       cases = n.cases;
       checkable = promised models raw c.in-Ok-net_of.flat.net.raw tasks n.flat bound checked declared;

@@ -11,7 +11,7 @@ returns-in-Ok-info_text c =
       record {
         models = n.0;
         net = net;
-        flattened = record { netlist = n.1; sound = n.2.sound; flat = n.2.flat; settled = n.2.settled };
+        flattened = record { netlist = n.1; sound = n.2.sound; flat = n.2.flat; in_range = n.2.in_range; settled = n.2.settled };
         written = c.into.ensures ∙ (c.in-Ok-info_text.ensures ∙ ap (λ (top : List ℕ). info_text top net) name);
       },
     )

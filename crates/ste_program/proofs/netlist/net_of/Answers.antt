@@ -2,6 +2,7 @@ use Rattle.std.proofs.Common.{◌∙◌, Err, Some, ap, inr, refl, subst, sym}
 use Rattle.std.specs.Prelude.{◌≤◌, All}
 use Rattle.flat_net.specs.Flat.{IsFlat}
 use Rattle.net_core.specs.Cases.{cases_of}
+use Rattle.net_core.specs.Flat.{IsInRange}
 use Rattle.net_core.specs.Run.{IsSettled}
 use Rattle.net_core.specs.declared.raw.RawNet.{RawNet}
 use Rattle.ste_program.proofs.Told.{loop_told, no_net}
@@ -17,6 +18,7 @@ returns-in-Ok-order c =
     record {
       sound = made.ok;
       flat = subst (λ (raw : RawNet). IsFlat c.args.models.models raw) (sym is.same) made.flat;
+      in_range = subst (λ (raw : RawNet). IsInRange raw) (sym is.same) made.in_range;
       settled = subst (λ (raw : RawNet). IsSettled raw) (sym is.same) is.settles;
       named = made.names;
       inputs = subst (λ (raw : RawNet). All (λ cover. cover.inputs ≤ 1000) raw.covers) (sym is.same) made.inputs;

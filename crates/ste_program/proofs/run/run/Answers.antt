@@ -1,8 +1,12 @@
-use Rattle.ste_program.proofs.Ends.{decided_of, passes_hold, sinks_later, told_wanting}
+use Rattle.ste_program.proofs.Broken.{passes_hold, runs_break}
+use Rattle.ste_program.proofs.Ends.{decided_of, sinks_later, told_wanting}
 use Rattle.ste_program.proofs.run.run.Goals as goal
 
 pub returns-in-Ok-clause-pass_holds : goal.returns-in-Ok-clause-pass_holds
 returns-in-Ok-clause-pass_holds g c = passes_hold _ _
+
+pub returns-in-Ok-clause-runs_break : goal.returns-in-Ok-clause-runs_break
+returns-in-Ok-clause-runs_break g c = runs_break _ _
 
 pub returns-in-Ok-clause-later : goal.returns-in-Ok-clause-later
 returns-in-Ok-clause-later g c =
@@ -17,6 +21,9 @@ returns-in-Ok-clause-decided g c = λ none.
 
 pub returns-in-Err-clause-pass_holds : goal.returns-in-Err-clause-pass_holds
 returns-in-Err-clause-pass_holds g c = passes_hold _ _
+
+pub returns-in-Err-clause-runs_break : goal.returns-in-Err-clause-runs_break
+returns-in-Err-clause-runs_break g c = runs_break _ _
 
 pub returns-in-Err-clause-no_memory : goal.returns-in-Err-clause-no_memory
 returns-in-Err-clause-no_memory g c = λ e. told_wanting _ _ _ c.tell.result c.tell.ensures e

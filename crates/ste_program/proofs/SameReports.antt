@@ -1,0 +1,249 @@
+-- Flat nets of one hierarchy and tasks that say the same have the same reports.
+use Rattle.std.proofs.Common.{◌≡◌, ◌<◌, ◌≤◌, ℕ, zero, suc, Bool, List, [], ◌∷◌, ◌++◌, length, map, Option, None, refl, ap, sym, ◌∙◌, subst, inl, inr, arith}
+use Rattle.std.specs.Prelude.{◌⊎◌, ◌||◌, ◌↔◌, All, Any, if◌then◌else◌, codes, nat_eq, slice_get, zip, Some}
+use Rattle.std.specs.List.{AllZip, enumerate_from, flat_map, list_all, list_any}
+use Rattle.std.proofs.lemmas.List.Elements.{All-cons}
+use Rattle.ste_base.specs.declared.id.NodeId.{NodeId}
+use Rattle.blif_syntax.specs.declared.models.Model.{Model}
+use Rattle.net_core.specs.declared.bit_set.BitSet.{BitSet}
+use Rattle.net_core.specs.declared.raw.Latch.{Latch}
+use Rattle.net_core.specs.declared.raw.RawNet.{RawNet}
+use Rattle.net_core.specs.Flat.{IsInRange}
+use Rattle.net_core.specs.Run.{Cut, IsSettled, IsUndriven, MayStart}
+use Rattle.flat_net.specs.Flat.{IsFlat}
+use Rattle.ste_model.specs.declared.cubes.CubeList.{CubeList}
+use Rattle.ste_model.specs.declared.report.Report.{Report}
+use Rattle.ste_model.specs.declared.run.Run.{Run}
+use Rattle.ste_model.specs.declared.task.Assertion.{Assertion}
+use Rattle.ste_model.specs.declared.task.Quint.{Quint}
+use Rattle.ste_model.specs.declared.task.Task.{Task}
+use Rattle.ste_model.specs.declared.task.Task.TheVariants.{Ste, Gste}
+use Rattle.ste_model.specs.declared.task.Tasks.{Tasks}
+use Rattle.ste_model.specs.declared.verdict.Verdict.{Verdict}
+use Rattle.ste_model.specs.declared.verdict.Verdict.TheVariants.{Budget, Strong, Weak}
+use Rattle.ste_model.specs.Asked.{cuts_at, depth}
+use Rattle.ste_model.specs.Cubes.{AssignmentSet}
+use Rattle.ste_model.specs.Found.{FailsStrongly, FailsWeakly, IsContradictory, IsStrong, IsVerdictOf, IsWeak}
+use Rattle.ste_model.specs.Holds.{IsTaskRun}
+use Rattle.ste_model.specs.Least.{IsLeast}
+use Rattle.ste_model.specs.Report.{AreCubes, IsDue, IsFailingPlace, IsPrintedUnder, IsReportOf, IsShown, Prints, Shows, budget_report}
+use Rattle.ste_model.specs.Runs.{HasRows, run_of}
+use Rattle.ste_model.specs.Shown.{IsBindable, IsFilled, IsFirst, IsLatchOutput, IsPrinted, IsQuintBindable}
+use Rattle.ste_model.specs.Trees.{QuintTree, quint_tree, task_tree}
+use Rattle.ste_model.proofs.Reports.{one_report_of}
+use Rattle.report_text.specs.Text.{fails_line, guards_text, least_line, names_net, net_line, path_line, report_text, run_text, task_text, verdict_words}
+use Rattle.ste_program.specs.Check.{IsReportOn, IsToldOf, is_pass}
+use Rattle.ste_program.specs.Report.{Agree}
+use Rattle.ste_program.proofs.SameInputs.{run_moved, undriven_moved}
+use Rattle.ste_program.proofs.SameNets.{AreSame, flats_same}
+use Rattle.ste_program.proofs.SameVerdicts.{SaysSame, back_says, of_contradictory, of_table, says_same, strong_moved, verdict_moved, weak_moved}
+
+-- ---- what is told, moved to a net that is the same and an assertion that says the same
+
+cubes_moved : (max vars : ℕ) (P Q : List Bool → Type 0) (list : CubeList) → ((bits : List Bool) → P bits → Q bits) → ((bits : List Bool) → Q bits → P bits) → AreCubes max vars P list → AreCubes max vars Q list
+cubes_moved max vars P Q list to from h = (h.0, (λ bits l. let both = h.1 bits l in ((λ one. to bits (both.0 one)), (λ q. both.1 (from bits q)))), h.2)
+
+least_moved : (vars : ℕ) (P Q : List Bool → Type 0) (bits : List Bool) → ((bits : List Bool) → P bits → Q bits) → ((bits : List Bool) → Q bits → P bits) → IsLeast vars P bits → IsLeast vars Q bits
+least_moved vars P Q bits to from h = record { long = h.long; has = to bits h.has; least = λ other l q. h.least other l (from other q) }
+
+bindable_moved : (net other : RawNet) → AreSame net other → (ones twins : List Quint) → map quint_tree ones ≡ map quint_tree twins → All (IsQuintBindable net) ones → All (IsQuintBindable other) twins
+bindable_moved net other same [] [] e all = λ k d l. absurd (omega (arith, l))
+bindable_moved net other same [] (q ∷ twins) e all = absurd (cc e)
+bindable_moved net other same (p ∷ ones) [] e all = absurd (cc e)
+bindable_moved net other same (p ∷ ones) (q ∷ twins) e all =
+    let first : quint_tree p ≡ quint_tree q = cc e in
+    let rest : map quint_tree ones ≡ map quint_tree twins = cc e in
+    All-cons (IsQuintBindable other) q twins
+    (one (ap (λ (t : QuintTree). t.node) first) (ap (λ (t : QuintTree). t.to) first) (all 0 p (omega arith)))
+    (bindable_moved net other same ones twins rest (λ j d m. all (suc j) d (omega (arith, m))))
+  where
+    one : p.node.0 ≡ q.node.0 → p.to ≡ q.to → IsQuintBindable net p → IsQuintBindable other q
+    one node to (inl free) = inl (undriven_moved net other q.node.0 same (subst (λ (id : ℕ). IsUndriven net id) node free))
+    one node to (inr latch) = inr (
+      subst (λ (latches : List Latch). Any (λ (l : Latch). l.output.0 ≡ q.node.0) latches) same.latches (subst (λ (id : ℕ). IsLatchOutput net id) node latch.0),
+      subst (λ (n : ℕ). n ≤ 1) to latch.1,
+    )
+
+module _ (net other : RawNet) (one twin : Assertion) (same : AreSame net other) (back : AreSame other net) (says : SaysSame one twin) where
+  place_moved : (Fails : (ℕ → BitSet) → Cut → Type 0) (bits : List Bool) (place : NodeId × ℕ) → IsFailingPlace Fails net one bits place → IsFailingPlace Fails other twin bits place
+  place_moved Fails bits place h = record {
+    table = h.table;
+    possible = of_table net other one twin same back says bits h.table h.possible;
+    within = subst (λ (n : ℕ). place.1 < n) says.deep h.within;
+    number = h.number;
+    cut = h.cut;
+    here = subst (λ (cuts : List Cut). slice_get cuts h.number ≡ Some h.cut) (says.asked bits place.1) h.here;
+    fails = h.fails;
+    node = h.node;
+    first = subst (λ (cuts : List Cut). (j : ℕ) (c : Cut) → j < h.number → slice_get cuts j ≡ Some c → ¬ Fails (h.table place.1) c) (says.asked bits place.1) h.first;
+    earliest = λ t l. subst (λ (cuts : List Cut). ¬ Any (Fails (h.table t)) cuts) (says.asked bits t) (h.earliest t l);
+  }
+
+  printed_moved : (bits : List Bool) (run : ℕ → ℕ → Bool) → IsPrinted net one bits run → IsPrinted other twin bits run
+  printed_moved bits run h = record {
+    is_run = subst (λ (n : ℕ). IsTaskRun other twin.reset n run) says.deep (subst (λ reset. IsTaskRun other reset (depth one) run) says.reset (record {
+      is_run = run_moved net other (depth one) run same h.is_run.is_run;
+      starts = λ l. subst (λ (latches : List Latch). All (λ (latch : Latch). MayStart one.reset latch (run 0 latch.output.0)) latches) same.latches (h.is_run.starts l);
+    }));
+    sources = λ t id l m none. subst (λ (cuts : List Cut). IsFilled cuts id (run t id)) (says.given bits t)
+        (h.sources t id (subst (λ (n : ℕ). t < n) (sym says.deep) l) (subst (λ (n : ℕ). id < n) (sym same.nets) m) (undriven_moved other net id back none));
+    starts = λ l. subst (λ reset. All (λ (latch : Latch). IsFirst reset latch (cuts_at twin.ant bits 0) (run 0 latch.output.0)) other.latches) says.reset
+        (subst (λ (cuts : List Cut). All (λ (latch : Latch). IsFirst one.reset latch cuts (run 0 latch.output.0)) other.latches) (says.given bits 0)
+        (subst (λ (latches : List Latch). All (λ (latch : Latch). IsFirst one.reset latch (cuts_at one.ant bits 0) (run 0 latch.output.0)) latches) same.latches (h.starts (subst (λ (n : ℕ). 0 < n) (sym says.deep) l))));
+  }
+
+  due_moved : (verdict : Verdict) → IsDue net one verdict → IsDue other twin verdict
+  due_moved verdict h = (h.0, bindable_moved net other same one.ant twin.ant says.ants h.1)
+
+  under_moved : (report : Report) → IsPrintedUnder net one report.least report.run → IsPrintedUnder other twin report.least report.run
+  under_moved report h = record {
+    bits = h.bits;
+    least_is = h.least_is;
+    told = h.told;
+    run_is = h.run_is;
+    rows = subst (λ (n : ℕ). HasRows other.nets n h.told) says.deep (subst (λ (n : ℕ). HasRows n (depth one) h.told) same.nets h.rows);
+    printed = printed_moved h.bits (run_of h.told) h.printed;
+  }
+
+module _ (net other : RawNet) (one twin : Assertion) (same : AreSame net other) (back : AreSame other net) (says : SaysSame one twin) where
+  prints_moved : (report : Report) → Prints net one report.verdict report.least report.run → Prints other twin report.verdict report.least report.run
+  prints_moved report (inl h) = inl (due_moved net other one twin same back says report.verdict h.0, under_moved net other one twin same back says report h.1)
+  prints_moved report (inr h) = inr ((λ due. h.0 (due_moved other net twin one back same (back_says one twin says) report.verdict due)), h.1)
+
+  strong_to : (bits : List Bool) → IsStrong net one bits → IsStrong other twin bits
+  strong_to = strong_moved net other one twin same back says
+
+  strong_from : (bits : List Bool) → IsStrong other twin bits → IsStrong net one bits
+  strong_from = strong_moved other net twin one back same (back_says one twin says)
+
+  weak_to : (bits : List Bool) → IsWeak net one bits → IsWeak other twin bits
+  weak_to = weak_moved net other one twin same back says
+
+  weak_from : (bits : List Bool) → IsWeak other twin bits → IsWeak net one bits
+  weak_from = weak_moved other net twin one back same (back_says one twin says)
+
+  shown_moved : (vars : ℕ) (P Q : List Bool → Type 0) (Fails : (ℕ → BitSet) → Cut → Type 0) (report : Report) → ((bits : List Bool) → P bits → Q bits) → ((bits : List Bool) → Q bits → P bits) →
+      IsShown P Fails net vars one report.least report.fails → IsShown Q Fails other vars twin report.least report.fails
+  shown_moved vars P Q Fails report to from h = record {
+    bits = h.bits;
+    least_is = h.least_is;
+    is_least = least_moved vars P Q h.bits to from h.is_least;
+    place = h.place;
+    fails_is = h.fails_is;
+    is_place = place_moved net other one twin same back says Fails h.bits h.place h.is_place;
+  }
+
+  shows_moved : (vars : ℕ) (report : Report) → Shows net vars one report.verdict report.least report.fails → Shows other vars twin report.verdict report.least report.fails
+  shows_moved vars report (inl h) = inl (h.0, shown_moved vars (IsStrong net one) (IsStrong other twin) FailsStrongly report strong_to strong_from h.1)
+  shows_moved vars report (inr (inl h)) = inr (inl (h.0, shown_moved vars (IsWeak net one) (IsWeak other twin) FailsWeakly report weak_to weak_from h.1))
+  shows_moved vars report (inr (inr h)) = inr (inr h)
+
+  report_moved : (vars cubes : ℕ) (report : Report) → IsReportOf net vars cubes one report → IsReportOf other vars cubes twin report
+  report_moved vars cubes report h = record {
+    named = h.named ∙ says.name;
+    judged = verdict_moved net other vars one twin report.verdict same back says h.judged;
+    strong = cubes_moved cubes vars (IsStrong net one) (IsStrong other twin) report.guards.strong strong_to strong_from h.strong;
+    weak = cubes_moved cubes vars (IsWeak net one) (IsWeak other twin) report.guards.weak weak_to weak_from h.weak;
+    contradictory = cubes_moved cubes vars (IsContradictory net one) (IsContradictory other twin) report.guards.contradictory
+        (of_contradictory net other one twin same back says) (of_contradictory other net twin one back same (back_says one twin says)) h.contradictory;
+    shown = shows_moved vars report h.shown;
+    path = h.path;
+    run = prints_moved report h.run;
+  }
+
+-- ---- what is told agrees
+
+-- the verdict of a report
+abbrev verdict_in : Report → Verdict
+verdict_in report = report.verdict
+
+module _ (net other : RawNet) (vars cubes m n : ℕ) (t u : Assertion) (same : AreSame net other) (back : AreSame other net) (range : IsInRange other) (settled : IsSettled other) (says : SaysSame t u) where
+  told_agree : (r q : Report) → IsToldOf net vars m cubes (Ste t) r → IsToldOf other vars n cubes (Ste u) q → Agree r q
+  told_agree r q (inr f) g = inr (inl (ap verdict_in f.0))
+  told_agree r q (inl f) (inr g) = inr (inr (ap verdict_in g.0))
+  told_agree r q (inl f) (inl g) = inl (one_report_of other range settled vars cubes u r q (report_moved net other t u same back says vars cubes r f) g)
+
+  no_verdict : (verdict : Verdict) → verdict ≡ Budget → IsVerdictOf other vars u verdict → ⊥
+  no_verdict verdict e h = subst (λ (v : Verdict). IsVerdictOf other vars u v) e h
+
+  -- with one verdict they are one
+  told_same : (r q : Report) → r.verdict ≡ q.verdict → IsToldOf net vars m cubes (Ste t) r → IsToldOf other vars n cubes (Ste u) q → r ≡ q
+  told_same r q e (inl f) (inl g) = one_report_of other range settled vars cubes u r q (report_moved net other t u same back says vars cubes r f) g
+  told_same r q e (inl f) (inr g) = absurd (no_verdict r.verdict (e ∙ ap verdict_in g.0) (report_moved net other t u same back says vars cubes r f).judged)
+  told_same r q e (inr f) (inl g) = absurd (no_verdict q.verdict (sym e ∙ ap verdict_in f.0) g.judged)
+  told_same r q e (inr f) (inr g) = f.0 ∙ ap budget_report says.name ∙ sym g.0
+
+-- tasks that say the same name the same nets
+nodes_alike : (id : ℕ) (ones twins : List Quint) → map quint_tree ones ≡ map quint_tree twins → list_any (λ (quint : Quint). nat_eq quint.node.0 id) ones ≡ list_any (λ (quint : Quint). nat_eq quint.node.0 id) twins
+nodes_alike id [] [] e = refl
+nodes_alike id [] (q ∷ twins) e = absurd (cc e)
+nodes_alike id (p ∷ ones) [] e = absurd (cc e)
+nodes_alike id (p ∷ ones) (q ∷ twins) e =
+    let first : quint_tree p ≡ quint_tree q = cc e in
+    let rest : map quint_tree ones ≡ map quint_tree twins = cc e in
+    ap (λ (n : ℕ). nat_eq n id || list_any (λ (quint : Quint). nat_eq quint.node.0 id) ones) (ap (λ (t : QuintTree). t.node) first)
+    ∙ ap (λ b. nat_eq q.node.0 id || b) (nodes_alike id ones twins rest)
+
+named_alike : (t u : Assertion) → SaysSame t u → names_net (Ste t) ≡ names_net (Ste u)
+named_alike t u says = λ i id. (
+    ap (λ b. b || list_any (λ (quint : Quint). nat_eq quint.node.0 id) t.con) (nodes_alike id t.ant u.ant says.ants)
+    ∙ ap (λ b. list_any (λ (quint : Quint). nat_eq quint.node.0 id) u.ant || b) (nodes_alike id t.con u.con says.cons)) i
+
+run_alike : (names : List (List ℕ)) (wave : Bool) (t u : Assertion) (run : Option Run) → SaysSame t u → run_text names wave (Ste t) run ≡ run_text names wave (Ste u) run
+run_alike names wave t u None says = refl
+run_alike names wave t u (Some run) says =
+    ap (λ (mark : ℕ → Bool). codes "  run:\n" ++ flat_map (λ (at : ℕ × (List ℕ × List Bool)). if wave || mark at.0 then net_line at.1 else []) (enumerate_from 0 (zip names run.rows))) (named_alike t u says)
+
+text_alike : (names vars : List (List ℕ)) (wave : Bool) (t u : Assertion) (r : Report) → SaysSame t u → task_text names vars wave (Ste t, r) ≡ task_text names vars wave (Ste u, r)
+text_alike names vars wave t u r says =
+    ap (λ (text : List ℕ). r.name ++ codes ": " ++ verdict_words r.verdict ++ codes "\n" ++ guards_text vars r.guards ++ least_line vars r.least ++ path_line r.path ++ fails_line names r.fails ++ text)
+    (run_alike names wave t u r.run says)
+
+reports_alike : (net other : RawNet) (names : List (List ℕ)) (vars : List (List ℕ)) (wave : Bool) (cubes m n : ℕ) → AreSame net other → AreSame other net → IsInRange other → IsSettled other →
+    (tasks twins : List Task) (reports others : List Report) → map task_tree tasks ≡ map task_tree twins →
+    AllZip (IsToldOf net (length vars) m cubes) tasks reports → AllZip (IsToldOf other (length vars) n cubes) twins others →
+    AllZip Agree reports others
+    × (map verdict_in reports ≡ map verdict_in others → (reports ≡ others) × (flat_map (task_text names vars wave) (zip tasks reports) ≡ flat_map (task_text names vars wave) (zip twins others)))
+reports_alike net other names vars wave cubes m n same back range settled [] [] [] [] e f g = (tt, (λ v. (refl, refl)))
+reports_alike net other names vars wave cubes m n same back range settled [] [] [] (q ∷ others) e f g = absurd g
+reports_alike net other names vars wave cubes m n same back range settled [] [] (r ∷ reports) others e f g = absurd f
+reports_alike net other names vars wave cubes m n same back range settled [] (u ∷ twins) reports others e f g = absurd (cc e)
+reports_alike net other names vars wave cubes m n same back range settled (t ∷ tasks) [] reports others e f g = absurd (cc e)
+reports_alike net other names vars wave cubes m n same back range settled (t ∷ tasks) (u ∷ twins) [] others e f g = absurd f
+reports_alike net other names vars wave cubes m n same back range settled (t ∷ tasks) (u ∷ twins) (r ∷ reports) [] e f g = absurd g
+reports_alike net other names vars wave cubes m n same back range settled (Gste t ∷ tasks) (u ∷ twins) (r ∷ reports) (q ∷ others) e f g = absurd f.0
+reports_alike net other names vars wave cubes m n same back range settled (Ste t ∷ tasks) (Gste u ∷ twins) (r ∷ reports) (q ∷ others) e f g = absurd g.0
+reports_alike net other names vars wave cubes m n same back range settled (Ste t ∷ tasks) (Ste u ∷ twins) (r ∷ reports) (q ∷ others) e f g =
+    let first : task_tree (Ste t) ≡ task_tree (Ste u) = cc e in
+    let trees : map task_tree tasks ≡ map task_tree twins = cc e in
+    let says = says_same t u first in
+    let rest = reports_alike net other names vars wave cubes m n same back range settled tasks twins reports others trees f.1 g.1 in (
+      (told_agree net other (length vars) cubes m n t u same back range settled says r q f.0 g.0, rest.0),
+      (λ v.
+          let here : r.verdict ≡ q.verdict = cc v in
+          let later : map verdict_in reports ≡ map verdict_in others = cc v in
+          let one : r ≡ q = told_same net other (length vars) cubes m n t u same back range settled says r q here f.0 g.0 in
+          let more = rest.1 later in (
+            ap (λ (x : Report). x ∷ reports) one ∙ ap (λ (xs : List Report). q ∷ xs) more.0,
+            ap (λ (x : List ℕ). x ++ flat_map (task_text names vars wave) (zip tasks reports)) (text_alike names vars wave t u r says ∙ ap (λ (x : Report). task_text names vars wave (Ste u, x)) one)
+                ∙ ap (λ (x : List ℕ). task_text names vars wave (Ste u, q) ++ x) more.1,
+          )),
+    )
+
+-- two reports on tasks that say the same
+pub reports_agree : (models : List Model) (net other : RawNet) (ones twos : List (List ℕ)) (m n cubes : ℕ) (wave : Bool) (tasks twins : Tasks) (passes others : Bool) (bytes others_bytes : List ℕ) → IsFlat models net → IsFlat models other → IsInRange other → IsSettled other →
+    ones ≡ twos → tasks.vars ≡ twins.vars → map task_tree tasks.tasks ≡ map task_tree twins.tasks →
+    (one : IsReportOn ones net m cubes wave tasks passes bytes) (two : IsReportOn twos other n cubes wave twins others others_bytes) →
+    AllZip Agree one.reports two.reports × (map verdict_in one.reports ≡ map verdict_in two.reports → (passes ≡ others) × (bytes ≡ others_bytes))
+reports_agree models net other ones twos m n cubes wave tasks twins passes others bytes others_bytes f g range settled names vars trees one two =
+    let told = subst (λ (vs : List (List ℕ)). AllZip (IsToldOf net (length vs) m cubes) tasks.tasks one.reports) vars one.told in
+    let alike = reports_alike net other twos twins.vars wave cubes m n (flats_same models net other f g) (flats_same models other net g f) range settled tasks.tasks twins.tasks one.reports two.reports trees told two.told in (
+      alike.0,
+      (λ v. let same = alike.1 v in (
+        one.passing ∙ (ap (list_all (λ (report : Report). is_pass report.verdict)) same.0 ∙ sym two.passing),
+        one.written
+            ∙ (ap (λ (ns : List (List ℕ)). report_text ns tasks.vars wave None tasks.tasks one.reports) names
+            ∙ (ap (λ (vs : List (List ℕ)). report_text twos vs wave None tasks.tasks one.reports) vars
+            ∙ (ap (λ (x : List ℕ). x ++ []) same.1 ∙ sym two.written))),
+      )),
+    )
