@@ -1,7 +1,6 @@
 -- Two lists side by side, from a place on.
-use Rattle.std.proofs.Common.{◌≡◌, ◌≤◌, ◌<◌, ℕ, zero, suc, ◌+◌, ◌∙◌, List, [], ◌∷◌, ◌++◌, length, drop, get_or, refl, ap, sym, arith, append-nil}
-use Rattle.std.specs.Prelude.{flat_map, zip}
-use Rattle.std.proofs.lemmas.List.{drop_more}
+use Rattle.std.proofs.Common.{◌≡◌, ◌≤◌, ℕ, zero, suc, ◌∙◌, List, [], ◌∷◌, ◌++◌, length, drop, refl, ap, sym, arith, append-nil}
+use Rattle.std.specs.Prelude.{zip}
 
 -- a list beside nothing
 pub beside_nothing : {X Y : Type 0} → (xs : List X) → zip {K = X} {X = Y} xs [] ≡ []

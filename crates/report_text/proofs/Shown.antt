@@ -1,6 +1,6 @@
 -- The lines of a run: that marks show what a task names.
-use Rattle.std.proofs.Common.{◌≡◌, ◌≤◌, ◌<◌, ℕ, ◌+◌, ◌∙◌, Bool, false, if◌then◌else◌, List, [], ◌∷◌, ◌++◌, length, get_or, refl, ap, sym, arith, append_assoc}
-use Rattle.std.specs.Prelude.{codes, flat_map, zip}
+use Rattle.std.proofs.Common.{◌≡◌, ◌<◌, ℕ, ◌+◌, ◌∙◌, Bool, false, if◌then◌else◌, List, [], ◌∷◌, ◌++◌, length, get_or, refl, ap, arith, append_assoc}
+use Rattle.std.specs.Prelude.{flat_map, zip}
 use Rattle.std.specs.List.{enumerate_from}
 use Rattle.ste_model.specs.declared.task.Task.{Task}
 use Rattle.report_text.specs.Text.{is_shown, net_line, row_line}

@@ -39,6 +39,23 @@ fn binds_of(alloc: Global, ids: &[u32]) -> Result<Items<Bind>, AllocError> {
     Ok(binds)
 }
 
+/// Edges with bindings that name these nets.
+fn edges_of(
+    alloc: Global,
+    sides: &[(&'static [u32], &'static [u32])],
+) -> Result<Items<Edge>, AllocError> {
+    let mut edges = Items::new(alloc);
+    for (ant, con) in sides {
+        edges.push(Edge {
+            from: 0,
+            to: 0,
+            ant: binds_of(alloc, *ant)?,
+            con: binds_of(alloc, *con)?,
+        })?;
+    }
+    Ok(edges)
+}
+
 /// A task that names these nets.
 fn task_of(alloc: Global, told: &Told) -> Result<Task, AllocError> {
     let name = Name::from_bytes(alloc, told.name.as_bytes())?;
@@ -49,23 +66,12 @@ fn task_of(alloc: Global, told: &Told) -> Result<Task, AllocError> {
             ant: quints_of(alloc, ant)?,
             con: quints_of(alloc, con)?,
         })),
-        Named::Gste(sides) => {
-            let mut edges = Items::new(alloc);
-            for (ant, con) in sides {
-                edges.push(Edge {
-                    from: 0,
-                    to: 0,
-                    ant: binds_of(alloc, *ant)?,
-                    con: binds_of(alloc, *con)?,
-                })?;
-            }
-            Ok(Task::Gste(Graph {
-                name,
-                reset: false,
-                vertices: Items::new(alloc),
-                edges,
-            }))
-        }
+        Named::Gste(sides) => Ok(Task::Gste(Graph {
+            name,
+            reset: false,
+            vertices: Items::new(alloc),
+            edges: edges_of(alloc, sides)?,
+        })),
     }
 }
 
@@ -102,10 +108,12 @@ fn bits_of(alloc: Global, text: &str) -> Result<Items<bool>, AllocError> {
 /// The cube of a text.
 fn cube_of(alloc: Global, text: &str) -> Result<Cube, AllocError> {
     let mut cube = Items::new(alloc);
-    for (place, byte) in text.as_bytes().iter().enumerate() {
+    let mut var = 0u32;
+    for byte in text.as_bytes() {
         if *byte != b'-' {
-            cube.push((VarId(place as u32), *byte == b'1'))?;
+            cube.push((VarId(var), *byte == b'1'))?;
         }
+        var = var.wrapping_add(1);
     }
     Ok(cube)
 }
