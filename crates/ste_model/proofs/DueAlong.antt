@@ -1,5 +1,5 @@
 -- A run that is due along a path meets the antecedents and breaks the consequents.
-use Rattle.std.proofs.Common.{◌≡◌, ℕ, ◌<◌, zero, suc, Bool, true, false, not, List, [], ◌∷◌, length, get_or, arith, sym, refl, subst, ◌∙◌}
+use Rattle.std.proofs.Common.{◌≡◌, ℕ, ◌<◌, zero, suc, Bool, true, false, not, List, [], ◌∷◌, length, get_or, sym, refl, subst, ◌∙◌}
 use Rattle.std.specs.Prelude.{All, Contains, IsTrue, Some, slice_get}
 use Rattle.std.proofs.lemmas.List.Elements.{All-contains, All-map}
 use Rattle.net_core.specs.declared.bit_set.BitSet.{BitSet}

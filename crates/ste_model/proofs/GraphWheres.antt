@@ -1,6 +1,6 @@
 -- The functions of the results tell the findings of a graph, assignment by assignment.
 use Rattle.std.proofs.Common.{◌≡◌, ℕ, ◌<◌, Bool, true, false, not, List, map, length, get_or, refl, subst, ◌∙◌}
-use Rattle.std.specs.Prelude.{All, Any, Contains, IsTrue, ◌↔◌, ◌&&◌}
+use Rattle.std.specs.Prelude.{All, Any, Contains, IsTrue, ◌↔◌}
 use Rattle.std.specs.List.{flat_map}
 use Rattle.std.proofs.lemmas.Bool.{and_from, and_parts, both_ways, not-true, not_from_false}
 use Rattle.std.proofs.lemmas.List.{get_or_default}
@@ -8,13 +8,13 @@ use Rattle.std.proofs.lemmas.List.Elements.{All-contains}
 use Rattle.net_core.specs.declared.bit_set.BitSet.{BitSet}
 use Rattle.net_core.specs.declared.raw.RawNet.{RawNet}
 use Rattle.net_core.specs.Possible.{ArePossible}
-use Rattle.net_core.specs.Run.{Cut, IsSettled}
+use Rattle.net_core.specs.Run.{IsSettled}
 use Rattle.net_core.specs.Sets.{both, only}
 use Rattle.net_core.specs.Work.{Function, SymbolicCut, SymbolicSet, conjunction, negation, set_at, some_empty, sum}
 use Rattle.net_core.proofs.Possible.{one_family}
 use Rattle.ste_model.specs.declared.task.Edge.{Edge}
 use Rattle.ste_model.specs.declared.task.Graph.{Graph}
-use Rattle.ste_model.specs.Edges.{IsGraph, asked_on, bind_cuts}
+use Rattle.ste_model.specs.Edges.{IsGraph, asked_on}
 use Rattle.ste_model.specs.GraphFound.{FailsOn, IsGraphContradictory, IsGraphFound, IsGraphStrong, IsGraphWeak}
 use Rattle.ste_model.specs.GraphNeed.{AreWholeRounds, GraphResultsAreFindings}
 use Rattle.ste_model.specs.GraphTable.{IsFeasible, IsLeastClosed, VertexState, enough}

@@ -1,5 +1,5 @@
 -- Whence a vertex is reached: what is found of a graph has a candidate path.
-use Rattle.std.proofs.Common.{◌≡◌, ℕ, ◌<◌, zero, suc, Bool, true, false, List, [], ◌∷◌, ◌++◌, length, get_or, arith, sym, ap, refl, subst, inl, inr, ◌∙◌}
+use Rattle.std.proofs.Common.{◌≡◌, ℕ, ◌<◌, zero, suc, Bool, List, [], ◌∷◌, ◌++◌, length, get_or, arith, sym, ap, refl, inl, inr, ◌∙◌}
 use Rattle.std.specs.Prelude.{All, Any, Contains, IsTrue, ◌⊎◌, Some, slice_get}
 use Rattle.std.proofs.lemmas.List.Elements.{All-nil, All-push}
 use Rattle.net_core.specs.declared.bit_set.BitSet.{BitSet}
@@ -10,7 +10,7 @@ use Rattle.ste_model.specs.declared.task.Graph.{Graph}
 use Rattle.ste_model.specs.Edges.{AreNumbers, IsGraph, IsPathFrom}
 use Rattle.ste_model.specs.Found.{FailsStrongly, FailsWeakly}
 use Rattle.ste_model.specs.GraphFound.{FailsOn, IsGraphFound}
-use Rattle.ste_model.specs.GraphShown.{FoundHasCandidate, HasCandidate, IsCandidate}
+use Rattle.ste_model.specs.GraphShown.{FoundHasCandidate, HasCandidate}
 use Rattle.ste_model.specs.GraphTable.{AreRounds, IsClosed, IsFeasible, IsNext, VertexState, enough}
 use Rattle.ste_model.proofs.NextRound.{arrive, begin, next_from, next_is, some_rounds}
 use Rattle.ste_model.proofs.Rounds.{below, feasible_grows, nothing, settle_all}

@@ -1,5 +1,5 @@
 -- Sums of functions at one assignment: over parts of a list, over the sets of all nets, and over consequents.
-use Rattle.std.proofs.Common.{◌≡◌, ℕ, ◌<◌, zero, suc, Bool, true, false, not, List, [], ◌∷◌, ◌++◌, map, length, get_or, arith, sym, ap, refl, subst, ◌∙◌, inl, inr}
+use Rattle.std.proofs.Common.{◌≡◌, ℕ, ◌<◌, zero, suc, Bool, true, false, not, List, [], ◌∷◌, ◌++◌, map, arith, sym, ap, refl, subst, ◌∙◌, inl, inr}
 use Rattle.std.specs.Prelude.{Any, IsTrue, ◌↔◌, ◌⊎◌, ◌&&◌, ◌||◌}
 use Rattle.std.specs.List.{flat_map}
 use Rattle.std.proofs.lemmas.Bool.{and_from, and_parts, cases_lt, or_cases, or_left, or_right}
@@ -13,7 +13,7 @@ use Rattle.net_core.proofs.GateSets.{sum_cons}
 use Rattle.bool_expr.specs.Value.{value_of}
 use Rattle.ste_model.specs.declared.task.Bind.{Bind}
 use Rattle.ste_model.specs.Edges.{bind_at, bind_cuts}
-use Rattle.ste_model.specs.GraphWork.{symbolic_bind, symbolic_binds}
+use Rattle.ste_model.specs.GraphWork.{symbolic_binds}
 
 -- ---- lists
 

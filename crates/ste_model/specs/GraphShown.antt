@@ -3,7 +3,6 @@
 use Rattle.std.specs.Prelude.{◌≡◌, ◌≢◌, ℕ, suc, ◌<◌, ◌≤◌, Bool, List, length, All, Some, slice_get}
 use Rattle.std.specs.declared.cmp.Ordering.TheVariants.{Greater}
 use Rattle.std.specs.Cmp.Lexicographic.{slice_cmp}
-use Rattle.std.specs.List.{AllZip}
 use Rattle.std.specs.Ordering.{nat_cmp}
 use Rattle.net_core.specs.declared.bit_set.BitSet.{BitSet}
 use Rattle.net_core.specs.declared.raw.RawNet.{RawNet}

@@ -1,7 +1,7 @@
 -- Meaning, and laws. The tables of an assertion graph under one assignment: for each vertex whether it is reached, and a set
 -- of bits for each latch. The closed ones, the least of them, and the rounds that come to it. Source: Yang and Seger; that
 -- an edge is left out where some net has no bit is a choice of this project.
-use Rattle.std.specs.Prelude.{◌≡◌, ℕ, suc, ◌<◌, ◌+◌, ◌*◌, Bool, false, List, length, All, IsTrue}
+use Rattle.std.specs.Prelude.{◌≡◌, ℕ, suc, ◌+◌, ◌*◌, Bool, false, List, length, All, IsTrue}
 use Rattle.std.specs.List.{AllZip}
 use Rattle.net_core.specs.declared.bit_set.BitSet.{BitSet}
 use Rattle.net_core.specs.declared.raw.RawNet.{RawNet}
