@@ -21,7 +21,7 @@ use Rattle.plain_check.specs.declared.found.Failure.TheVariants as failure
 use Rattle.plain_check.specs.private.Outcome.{table_of, is_empty, has_empty, fails, fails_cut, fails_at}
 use Rattle.plain_check.specs.private.Sets.{set_at}
 
-empty_is : (set : BitSet) → IsTrue (is_empty set) ↔ (set ≡ neither)
+pub empty_is : (set : BitSet) → IsTrue (is_empty set) ↔ (set ≡ neither)
 empty_is set = (
   λ h. let parts = and_parts (not set.zero) (not set.one) h in same_fields set.zero false set.one false (not-true set.zero parts.0) (not-true set.one parts.1),
   λ e. rw e refl,

@@ -2,3 +2,4 @@
 pub mod Choices
 pub mod Sets
 pub mod Outcome
+pub mod States

@@ -50,7 +50,7 @@ pub enum Failure {
 }
 
 /// Whether some set of a row has no bit.
-fn row_has_empty(row: &[BitSet]) -> bool
+pub fn row_has_empty(row: &[BitSet]) -> bool
     ensures { result ≡ list_any is_empty row.now }
 {
     row.iter().any(|set| !set.zero && !set.one)

@@ -5,6 +5,7 @@ pub mod checker;
 mod choices;
 mod found;
 mod gates;
+mod rounds;
 mod sources;
 mod table;
 
