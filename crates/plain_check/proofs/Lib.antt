@@ -9,3 +9,4 @@ pub mod Verdicts
 pub mod EdgeRows
 pub mod OneRound
 pub mod LastRound
+pub mod HopFacts

@@ -3,3 +3,4 @@ pub mod Choices
 pub mod Sets
 pub mod Outcome
 pub mod States
+pub mod Hops
