@@ -10,3 +10,4 @@ pub mod EdgeRows
 pub mod OneRound
 pub mod LastRound
 pub mod HopFacts
+pub mod Levels

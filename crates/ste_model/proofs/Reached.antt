@@ -1,5 +1,5 @@
 -- Whence a vertex is reached: what is found of a graph has a candidate path.
-use Rattle.std.proofs.Common.{◌≡◌, ℕ, ◌<◌, zero, suc, Bool, List, [], ◌∷◌, ◌++◌, length, get_or, arith, sym, ap, refl, inl, inr, ◌∙◌}
+use Rattle.std.proofs.Common.{◌≡◌, ℕ, ◌<◌, ◌≤◌, zero, suc, Bool, List, [], ◌∷◌, ◌++◌, length, get_or, arith, sym, ap, refl, inl, inr, ◌∙◌}
 use Rattle.std.specs.Prelude.{All, Any, Contains, IsTrue, ◌⊎◌, Some, slice_get}
 use Rattle.std.proofs.lemmas.List.Elements.{All-nil, All-push}
 use Rattle.net_core.specs.declared.bit_set.BitSet.{BitSet}
@@ -10,7 +10,7 @@ use Rattle.ste_model.specs.declared.task.Graph.{Graph}
 use Rattle.ste_model.specs.Edges.{AreNumbers, IsGraph, IsPathFrom}
 use Rattle.ste_model.specs.Found.{FailsStrongly, FailsWeakly}
 use Rattle.ste_model.specs.GraphFound.{FailsOn, IsGraphFound}
-use Rattle.ste_model.specs.GraphShown.{FoundHasCandidate, HasCandidate}
+use Rattle.ste_model.specs.GraphShown.{FoundHasCandidate, HasCandidate, IsCandidate}
 use Rattle.ste_model.specs.GraphTable.{AreRounds, IsClosed, IsFeasible, IsNext, VertexState, enough}
 use Rattle.ste_model.proofs.NextRound.{arrive, begin, next_from, next_is, some_rounds}
 use Rattle.ste_model.proofs.Rounds.{below, feasible_grows, nothing, settle_all}
@@ -84,19 +84,20 @@ long_more (x ∷ path) edge = let h = long_more path edge in omega arith
 
 -- ---- candidates
 
--- a path of edges that are feasible under a table leads to the vertex
-pub record LeadsTo (net : RawNet) (graph : Graph) (bits : List Bool) (table : ℕ → VertexState) (vertex : ℕ) : Type 0 where
+-- a path of fewer than n edges that are feasible under a table leads to the vertex
+record LeadsTo (net : RawNet) (graph : Graph) (bits : List Bool) (table : ℕ → VertexState) (vertex n : ℕ) : Type 0 where
   path : List Edge
+  short : length path < n
   is_path : IsPathFrom graph.edges 0 path
   ends : end_of 0 path ≡ vertex
   feasible : All (CanTake net bits table) path
 
 module _ (net : RawNet) (graph : Graph) (bits : List Bool) (settled : IsSettled net) where
   -- so it is for a vertex that is reached in some round, under every closed table
-  reached_by : (rounds : ℕ → ℕ → VertexState) → AreRounds net graph bits rounds → (table : ℕ → VertexState) → IsClosed net graph bits table → (n vertex : ℕ) → IsTrue (rounds n vertex).reached → LeadsTo net graph bits table vertex
+  reached_by : (rounds : ℕ → ℕ → VertexState) → AreRounds net graph bits rounds → (table : ℕ → VertexState) → IsClosed net graph bits table → (n vertex : ℕ) → IsTrue (rounds n vertex).reached → LeadsTo net graph bits table vertex n
   reached_by rounds are table closed zero vertex h = let e = (are.start vertex).reached in absurd (cc)
   reached_by rounds are table closed (suc n) vertex h = elim (whence net graph bits settled (rounds n) (rounds (suc n)) (are.next n) vertex h) [
-    | inl e ↦ record { path = []; is_path = tt; ends = sym e; feasible = All-nil (CanTake net bits table) }
+    | inl e ↦ record { path = []; short = omega arith; is_path = tt; ends = sym e; feasible = All-nil (CanTake net bits table) }
     | inr any ↦
         let edge = any.1 in
         let feasible = any.4.1 in
@@ -104,14 +105,16 @@ module _ (net : RawNet) (graph : Graph) (bits : List Bool) (settled : IsSettled 
         let up = feasible_grows net graph bits settled (rounds n) table (below net graph bits settled rounds are table closed n) edge feasible.0 feasible.1 in
         record {
           path = before.path ++ edge ∷ [];
+          short = let long = long_more before.path edge in let less = before.short in omega (arith, long, less);
           is_path = path_more graph.edges 0 before.path edge before.is_path (any.0, any.2, any.3) (sym before.ends);
           ends = end_more 0 before.path edge ∙ any.4.0;
           feasible = All-push (CanTake net bits table) before.path edge before.feasible (up.0, up.1);
         }
   ]
 
-  some_candidate : (Fails : (ℕ → BitSet) → Cut → Type 0) → IsGraph graph → IsGraphFound Fails net graph bits → HasCandidate Fails net graph bits
-  some_candidate Fails good found =
+  -- what is found has a candidate with no more edges than the rounds that settle
+  pub short_candidate : (Fails : (ℕ → BitSet) → Cut → Type 0) → IsGraph graph → IsGraphFound Fails net graph bits → (numbers : List ℕ) × (path : List Edge) × AreNumbers graph numbers path × IsCandidate Fails net graph bits path × (length path ≤ enough net graph)
+  short_candidate Fails good found =
       let table = found.0 in
       let least = found.1 in
       let any = found.2 in
@@ -136,7 +139,11 @@ module _ (net : RawNet) (graph : Graph) (bits : List Bool) (settled : IsSettled 
           last = record { number = length before.path; last = long_more before.path edge; here = at_end before.path edge };
           fails = fails;
         },
+        let long = long_more before.path edge in let less = before.short in omega (arith, long, less),
       )
+
+  some_candidate : (Fails : (ℕ → BitSet) → Cut → Type 0) → IsGraph graph → IsGraphFound Fails net graph bits → HasCandidate Fails net graph bits
+  some_candidate Fails good found = let short = short_candidate Fails good found in (short.0, short.1, short.2, short.3)
 
 pub found_has_candidate : FoundHasCandidate
 found_has_candidate = record {
