@@ -57,3 +57,11 @@ allows_cut cuts cut allowed before value_set left inside on read is_value meets_
             λ all. subst (IsIn bit) (sym at) ((allows id bit within).1 (all_init P cuts cut all)),
           )
     ]
+
+-- cuts with the same parts, one more of them
+pub one_more : (cuts all : List Cut) (allowed : List BitSet) (node : ℕ) (on value : Bool) (cut : Cut) → cut.node ≡ node → cut.on ≡ on → cut.value ≡ value → cuts ++ cut ∷ [] ≡ all → Allows (cuts ++ record { node = node; on = on; value = value } ∷ []) allowed → Allows all allowed
+one_more cuts all allowed node on value cut same_node same_on same_value e =
+    subst (λ (c : List Cut). Allows c allowed) (ap (λ (c : Cut). cuts ++ c ∷ []) (same_cut node cut.node on cut.on value cut.value (sym same_node) (sym same_on) (sym same_value)) ∙ e)
+  where
+    same_cut : (n m : ℕ) (o p v w : Bool) → n ≡ m → o ≡ p → v ≡ w → ◌≡◌ {A = Cut} (record { node = n; on = o; value = v }) (record { node = m; on = p; value = w })
+    same_cut n m o p v w a b c = cc

@@ -6,3 +6,8 @@ pub mod OneLatch
 pub mod Outcomes
 pub mod Tabled
 pub mod Verdicts
+pub mod EdgeRows
+pub mod OneRound
+pub mod LastRound
+pub mod HopFacts
+pub mod Levels

@@ -21,7 +21,7 @@ use Rattle.plain_check.specs.declared.found.Failure.TheVariants as failure
 use Rattle.plain_check.specs.private.Outcome.{table_of, is_empty, has_empty, fails, fails_cut, fails_at}
 use Rattle.plain_check.specs.private.Sets.{set_at}
 
-empty_is : (set : BitSet) → IsTrue (is_empty set) ↔ (set ≡ neither)
+pub empty_is : (set : BitSet) → IsTrue (is_empty set) ↔ (set ≡ neither)
 empty_is set = (
   λ h. let parts = and_parts (not set.zero) (not set.one) h in same_fields set.zero false set.one false (not-true set.zero parts.0) (not-true set.one parts.1),
   λ e. rw e refl,
@@ -61,24 +61,24 @@ weak_is set value = (
 )
 
 -- a test over a list, and the same over what is made of it
-any_of_map : {X Y : Type 0} (f : X → Y) (P : Y → Type 0) (p : X → Bool) → ((x : X) → p x ≡ true → P (f x)) → (xs : List X) → list_any p xs ≡ true → Any P (map f xs)
+pub any_of_map : {X Y : Type 0} (f : X → Y) (P : Y → Type 0) (p : X → Bool) → ((x : X) → p x ≡ true → P (f x)) → (xs : List X) → list_any p xs ≡ true → Any P (map f xs)
 any_of_map f P p means [] h = absurd (cc h)
 any_of_map f P p means (x ∷ xs) h = elim (or_cases (p x) (list_any p xs) h) [
   | inl here ↦ (0, f x, omega arith, refl, means x here)
   | inr rest ↦ let any = any_of_map f P p means xs rest in (suc any.0, any.1, omega (arith, any.2), any.3, any.4)
 ]
 
-map_any_at : {X Y : Type 0} (f : X → Y) (P : Y → Type 0) (p : X → Bool) → ((x : X) → P (f x) → p x ≡ true) → (xs : List X) (k : ℕ) (y : Y) → k < length (map f xs) → get_or (map f xs) k y ≡ y → P y → list_any p xs ≡ true
+pub map_any_at : {X Y : Type 0} (f : X → Y) (P : Y → Type 0) (p : X → Bool) → ((x : X) → P (f x) → p x ≡ true) → (xs : List X) (k : ℕ) (y : Y) → k < length (map f xs) → get_or (map f xs) k y ≡ y → P y → list_any p xs ≡ true
 map_any_at f P p means [] k y l e h = absurd (omega arith)
 map_any_at f P p means (x ∷ xs) zero y l e h = or_left (p x) _ (means x (subst P (sym e) h))
 map_any_at f P p means (x ∷ xs) (suc k) y l e h = or_right (p x) _ (map_any_at f P p means xs k y (omega arith) e h)
 
 -- two findings, by their names in the code
-abbrev says : Failure → BitSet → Cut → Type 0
+abbrev pub says : Failure → BitSet → Cut → Type 0
 says failure.Strong set cut = IsTrue cut.on × (set ≡ only (not cut.value))
 says failure.Weak set cut = IsTrue cut.on × (set ≡ both)
 
-fails_is : (how : Failure) (sets : ℕ → BitSet) (cut : Cut) → IsTrue (fails_cut how sets cut) ↔ says how (sets cut.node) cut
+pub fails_is : (how : Failure) (sets : ℕ → BitSet) (cut : Cut) → IsTrue (fails_cut how sets cut) ↔ says how (sets cut.node) cut
 fails_is failure.Strong sets cut = (
   λ h. let parts = and_parts cut.on (fails failure.Strong (sets cut.node) cut.value) h in (parts.0, (strong_is (sets cut.node) cut.value).0 parts.1),
   λ h. and_from cut.on (fails failure.Strong (sets cut.node) cut.value) h.0 ((strong_is (sets cut.node) cut.value).1 h.1),

@@ -2,3 +2,5 @@
 pub mod Choices
 pub mod Sets
 pub mod Outcome
+pub mod States
+pub mod Hops

@@ -1,9 +1,10 @@
 //! What is found in a possible table; begin with `fails_somewhere`.
 
-ghost use Rattle.std.specs.Prelude.{◌≡◌, ◌<◌, ℕ, [], false, length, IsTrue, slice_index_or};
+ghost use Rattle.std.specs.Prelude.{◌≡◌, ◌<◌, ℕ, [], false, length, IsTrue, position, slice_index_or};
 ghost use Rattle.std.specs.List.{list_any};
 ghost use Rattle.ste_model.specs.Asked.{quint_at};
-ghost use Rattle.plain_check.specs.private.Outcome.{fails, fails_at, fails_cut, has_empty, is_contradictory, is_empty, is_strong, is_weak};
+ghost use Rattle.ste_model.specs.Edges.{bind_at};
+ghost use Rattle.plain_check.specs.private.Outcome.{bind_fails, fails, fails_at, fails_cut, has_empty, is_contradictory, is_empty, is_strong, is_weak};
 ghost use Rattle.plain_check.specs.private.Sets.{set_at};
 
 use crate::sources::applies;
@@ -11,7 +12,7 @@ use crate::table::set_at;
 use bool_expr::value;
 use net_core::BitSet;
 use ste_base::{Items, Time};
-use ste_model::Quint;
+use ste_model::{Bind, Quint};
 
 /// What is found under one assignment.
 #[derive(Clone, Copy, Debug, PartialEq, Eq)]
@@ -50,7 +51,7 @@ pub enum Failure {
 }
 
 /// Whether some set of a row has no bit.
-fn row_has_empty(row: &[BitSet]) -> bool
+pub fn row_has_empty(row: &[BitSet]) -> bool
     ensures { result ≡ list_any is_empty row.now }
 {
     row.iter().any(|set| !set.zero && !set.one)
@@ -114,4 +115,39 @@ pub fn fails_somewhere(
         }
     }
     false
+}
+
+/// Whether a binding fails so on the sets of its edge.
+fn bind_fails(failure: Failure, row: &[BitSet], bind: &Bind, bits: &[bool]) -> bool
+    ensures { result ≡ fails_cut failure (set_at row.now) (bind_at bits.now bind.now) }
+{
+    value(&bind.guard, bits)
+        && fails(
+            failure,
+            set_at(row, bind.node.0),
+            value(&bind.value, bits),
+        )
+}
+
+/// Whether some binding fails so.
+pub fn some_bind_fails(failure: Failure, row: &[BitSet], binds: &[Bind], bits: &[bool]) -> bool
+    ensures { result ≡ list_any (bind_fails failure row.now bits.now) binds.now }
+{
+    binds
+        .iter()
+        .any(|bind| bind_fails(failure, row, bind, bits))
+}
+
+/// The number of the first binding that fails so.
+pub fn first_failing(
+    failure: Failure,
+    row: &[BitSet],
+    binds: &[Bind],
+    bits: &[bool],
+) -> Option<usize>
+    ensures { result ≡ position (bind_fails failure row.now bits.now) binds.now }
+{
+    binds
+        .iter()
+        .position(|bind| bind_fails(failure, row, bind, bits))
 }

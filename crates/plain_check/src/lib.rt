@@ -5,6 +5,9 @@ pub mod checker;
 mod choices;
 mod found;
 mod gates;
+mod hops;
+mod paths;
+mod rounds;
 mod sources;
 mod table;
 

@@ -6,8 +6,10 @@ use Rattle.net_core.specs.declared.raw.RawNet.{RawNet}
 use Rattle.net_core.specs.Run.{Cut}
 use Rattle.net_core.specs.Sets.{has}
 use Rattle.ste_model.specs.declared.task.Assertion.{Assertion}
+use Rattle.ste_model.specs.declared.task.Bind.{Bind}
 use Rattle.ste_model.specs.declared.task.Quint.{Quint}
 use Rattle.ste_model.specs.Asked.{quint_at}
+use Rattle.ste_model.specs.Edges.{bind_at}
 use Rattle.ste_model.specs.declared.verdict.Verdict.{Verdict}
 use Rattle.ste_model.specs.declared.verdict.Verdict.TheVariants as verdict
 use Rattle.ste_model.specs.Found.{IsContradictory, IsStrong, IsWeak}
@@ -41,6 +43,10 @@ fails_cut how sets cut = cut.on && fails how (sets cut.node) cut.value
 -- some quintuple fails so at a time
 abbrev pub fails_at : Failure → List BitSet → List Quint → List Bool → ℕ → Bool
 fails_at how row quints bits t = list_any (λ quint. fails_cut how (set_at row) (quint_at bits t quint)) quints
+
+-- a binding of an edge fails so on the sets of a row
+abbrev pub bind_fails : Failure → List BitSet → List Bool → Bind → Bool
+bind_fails how row bits bind = fails_cut how (set_at row) (bind_at bits bind)
 
 -- the outcome of an assignment, which no other is
 abbrev pub IsOutcome : RawNet → Assertion → List Bool → Outcome → Type 0

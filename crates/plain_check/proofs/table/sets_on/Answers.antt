@@ -1,0 +1,23 @@
+use Rattle.std.proofs.Common.{ℕ, List, ◌<◌, subst, sym}
+use Rattle.std.specs.Prelude.{All}
+use Rattle.std.proofs.lemmas.Result.{IfOk-weaker}
+use Rattle.std.proofs.lemmas.List.Elements.{All-map}
+use Rattle.net_core.specs.declared.bit_set.BitSet.{BitSet}
+use Rattle.net_core.specs.Run.{Cut}
+use Rattle.net_core.specs.Possible.{ArePossible, Asked}
+use Rattle.ste_model.specs.declared.task.Bind.{Bind}
+use Rattle.ste_model.specs.Edges.{asked_on, bind_at, bind_cuts}
+use Rattle.plain_check.specs.private.Sets.{set_at, Allows}
+use Rattle.plain_check.proofs.table.sets_on.Goals as goal
+
+pub returns-clause-possible : goal.returns-clause-possible
+returns-clause-possible c =
+    let net = c.args.net.now.raw in
+    let asks = asked_on c.args.edge.now c.args.bits.now in
+    let below = All-map (λ (cut : Cut). cut.node < net.nets) (bind_at c.args.bits.now) c.args.edge.now.ant c.requires.in_range in
+    let allowed = c.in_ok-allowed.allowed.items in
+    let allows = subst (λ (binds : List Bind). Allows (bind_cuts binds c.args.bits.now) allowed) c.as_slice.ensures c.in_ok-allowed.ensures.allows in
+    IfOk-weaker c.possible_sets.result
+    (λ (row : List BitSet). (asked : Asked) → All (λ cut. cut.node < net.nets) asked.cuts → Allows asked.cuts c.deref.result.now → ArePossible net c.args.held.now asked (set_at row))
+    (λ row. ArePossible net c.args.held.now asks (set_at row))
+    (λ row h. h asks below (subst (Allows asks.cuts) (sym c.deref.ensures.value) allows)) c.possible_sets.ensures.possible

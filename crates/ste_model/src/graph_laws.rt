@@ -1,0 +1,51 @@
+//! The laws of assertion graphs: each is the contract of a function that does nothing.
+
+ghost use Rattle.ste_model.specs.GraphFound.{GraphFindingsAreTold, GraphPassHolds, OneGraphVerdict};
+ghost use Rattle.ste_model.specs.GraphNeed.{GraphResultsAreFindings, OneGraphNeed};
+ghost use Rattle.ste_model.specs.GraphShown.{DueBreaksAlong, FoundHasCandidate};
+ghost use Rattle.ste_model.specs.GraphTable.{OneLeastClosed, RoundsSettle};
+
+/// There are rounds, and only one table of each; after enough of them it is the least closed one.
+pub fn rounds_settle()
+    ensures { RoundsSettle }
+{}
+
+/// There is exactly one least closed table.
+pub fn one_least_closed()
+    ensures { OneLeastClosed }
+{}
+
+/// Some function of the assignments tells each finding of a graph.
+pub fn graph_findings_are_told()
+    ensures { GraphFindingsAreTold }
+{}
+
+/// A graph has exactly one verdict.
+pub fn one_graph_verdict()
+    ensures { OneGraphVerdict }
+{}
+
+/// A graph with the verdict pass, or contradictory antecedent, holds.
+pub fn graph_pass_holds()
+    ensures { GraphPassHolds }
+{}
+
+/// What is found under an assignment has a candidate path.
+pub fn found_has_candidate()
+    ensures { FoundHasCandidate }
+{}
+
+/// A printed run along a candidate path meets the antecedents, and breaks the consequents where the failure is strong.
+pub fn due_breaks_along()
+    ensures { DueBreaksAlong }
+{}
+
+/// The check of a graph needs exactly one number of steps.
+pub fn one_graph_need()
+    ensures { OneGraphNeed }
+{}
+
+/// The functions of the results tell under which assignments a graph is strong, weak and contradictory.
+pub fn graph_results_are_findings()
+    ensures { GraphResultsAreFindings }
+{}
