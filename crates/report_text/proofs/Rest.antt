@@ -3,7 +3,7 @@ use Rattle.std.proofs.Common.{◌≡◌, ◌≤◌, ℕ, zero, suc, ◌∙◌, L
 use Rattle.std.specs.Prelude.{zip}
 
 -- a list beside nothing
-pub beside_nothing : {X Y : Type 0} → (xs : List X) → zip {K = X} {X = Y} xs [] ≡ []
+beside_nothing : {X Y : Type 0} → (xs : List X) → zip {K = X} {X = Y} xs [] ≡ []
 beside_nothing [] = refl
 beside_nothing (x ∷ xs) = refl
 

@@ -75,7 +75,8 @@ fn put_tasks(
     requires rows { All (λ report. IfSome report.run
         (λ run. length run.rows ≤ length names.now.own)) reports.now }
     ensures { IfOk result (λ _. text.new.items ≡ text.old.items
-        ++ flat_map (task_text names.now.own tasks.now.vars wave) (zip tasks.now.tasks reports.now)) }
+        ++ flat_map (task_text names.now.own tasks.now.vars wave)
+        (zip tasks.now.tasks reports.now)) }
 {
     let vars = tasks.vars.as_slice();
     for (place, report) in reports.iter().enumerate() {
