@@ -1,4 +1,4 @@
-//! The text of a report: the lines of each task, as bytes. Begin with `render`.
+//! The text of a report: the lines of each task, as bytes. Begin with `render`; `put_codes` serves other texts with bits.
 #![tactic(auto)]
 
 mod cubes;
@@ -8,4 +8,5 @@ mod pieces;
 mod rendering;
 mod runs;
 
+pub use pieces::put_codes;
 pub use rendering::render;

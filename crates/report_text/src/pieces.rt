@@ -22,7 +22,7 @@ pub fn bit_code(bit: bool) -> u8
     if bit { b'1' } else { b'0' }
 }
 
-/// Puts bits behind a text.
+/// Puts bits behind a text, a character `0` or `1` for each.
 pub fn put_codes(text: &mut Vec<u8>, bits: &[bool]) -> Result<(), AllocError>
     ensures { IfOk result (λ _. text.new.items ≡ text.old.items ++ map bit_code bits.now) }
 {

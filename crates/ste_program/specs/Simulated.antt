@@ -1,5 +1,5 @@
 -- Meaning. What `sim` writes on the texts of a netlist and of an input file. Source: this project's own choice.
-use Rattle.std.specs.Prelude.{◌≡◌, ◌++◌, ℕ, Bool, if◌then◌else◌, List, codes, flat_map, map, Ok}
+use Rattle.std.specs.Prelude.{◌≡◌, ◌++◌, ℕ, Bool, List, codes, flat_map, map, Ok}
 use Rattle.blif_lines.specs.Lines.{lines_of}
 use Rattle.blif_syntax.specs.declared.models.Model.{Model}
 use Rattle.clock_step.specs.Answer.{IsAnswer}
@@ -8,11 +8,8 @@ use Rattle.clock_step.specs.declared.inputs.Inputs.{Inputs}
 use Rattle.hierarchy.specs.Lines.{outputs_of, top}
 use Rattle.hierarchy.specs.Names.{net_named}
 use Rattle.net_core.specs.declared.raw.RawNet.{RawNet}
+use Rattle.report_text.specs.Text.{bit_code}
 use Rattle.ste_program.specs.Netlist.{IsFlattened}
-
--- the character of a bit
-abbrev pub bit_code : Bool → ℕ
-bit_code bit = if bit then 49 else 48
 
 -- the line of one time: a bit for each output
 abbrev pub row_line : List Bool → List ℕ

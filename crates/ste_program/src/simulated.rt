@@ -4,7 +4,7 @@ ghost use Rattle.clock_step.specs.Order.{is_undriven};
 ghost use Rattle.clock_step.specs.Simulation.{AreOutputs};
 ghost use Rattle.ste_program.specs.Order.{IsFirst, sim_stages};
 ghost use Rattle.ste_program.specs.Report.{greatest};
-ghost use Rattle.ste_program.specs.Simulated.{IsSimulated, bit_code, name_part, row_line, sim_text};
+ghost use Rattle.ste_program.specs.Simulated.{IsSimulated, name_part, row_line, sim_text};
 ghost use Rattle.ste_program.specs.private.Simulated.{AreGiven, AreNotGiven, own_names};
 ghost use Rattle.ste_program.specs.private.Texts.{OrMemory};
 
@@ -14,6 +14,7 @@ use crate::report::Written;
 use blif_lines::logical_lines;
 use clock_step::{Inputs, read_inputs, simulate};
 use net_names::NetNames;
+use report_text::put_codes;
 use std::alloc::{AllocError, Global};
 use ste_base::{Items, NodeId};
 
@@ -35,20 +36,11 @@ fn inputs_of(alloc: Global, flat: &FlatNet, text: Vec<u8>) -> Result<Inputs, Ref
     }
 }
 
-/// The character of a bit.
-fn bit_code(bit: bool) -> u8
-    ensures { result ≡ bit_code bit }
-{
-    if bit { b'1' } else { b'0' }
-}
-
 /// Puts the line of one time behind a text.
 fn put_row(text: &mut Vec<u8>, row: &[bool]) -> Result<(), AllocError>
     ensures { IfOk result (λ _. text.new.items ≡ text.old.items ++ row_line row.now) }
 {
-    for bit in row {
-        text.push(bit_code(*bit))?;
-    }
+    put_codes(text, row)?;
     text.push(b'\n')?;
     Ok(())
 }
