@@ -32,7 +32,7 @@ none_is : (b : Bool) (i : ℕ) → cond b (Some i) None ≡ None → b ≡ false
 none_is false i e = refl
 none_is true i e = absurd (cc e)
 
-none_passes : {X : Type 0} (p : X → Bool) (xs : List X) (k : ℕ) (x : X) → position p xs ≡ None → slice_get xs k ≡ Some x → p x ≡ true → ⊥
+pub none_passes : {X : Type 0} (p : X → Bool) (xs : List X) (k : ℕ) (x : X) → position p xs ≡ None → slice_get xs k ≡ Some x → p x ≡ true → ⊥
 none_passes p xs k x e at pass =
     let below = passed_early p xs k x at pass in
     let stuck : nat_lt (position_or_len p xs) (length xs) ≡ false = none_is (nat_lt (position_or_len p xs) (length xs)) (position_or_len p xs) e in
