@@ -4,7 +4,7 @@ ghost use Rattle.std.specs.Prelude.{◌≡◌, ◌<◌, ◌≤◌, length, All, 
 ghost use Rattle.ste_model.specs.GraphTable.{IsLeastClosed};
 ghost use Rattle.plain_check.specs.private.Choices.{AreChoices};
 ghost use Rattle.plain_check.specs.private.Hops.{AreHops};
-ghost use Rattle.plain_check.specs.private.Shown.{IsFoundBy, IsShownIf};
+ghost use Rattle.plain_check.specs.private.Shown.{IsFoundBy, IsShownIf, failure_of};
 ghost use Rattle.plain_check.specs.private.States.{AreStates, IsGraphOver, states_of};
 
 use crate::checker::all_choices;
@@ -31,6 +31,18 @@ pub struct Shown {
 pub struct GraphFound {
     pub outcome: Outcome,
     pub shown: Option<Shown>,
+}
+
+/// The way to fail that an outcome says.
+fn failure_of(outcome: Outcome) -> Option<Failure>
+    ensures { result ≡ failure_of outcome }
+{
+    match outcome {
+        Outcome::Strong => Some(Failure::Strong),
+        Outcome::Weak => Some(Failure::Weak),
+        Outcome::Contradictory => None,
+        Outcome::Fine => None,
+    }
 }
 
 /// What a failure shows, from the least closed table and what is known of the edges on it.
@@ -92,21 +104,11 @@ pub fn check_graph(
     let table = least_table(alloc, net, &choices, graph, bits)?;
     let hops = hops_of(alloc, net, &choices, graph, bits, &table)?;
     let outcome = outcome_of(&hops);
-    let failure = match outcome {
-        Outcome::Strong => Failure::Strong,
-        Outcome::Weak => Failure::Weak,
-        Outcome::Contradictory => {
-            return Ok(GraphFound {
-                outcome,
-                shown: None,
-            });
-        }
-        Outcome::Fine => {
-            return Ok(GraphFound {
-                outcome,
-                shown: None,
-            });
-        }
+    let Some(failure) = failure_of(outcome) else {
+        return Ok(GraphFound {
+            outcome,
+            shown: None,
+        });
     };
     let shown = failure_shown(alloc, net, &choices, graph, bits, &table, &hops, failure)?;
     Ok(GraphFound { outcome, shown })

@@ -9,7 +9,7 @@ use Rattle.ste_model.specs.GraphShown.{IsFailingPlace, IsShown}
 use Rattle.plain_check.specs.declared.found.Failure.{Failure}
 use Rattle.plain_check.specs.declared.found.Failure.TheVariants as failure
 use Rattle.plain_check.specs.declared.found.Outcome.{Outcome}
-use Rattle.plain_check.specs.declared.found.Outcome.TheVariants.{Contradictory, Strong, Weak, Fine}
+use Rattle.plain_check.specs.declared.found.Outcome.TheVariants.{Strong, Weak}
 use Rattle.plain_check.specs.declared.graph_checker.GraphFound.{GraphFound}
 use Rattle.plain_check.specs.declared.graph_checker.Shown.{Shown}
 use Rattle.plain_check.specs.private.Hops.{IsGraphOutcome, fails_of}
@@ -25,14 +25,18 @@ abbrev pub IsShownIf : RawNet → Graph → List Bool → Failure → Option Sho
 IsShownIf net graph bits how None = ¬ IsGraphFound (fails_of how) net graph bits
 IsShownIf net graph bits how (Some shown) = IsShownSo net graph bits how shown
 
--- what goes with an outcome: for a failure what it shows, and otherwise nothing
-abbrev pub GoesWith : RawNet → Graph → List Bool → Outcome → Option Shown → Type 0
-GoesWith net graph bits Strong shown = IsShownIf net graph bits failure.Strong shown
-GoesWith net graph bits Weak shown = IsShownIf net graph bits failure.Weak shown
-GoesWith net graph bits Contradictory shown = shown ≡ None
-GoesWith net graph bits Fine shown = shown ≡ None
+-- the way to fail that an outcome says
+abbrev pub failure_of : Outcome → Option Failure
+failure_of Strong = Some failure.Strong
+failure_of Weak = Some failure.Weak
+failure_of other = None
+
+-- what goes with it: what it shows, and nothing where nothing fails
+abbrev pub GoesWith : RawNet → Graph → List Bool → Option Failure → Option Shown → Type 0
+GoesWith net graph bits None shown = shown ≡ None
+GoesWith net graph bits (Some how) shown = IsShownIf net graph bits how shown
 
 -- what is found of a graph under an assignment
 pub record IsFoundBy (net : RawNet) (graph : Graph) (bits : List Bool) (found : GraphFound) : Type 0 where
   pub outcome : IsGraphOutcome net graph bits found.outcome
-  pub shown : GoesWith net graph bits found.outcome found.shown
+  pub shown : GoesWith net graph bits (failure_of found.outcome) found.shown
