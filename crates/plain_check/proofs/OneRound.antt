@@ -177,7 +177,7 @@ arrives net states to old state sets l is long reached latches =
     let same : old.latches ≡ (states_of net states to).latches = ap (λ (s : VertexState). s.latches) (sym before) in
     set_there net states to state l
     ∙ same_state state.reached state.latches (join_sets (states_of net states to).latches (next_sets net sets)) reached
-        (join_same net (states_of net states to).latches state.latches sets long (latches ∙ ap (λ (x : List BitSet). joined x (next_sets net sets)) same))
+    (join_same net (states_of net states to).latches state.latches sets long (latches ∙ ap (λ (x : List BitSet). joined x (next_sets net sets)) same))
 
 -- what holds of all elements holds of one that is read
 pub item_of : {X : Type 0} (P : X → Type 0) (xs ys : List X) (k : ℕ) (x : X) → ys ≡ xs → k < length ys → x ≡ get_or ys k x → All P xs → P x

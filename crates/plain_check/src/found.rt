@@ -121,12 +121,7 @@ pub fn fails_somewhere(
 fn bind_fails(failure: Failure, row: &[BitSet], bind: &Bind, bits: &[bool]) -> bool
     ensures { result ≡ fails_cut failure (set_at row.now) (bind_at bits.now bind.now) }
 {
-    value(&bind.guard, bits)
-        && fails(
-            failure,
-            set_at(row, bind.node.0),
-            value(&bind.value, bits),
-        )
+    value(&bind.guard, bits) && fails(failure, set_at(row, bind.node.0), value(&bind.value, bits))
 }
 
 /// Whether some binding fails so.

@@ -66,7 +66,13 @@ fn failure_shown(
     ensures { IfOk result (λ shown. IsShownIf net.now.raw graph.now bits.now failure shown) }
 {
     settles(net);
-    let path = shortest_path(alloc, failure, hops, graph.vertices.len(), net.latches().len())?;
+    let path = shortest_path(
+        alloc,
+        failure,
+        hops,
+        graph.vertices.len(),
+        net.latches().len(),
+    )?;
     let length = path.len();
     if length == 0 {
         return Ok(None);

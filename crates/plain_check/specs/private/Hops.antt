@@ -105,4 +105,4 @@ IsShortest how hops n [] = (other : List ℕ) → IsRoute how hops 0 other → n
 IsShortest how hops n (k ∷ path) =
     IsRoute how hops 0 (k ∷ path)
     × ((other : List ℕ) → IsRoute how hops 0 other → (length (k ∷ path) ≤ length other)
-      × (length other ≡ length (k ∷ path) → slice_cmp nat_cmp (k ∷ path) other ≢ Greater))
+    × (length other ≡ length (k ∷ path) → slice_cmp nat_cmp (k ∷ path) other ≢ Greater))
