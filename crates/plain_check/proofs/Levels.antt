@@ -1,6 +1,6 @@
 -- Least routes of so many hops, from those of one hop less.
 use Rattle.std.proofs.Common.{◌≡◌, ◌≢◌, ℕ, ◌<◌, ◌≤◌, ◌+◌, zero, suc, Bool, true, false, List, [], ◌∷◌, ◌++◌, length, get_or, refl, sym, ap, subst, ◌∙◌, arith, inl, inr}
-use Rattle.std.specs.Prelude.{All, IsTrue, Option, None, Some, ◌⊎◌, ◌==◌, ◌&&◌, cond, nat_lt, position, slice_get}
+use Rattle.std.specs.Prelude.{All, IsTrue, None, Some, ◌==◌, ◌&&◌, cond, nat_lt, position, slice_get}
 use Rattle.std.specs.List.{position_or_len}
 use Rattle.std.specs.Ordering.{MatchOrdering, nat_cmp, ordering_then}
 use Rattle.std.specs.declared.cmp.Ordering.{Ordering}

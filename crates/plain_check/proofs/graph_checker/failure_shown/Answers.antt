@@ -1,4 +1,4 @@
-use Rattle.std.proofs.Common.{◌≡◌, ◌<◌, ◌+◌, ◌-◌, ◌*◌, ℕ, suc, true, List, length, get_or, Fits, w64, arith, sym, ap, subst, ◌∙◌}
+use Rattle.std.proofs.Common.{◌≡◌, ◌<◌, ◌+◌, ◌-◌, ◌*◌, ℕ, suc, true, List, length, get_or, arith, sym, ap, subst, ◌∙◌}
 use Rattle.std.specs.Prelude.{All, position}
 use Rattle.bool_expr.specs.declared.expr.Expr.{roll-Expr}
 use Rattle.bool_expr.specs.declared.expr.Expr.TheOpen.{Const}
