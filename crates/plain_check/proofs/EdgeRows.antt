@@ -1,6 +1,6 @@
 -- The row of an edge: its possible sets where it is feasible.
-use Rattle.std.proofs.Common.{◌≡◌, ℕ, ◌<◌, Bool, true, false, List, length, get_or, arith, sym, ap, subst, ◌∙◌}
-use Rattle.std.specs.Prelude.{IsTrue, Option, None, Some}
+use Rattle.std.proofs.Common.{◌≡◌, ℕ, Bool, true, false, List, length, arith, sym, ap, subst, ◌∙◌}
+use Rattle.std.specs.Prelude.{None, Some}
 use Rattle.std.specs.List.{list_any}
 use Rattle.std.proofs.lemmas.Bool.{both_ways}
 use Rattle.std.proofs.lemmas.List.{get_or_default}

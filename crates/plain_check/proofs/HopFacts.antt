@@ -1,17 +1,15 @@
 -- What hops say of the edges of a graph, and the outcome from them.
-use Rattle.std.proofs.Common.{◌≡◌, ℕ, ◌<◌, zero, suc, Bool, true, false, not, List, [], ◌∷◌, length, get_or, sym, refl, subst, ◌∙◌, arith, inl, inr}
-use Rattle.std.specs.Prelude.{All, Any, IsTrue, ◌↔◌, None, Some, if◌then◌else◌}
+use Rattle.std.proofs.Common.{◌≡◌, ℕ, Bool, true, false, not, List, [], ◌∷◌, get_or, sym, refl, subst, ◌∙◌, inl, inr}
+use Rattle.std.specs.Prelude.{All, Any, IsTrue, ◌↔◌, None, if◌then◌else◌}
 use Rattle.std.specs.List.{AllZip, list_any}
 use Rattle.std.proofs.lemmas.Bool.{both_ways, or_cases, or_left, or_right}
 use Rattle.std.proofs.lemmas.List.{get_or_default}
 use Rattle.net_core.specs.declared.bit_set.BitSet.{BitSet}
 use Rattle.net_core.specs.declared.raw.RawNet.{RawNet}
 use Rattle.net_core.specs.Run.{Cut, IsSettled}
-use Rattle.ste_model.specs.declared.task.Bind.{Bind}
 use Rattle.ste_model.specs.declared.task.Edge.{Edge}
 use Rattle.ste_model.specs.declared.task.Graph.{Graph}
 use Rattle.ste_model.specs.Edges.{bind_at}
-use Rattle.ste_model.specs.Found.{FailsStrongly, FailsWeakly}
 use Rattle.ste_model.specs.GraphFound.{FailsOn, IsGraphContradictory, IsGraphFound}
 use Rattle.ste_model.specs.GraphTable.{IsFeasible, IsLeastClosed, VertexState}
 use Rattle.ste_model.proofs.GraphVerdicts.{fails_in, found_in}
@@ -22,7 +20,7 @@ use Rattle.plain_check.specs.declared.found.Failure.TheVariants as failure
 use Rattle.plain_check.specs.declared.found.Outcome.TheVariants.{Contradictory, Strong, Weak, Fine}
 use Rattle.plain_check.specs.declared.hops.Hop.{Hop}
 use Rattle.plain_check.specs.private.Hops.{AreHops, IsGraphOutcome, IsHopOf, fails_of, hop_fails, is_feasible, outcome_of}
-use Rattle.plain_check.specs.private.Outcome.{bind_fails, fails_cut}
+use Rattle.plain_check.specs.private.Outcome.{bind_fails}
 use Rattle.plain_check.specs.private.Sets.{set_at}
 use Rattle.plain_check.specs.private.States.{IsEdgeRow}
 use Rattle.plain_check.proofs.Outcomes.{any_of_map, fails_is, map_any_at, says}

@@ -1,11 +1,10 @@
 -- The table after so many rounds; after enough it is the least closed one.
-use Rattle.std.proofs.Common.{◌≡◌, ℕ, ◌<◌, ◌+◌, zero, suc, Bool, true, false, List, length, get_or, arith, sym, subst, ◌∙◌}
-use Rattle.std.specs.Prelude.{All, Some, None, IsTrue}
+use Rattle.std.proofs.Common.{◌≡◌, ℕ, ◌+◌, suc, Bool, List, get_or, arith, sym, subst, ◌∙◌}
+use Rattle.std.specs.Prelude.{All, Some, None}
 use Rattle.std.proofs.lemmas.Bool.{both_ways}
 use Rattle.net_core.specs.declared.bit_set.BitSet.{BitSet}
 use Rattle.net_core.specs.declared.raw.RawNet.{RawNet}
 use Rattle.net_core.specs.Run.{IsSettled}
-use Rattle.ste_model.specs.declared.task.Edge.{Edge}
 use Rattle.ste_model.specs.declared.task.Graph.{Graph}
 use Rattle.ste_model.specs.Edges.{IsGraph}
 use Rattle.ste_model.specs.GraphTable.{AreRounds, IsFeasible, IsLeastClosed, IsNext, VertexState, enough}

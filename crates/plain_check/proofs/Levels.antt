@@ -1,6 +1,6 @@
 -- Least routes of so many hops, from those of one hop less.
 use Rattle.std.proofs.Common.{◌≡◌, ◌≢◌, ℕ, ◌<◌, ◌≤◌, ◌+◌, zero, suc, Bool, true, false, List, [], ◌∷◌, ◌++◌, length, get_or, refl, sym, ap, subst, ◌∙◌, arith, inl, inr}
-use Rattle.std.specs.Prelude.{All, IsTrue, Option, None, Some, ◌⊎◌, ◌==◌, ◌&&◌, cond, nat_lt, position, slice_get}
+use Rattle.std.specs.Prelude.{All, IsTrue, None, Some, ◌==◌, ◌&&◌, cond, nat_lt, position, slice_get}
 use Rattle.std.specs.List.{position_or_len}
 use Rattle.std.specs.Ordering.{MatchOrdering, nat_cmp, ordering_then}
 use Rattle.std.specs.declared.cmp.Ordering.{Ordering}
@@ -32,7 +32,7 @@ none_is : (b : Bool) (i : ℕ) → cond b (Some i) None ≡ None → b ≡ false
 none_is false i e = refl
 none_is true i e = absurd (cc e)
 
-none_passes : {X : Type 0} (p : X → Bool) (xs : List X) (k : ℕ) (x : X) → position p xs ≡ None → slice_get xs k ≡ Some x → p x ≡ true → ⊥
+pub none_passes : {X : Type 0} (p : X → Bool) (xs : List X) (k : ℕ) (x : X) → position p xs ≡ None → slice_get xs k ≡ Some x → p x ≡ true → ⊥
 none_passes p xs k x e at pass =
     let below = passed_early p xs k x at pass in
     let stuck : nat_lt (position_or_len p xs) (length xs) ≡ false = none_is (nat_lt (position_or_len p xs) (length xs)) (position_or_len p xs) e in

@@ -11,3 +11,5 @@ pub mod OneRound
 pub mod LastRound
 pub mod HopFacts
 pub mod Levels
+pub mod Routed
+pub mod Placed

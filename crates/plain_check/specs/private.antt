@@ -4,3 +4,4 @@ pub mod Sets
 pub mod Outcome
 pub mod States
 pub mod Hops
+pub mod Shown

@@ -33,7 +33,7 @@ fn depth(task: &Assertion) -> Time
 }
 
 /// For each number of inputs from 0 to 8, all lists of so many bits.
-fn all_choices(alloc: Global) -> Result<Vec<Items<Items<bool>>>, AllocError>
+pub fn all_choices(alloc: Global) -> Result<Vec<Items<Items<bool>>>, AllocError>
     ensures long { IfOk result (λ choices. length choices.items ≡ 9) }
     ensures each { IfOk result (λ choices. AreChoices choices.items) }
 {

@@ -3,8 +3,9 @@
 
 pub mod checker;
 mod choices;
-mod found;
+pub mod found;
 mod gates;
+pub mod graph_checker;
 mod hops;
 mod paths;
 mod rounds;
@@ -12,6 +13,8 @@ mod sources;
 mod table;
 
 pub use checker::verdict;
+pub use found::Outcome;
+pub use graph_checker::{GraphFound, Shown, check_graph};
 
 #[cfg(test)]
 mod tests;

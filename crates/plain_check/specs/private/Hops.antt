@@ -1,5 +1,5 @@
 -- For private functions. What is known of the edges of a graph under one assignment, and routes along them.
-use Rattle.std.specs.Prelude.{◌≡◌, ◌≢◌, ◌<◌, ◌≤◌, ◌↔◌, ◌==◌, ◌&&◌, ◌*◌, ◌+◌, ℕ, Bool, not, List, [], ◌∷◌, length, IsTrue, nat_lt, if◌then◌else◌, Some, slice_get, slice_index_or}
+use Rattle.std.specs.Prelude.{◌≡◌, ◌≢◌, ◌<◌, ◌≤◌, ◌↔◌, ◌==◌, ◌&&◌, ℕ, Bool, not, List, [], ◌∷◌, length, IsTrue, nat_lt, if◌then◌else◌, Some, slice_get, slice_index_or}
 use Rattle.std.specs.declared.cmp.Ordering.TheVariants.{Greater}
 use Rattle.std.specs.Cmp.Lexicographic.{slice_cmp}
 use Rattle.std.specs.List.{AllZip, list_any}

@@ -1,4 +1,4 @@
-use Rattle.std.proofs.Common.{◌∙◌, true, false, sym}
+use Rattle.std.proofs.Common.{◌∙◌, sym}
 use Rattle.net_core.proofs.Ordered.{settled_by_order}
 use Rattle.plain_check.specs.declared.found.Failure.TheVariants as failure
 use Rattle.plain_check.proofs.Outcomes.{contradictory_is, contradictory_is_not, none_of, some_of, strong_found, strong_found_not, weak_found, weak_found_not}

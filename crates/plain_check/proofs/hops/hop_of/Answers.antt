@@ -1,7 +1,6 @@
 use Rattle.std.proofs.Common.{List, ap, subst, ◌∙◌}
 use Rattle.std.specs.List.{list_any}
 use Rattle.net_core.specs.declared.bit_set.BitSet.{BitSet}
-use Rattle.ste_model.specs.declared.task.Bind.{Bind}
 use Rattle.plain_check.specs.declared.found.Failure.TheVariants as failure
 use Rattle.plain_check.specs.private.Outcome.{bind_fails}
 use Rattle.plain_check.specs.private.States.{IsEdgeRow}

@@ -1,4 +1,4 @@
-use Rattle.std.proofs.Common.{◌≡◌, ◌+◌, ◌++◌, ◌∷◌, [], List, ℕ, length, length-append, arith, sym, ap, subst, ◌∙◌}
+use Rattle.std.proofs.Common.{◌≡◌, ◌+◌, ◌++◌, ◌∷◌, [], ℕ, length, length-append, arith, sym, ap, subst, ◌∙◌}
 use Rattle.plain_check.specs.private.Hops.{AreBest, IsBest}
 use Rattle.plain_check.proofs.Levels.{one_more_best}
 use Rattle.plain_check.proofs.paths.all_one_more.Goals as goal

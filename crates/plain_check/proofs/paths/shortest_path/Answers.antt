@@ -1,6 +1,6 @@
-use Rattle.std.proofs.Common.{◌≡◌, ◌<◌, ◌+◌, ◌*◌, [], List, ℕ, length, get_or, arith, sym, ap, subst, ◌∙◌}
+use Rattle.std.proofs.Common.{◌≡◌, ◌<◌, ◌+◌, ◌*◌, [], ℕ, length, arith, subst, ◌∙◌}
 use Rattle.std.proofs.lemmas.List.{get_or_default}
-use Rattle.plain_check.specs.private.Hops.{IsSearched, IsShortest}
+use Rattle.plain_check.specs.private.Hops.{IsSearched}
 use Rattle.plain_check.proofs.Levels.{ends_searched, starts_searched}
 use Rattle.plain_check.proofs.paths.shortest_path.Goals as goal
 

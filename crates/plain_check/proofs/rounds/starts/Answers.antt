@@ -1,11 +1,8 @@
-use Rattle.std.proofs.Common.{◌≡◌, ◌≢◌, ℕ, suc, ◌+◌, ◌++◌, ◌∷◌, [], length, length-append, arith, sym, ap, subst, ◌∙◌}
-use Rattle.std.proofs.lemmas.List.{length-map, length-set}
-use Rattle.std.proofs.lemmas.List.Elements.{All-push, All-set}
-use Rattle.net_core.specs.Sets.{first_set}
-use Rattle.std.specs.Prelude.{All, List}
+use Rattle.std.proofs.Common.{◌≡◌, ◌∷◌, [], length, length-append, arith, sym, ap, subst, ◌∙◌}
+use Rattle.std.proofs.lemmas.List.Elements.{All-push}
+use Rattle.std.specs.Prelude.{All}
 use Rattle.plain_check.specs.declared.rounds.State.{State}
-use Rattle.plain_check.specs.private.States.{state_of, start, states_of, unreached}
-use Rattle.plain_check.proofs.OneRound.{all_long, all_unreached, set_others, set_there}
+use Rattle.plain_check.specs.private.States.{unreached}
 use Rattle.plain_check.proofs.rounds.starts.Goals as goal
 
 pub loop-preserved : goal.loop-preserved

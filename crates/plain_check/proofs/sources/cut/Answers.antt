@@ -1,6 +1,4 @@
-use Rattle.std.proofs.Common.{◌∙◌, ap}
 use Rattle.net_core.specs.Run.{Cut}
-use Rattle.net_core.specs.Sets.{only}
 use Rattle.plain_check.proofs.Allowed.{allows_cut, allows_skipped}
 use Rattle.plain_check.proofs.sources.cut.Goals as goal
 
