@@ -66,7 +66,7 @@ pub record IsPathPlace (Fails : (ℕ → BitSet) → Cut → Type 0) (net : RawN
 -- ---- the run
 
 -- The printed run along a path under an assignment: a run of the path's length in which inputs, free nets and first bits of
--- latches are as the antecedents of the edges ask, and 0 where they ask nothing. All else follows.
+-- latches are as the antecedents of the edges ask, and 0 where neither they nor the reset fix them. All else follows.
 pub record IsPrintedAlong (net : RawNet) (graph : Graph) (bits : List Bool) (path : List Edge) (run : ℕ → ℕ → Bool) : Type 0 where
   pub is_run : IsTaskRun net graph.reset (length path) run
   pub sources : (i : ℕ) (edge : Edge) (id : ℕ) → slice_get path i ≡ Some edge → id < net.nets → IsUndriven net id →

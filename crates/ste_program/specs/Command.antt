@@ -45,5 +45,6 @@ is_undone_action (info net) nodes = false
 is_undone_action (sim net inputs) nodes = false
 is_undone_action (bench stages) nodes = true
 
+-- what the command asks for is not done so far
 abbrev pub is_undone : Command → Bool
 is_undone command = is_undone_action command.action command.nodes

@@ -69,6 +69,7 @@ pub record CannotBind (net_text task_text : List ℕ) (fault : BindFault) : Type
   pub told : fault ≢ bind.OutOfMemory
   pub answer : IsAnswer (net_named models) (length (nets models)) raw (Err fault)
 
+-- the tasks cannot be bound to the netlist
 abbrev pub is_unbound : List ℕ → List ℕ → Refusal → Type 0
 is_unbound net_text task_text found = (fault : BindFault) × (found ≡ refusal.Binding fault) × CannotBind net_text task_text fault
 
@@ -81,6 +82,7 @@ pub record IsFaultyFor (net_text input_text : List ℕ) (fault : InputFault) : T
   pub told : fault ≢ input.OutOfMemory
   pub answer : inputs.IsAnswer (net_named models) net (lines_of input_text) (Err fault)
 
+-- the text of the inputs is faulty
 abbrev pub has_faulty_inputs : List ℕ → List ℕ → Refusal → Type 0
 has_faulty_inputs net_text input_text found =
     (fault : InputFault) × (found ≡ refusal.Inputs fault) × IsFaultyFor net_text input_text fault

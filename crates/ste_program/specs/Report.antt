@@ -89,6 +89,7 @@ reports_in (info net) asked net_text second_text passes bytes written = []
 reports_in (sim net inputs) asked net_text second_text passes bytes written = []
 reports_in (bench stages) asked net_text second_text passes bytes written = []
 
+-- the reports of the tasks that a command's report tells
 abbrev pub reports_of : (command : Option Command) (files : FilesState) (passes : Bool) (bytes : List ℕ) → IsReport command files passes bytes → List TaskReport
 reports_of command files passes bytes report =
     reports_in report.asked.action report.asked report.net_text report.second_text passes bytes report.written
