@@ -43,7 +43,7 @@ fn visit(hop: Hop, far: &mut Vec<Option<u32>>, level: u32) -> bool
 }
 
 /// Gives this distance to each vertex that has it. The answer is whether there is one.
-fn mark(hops: &[Hop], far: &mut Vec<Option<u32>>, level: u32) -> bool
+fn mark_level(hops: &[Hop], far: &mut Vec<Option<u32>>, level: u32) -> bool
     requires ends { LeadToVertices (length far.old.items) hops.now }
     requires below { AreDistancesBelow hops.now far.old.items level }
     ensures below { AreDistancesBelow hops.now far.new.items (level + 1) }
@@ -81,7 +81,7 @@ pub fn distances(alloc: Global, vertices: u32, hops: &[Hop]) -> Result<Vec<Optio
 {
     let mut far = unknown(alloc, vertices)?;
     let mut level = 0;
-    while mark(hops, &mut far, level) {
+    while mark_level(hops, &mut far, level) {
         level += 1;
     }
     Ok(far)

@@ -25,7 +25,11 @@ fn first_beginning(hops: &[Hop], far: &[Option<u32>], vertex: u32, left: u32) ->
 }
 
 /// The least route from vertex 0. At each vertex it takes the least hop number of those that lead one nearer.
-fn walk(alloc: Global, hops: &[Hop], far: &[Option<u32>]) -> Result<Option<Items<u32>>, AllocError>
+fn least_route(
+    alloc: Global,
+    hops: &[Hop],
+    far: &[Option<u32>],
+) -> Result<Option<Items<u32>>, AllocError>
     requires ends { LeadToVertices (length far.now) hops.now }
     requires few { length hops.now ≤ 4294967296 }
     requires distances { AreDistances hops.now far.now }
@@ -64,5 +68,5 @@ pub fn path_of(alloc: Global, vertices: u32, hops: &[Hop]) -> Result<Option<Item
     ensures { IfOk result (λ path. IsPathOf hops.now path) }
 {
     let far = distances(alloc, vertices, hops)?;
-    walk(alloc, hops, far.as_slice())
+    least_route(alloc, hops, far.as_slice())
 }

@@ -10,11 +10,11 @@ loop-level-init c =
     let u = unknown_below c.args.hops.now c.in_ok-far.far.items c.in_ok-far.ensures.none in
     record { long = c.in_ok-far.ensures.long; below = u.0; count = let h = c.in_ok-far.ensures.long in let n = u.1 in omega (arith, h, n) }
 
-pub mark-requires-clause-ends : goal.mark-requires-clause-ends
-mark-requires-clause-ends c = subst (λ (n : ℕ). LeadToVertices n c.args.hops.now) (sym c.loop-level.invariant.long) c.requires.ends
+pub mark_level-requires-clause-ends : goal.mark_level-requires-clause-ends
+mark_level-requires-clause-ends c = subst (λ (n : ℕ). LeadToVertices n c.args.hops.now) (sym c.loop-level.invariant.long) c.requires.ends
 
-pub mark-requires-clause-below : goal.mark-requires-clause-below
-mark-requires-clause-below c = c.loop-level.invariant.below
+pub mark_level-requires-clause-below : goal.mark_level-requires-clause-below
+mark_level-requires-clause-below c = c.loop-level.invariant.below
 
 pub overflow_add-level : goal.overflow_add-level
 overflow_add-level c = let f = c.loop-level-test.ensures.fewer refl in let i = c.loop-level.invariant.count in let r = c.ranges.vertices in omega (arith, f, i, r)
@@ -36,6 +36,6 @@ pub returns-clause-distances : goal.returns-clause-distances
 returns-clause-distances c =
     let e = c.loop-level-test.ensures in
     let same = e.same refl in
-    ends_known c.args.hops.now c.mark.new.far.items c.loop-level.level
+    ends_known c.args.hops.now c.mark_level.new.far.items c.loop-level.level
     (subst (λ (n : ℕ). LeadToVertices n c.args.hops.now) (sym (e.long ∙ c.loop-level.invariant.long)) c.requires.ends)
     (subst (λ (f : List (Option ℕ)). AreDistancesBelow c.args.hops.now f c.loop-level.level) (sym same) c.loop-level.invariant.below) e.below

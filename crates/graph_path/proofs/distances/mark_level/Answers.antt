@@ -2,8 +2,8 @@ use Rattle.std.proofs.Common.{◌+◌, false, get_or, sym, subst}
 use Rattle.std.proofs.lemmas.Option.{slice_get-get_or}
 use Rattle.graph_path.specs.declared.hop.Hop.{Hop}
 use Rattle.graph_path.proofs.Levels.{MarkedSoFar, marked_start, marked_more, marked_pass, marked_end}
-use Rattle.graph_path.proofs.distances.mark.Goals as goal
-use Rattle.graph_path.proofs.distances.mark.Goals.{then-visit, else-visit}
+use Rattle.graph_path.proofs.distances.mark_level.Goals as goal
+use Rattle.graph_path.proofs.distances.mark_level.Goals.{then-visit, else-visit}
 
 pub loop-hop-init : goal.loop-hop-init
 loop-hop-init c = marked_start c.args.hops.now c.args.level c.args.far.now.items

@@ -1,5 +1,5 @@
 use Rattle.graph_path.proofs.Walks.{WalkedSoFar}
-use Rattle.graph_path.proofs.route.walk.Given as goal
+use Rattle.graph_path.proofs.route.least_route.Given as goal
 
 abbrev pub invariant-loop-n : goal.invariant-loop-n
 invariant-loop-n l = WalkedSoFar l.hops l.far l.vertex l.left l.path

@@ -6,7 +6,7 @@ use Rattle.graph_path.specs.declared.hop.Hop.{Hop}
 use Rattle.graph_path.specs.Routes.{IsLeastHopRoute}
 use Rattle.std.proofs.lemmas.Option.{slice_get_within}
 use Rattle.graph_path.proofs.Walks.{WalkedSoFar, some_begins, least_last, no_route, walked_more}
-use Rattle.graph_path.proofs.route.walk.Goals as goal
+use Rattle.graph_path.proofs.route.least_route.Goals as goal
 
 pub returns-then-is_empty : goal.returns-then-is_empty
 returns-then-is_empty c = no_route c.args.hops.now (length c.args.far.now) (eqb-true (length c.args.far.now) 0 (sym c.if-is_empty.ensures)) c.requires.ends
