@@ -8,7 +8,8 @@ use Rattle.graph_path.specs.declared.hop.Hop.{Hop}
 use Rattle.graph_path.specs.Routes.{IsHopRoute, LeadToVertices}
 use Rattle.graph_path.specs.private.Distances.{IsDistance, MayBegin, AreDistancesBelow, AreDistances, count_unknown}
 
--- lists
+-- ---- lists
+
 get_set_same : {X : Type 0} → (xs : List X) (i : ℕ) (y : X) → i < length xs → slice_get (set xs i y) i ≡ Some y
 get_set_same [] i y l = absurd (omega arith)
 get_set_same (x ∷ xs) zero y l = refl
@@ -55,7 +56,8 @@ count_unknown-set (Some j ∷ far) zero k e = absurd (cc e)
 count_unknown-set (None ∷ far) (suc v) k e = let h = count_unknown-set far v k e in omega arith
 count_unknown-set (Some j ∷ far) (suc v) k e = count_unknown-set far v k e
 
--- routes
+-- ---- routes
+
 pub route_cons : (hops : List Hop) (vertex n : ℕ) (hop : Hop) (rest : List ℕ) → slice_get hops n ≡ Some hop → hop.from ≡ vertex → IsTrue hop.feasible → IsHopRoute hops hop.to rest → IsHopRoute hops vertex (n ∷ rest)
 route_cons hops vertex n hop [] e f on route = absurd route
 route_cons hops vertex n hop (m ∷ rest) e f on route = (hop, e, f, on, route)
@@ -77,21 +79,23 @@ route_parts hops vertex [] route = absurd route
 route_parts hops vertex (n ∷ []) route = record { first = n; rest = []; hop = route.0; is = refl; at = route.1; from = route.2; feasible = route.3; ends = λ e. route.4; goes = λ h. absurd (h refl) }
 route_parts hops vertex (n ∷ m ∷ rest) route = record { first = n; rest = m ∷ rest; hop = route.0; is = refl; at = route.1; from = route.2; feasible = route.3; ends = λ e. absurd (let f = ap length e in omega arith); goes = λ h. route.4 }
 
--- one distance at a vertex
+-- a vertex has one distance
 one_fewest : (hops : List Hop) (v j k : ℕ) → IsDistance hops v j → IsDistance hops v k → j ≡ k
 one_fewest hops v j k a b =
     let l = a.least b.some.0 b.some.1 in
     let m = b.least a.some.0 a.some.1 in
     omega (arith, l, m, a.some.2, b.some.2)
 
--- a hop that begins at a level begins a route with so many hops behind
+-- a hop that may begin a route of a level begins one with so many hops behind
 led : (hops : List Hop) (far : List (Option ℕ)) (level n : ℕ) (hop : Hop) → ((v k : ℕ) → slice_get far v ≡ Some (Some k) → IsDistance hops v k) → slice_get hops n ≡ Some hop → MayBegin far level hop → (route : List ℕ) × IsHopRoute hops hop.from route × (length route ≡ suc level)
 led hops far level n hop some at (inl last) = (n ∷ [], (hop, at, refl, last.1, last.2), let e = last.0 in omega arith)
 led hops far level n hop some at (inr on) =
     let next = (some hop.to on.0 on.3).some in
     (n ∷ next.0, route_cons hops hop.from n hop next.0 at refl on.2 next.1, let e = next.2 in let f = on.1 in omega arith)
 
--- marking a level
+-- ---- marking a level
+
+-- after the first j hops of a pass, from the distances at its start
 pub record MarkedSoFar (hops : List Hop) (level : ℕ) (old far : List (Option ℕ)) (j : ℕ) (changed : Bool) : Type 0 where
   pub long : length far ≡ length old
   pub kept : (v k : ℕ) → slice_get old v ≡ Some (Some k) → slice_get far v ≡ Some (Some k)
@@ -112,7 +116,7 @@ marked_start hops level old = record {
   fewer = λ e. absurd (cc e);
 }
 
--- what begins to now begins to then: what is new has this level
+-- what may begin a route by the distances now may by those at the start, since what is new has this level; and the other way
 begins_old : (hops : List Hop) (level : ℕ) (old far : List (Option ℕ)) (j : ℕ) (changed : Bool) → MarkedSoFar hops level old far j changed → (hop : Hop) → MayBegin far level hop → MayBegin old level hop
 begins_old hops level old far j changed so hop (inl last) = inl last
 begins_old hops level old far j changed so hop (inr on) = elim (so.new hop.to on.0 on.3) [
@@ -237,7 +241,7 @@ starts_below hops far none = record {
     some_hop hops v [] route = absurd route
     some_hop hops v (n ∷ rest) route = omega arith
 
--- a level that changed nothing ends it
+-- where a level changed nothing all distances are known
 pub ends_known : (hops : List Hop) (far : List (Option ℕ)) (level : ℕ) → LeadToVertices (length far) hops → AreDistancesBelow hops far level → AreDistancesBelow hops far (level + 1) → AreDistances hops far
 ends_known hops far level ends is next = record {
   some = λ v k e. (is.some v k e).1;

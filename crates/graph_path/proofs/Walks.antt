@@ -14,7 +14,7 @@ use Rattle.graph_path.specs.Routes.{IsHopRoute, IsLeastHopRoute, LeadToVertices}
 use Rattle.graph_path.specs.private.Distances.{IsDistance, MayBegin, AreDistances, IsBeginning, IsFirstBeginning}
 use Rattle.graph_path.proofs.Levels.{get_all, one_some, has_or_not, route_cons, route_parts}
 
--- a hop of a route with the fewest hops leads
+-- the first hop of a route with the fewest hops may begin one
 beginning_by : (hops : List Hop) (far : List (Option ℕ)) → AreDistances hops far → LeadToVertices (length far) hops → (v left n : ℕ) (hop : Hop) (rest : List ℕ) → IsDistance hops v left → slice_get hops n ≡ Some hop → hop.from ≡ v → IsTrue hop.feasible → (rest ≡ [] → IsTrue hop.fails) → (rest ≢ [] → IsHopRoute hops hop.to rest) → length rest ≡ left → MayBegin far left hop
 beginning_by hops far done ends v left n hop [] fewest at from feasible last goes e = inl (let f = e in omega arith, feasible, last refl)
 beginning_by hops far done ends v left n hop (m ∷ rest) fewest at from feasible last goes e =
@@ -46,7 +46,7 @@ beginning hops far done ends v left o os fewest route e =
     tails : (a b : ℕ) (xs ys : List ℕ) → (a ∷ xs) ≡ (b ∷ ys) → xs ≡ ys
     tails a b xs ys e = cc
 
--- some hop leads from a vertex with a distance
+-- from a vertex with a distance some hop may begin a route
 pub some_begins : (hops : List Hop) (far : List (Option ℕ)) → AreDistances hops far → LeadToVertices (length far) hops → (v left : ℕ) → IsDistance hops v left → (n : ℕ) × IsBeginning hops far v left n
 some_begins hops far done ends v left fewest = go fewest.some.0 fewest.some.1 fewest.some.2
   where
@@ -69,7 +69,7 @@ is_equal x y Less h e = absurd (cc e)
 is_equal x y Equal h e = h
 is_equal x y Greater h e = absurd (cc e)
 
--- the first hop that may begin a route begins the least route, where what is behind it is least among routes of its length
+-- the first such hop begins the least route, where what is behind it is least among routes of its length
 pub least_from : (hops : List Hop) (far : List (Option ℕ)) → AreDistances hops far → LeadToVertices (length far) hops → (v left n : ℕ) (rest : List ℕ) → IsDistance hops v left → IsFirstBeginning hops far v left n → IsHopRoute hops v (n ∷ rest) → length rest ≡ left
     → ((os : List ℕ) → IsHopRoute hops v (n ∷ os) → length os ≡ length rest → slice_cmp nat_cmp rest os ≢ Greater) → IsLeastHopRoute hops v (n ∷ rest)
 least_from hops far done ends v left n rest fewest first route long behind = record {
