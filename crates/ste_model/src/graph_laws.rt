@@ -1,6 +1,7 @@
 //! The laws of assertion graphs: each is the contract of a function that does nothing.
 
 ghost use Rattle.ste_model.specs.GraphFound.{GraphFindingsAreTold, GraphPassHolds, OneGraphVerdict};
+ghost use Rattle.ste_model.specs.GraphHops.{PathsAreShown};
 ghost use Rattle.ste_model.specs.GraphNeed.{GraphResultsAreFindings, OneGraphNeed};
 ghost use Rattle.ste_model.specs.GraphShown.{DueBreaksAlong, FoundHasCandidate};
 ghost use Rattle.ste_model.specs.GraphTable.{OneLeastClosed, RoundsSettle};
@@ -33,6 +34,12 @@ pub fn graph_pass_holds()
 /// What is found under an assignment has a candidate path.
 pub fn found_has_candidate()
     ensures { FoundHasCandidate }
+{}
+
+/// Where hops tell what is known of the edges under the least closed table, the path along them is the shown one; where there
+/// is none there is no candidate.
+pub fn paths_are_shown()
+    ensures { PathsAreShown }
 {}
 
 /// A printed run along a candidate path meets the antecedents, and breaks the consequents where the failure is strong.
