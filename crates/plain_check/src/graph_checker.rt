@@ -61,8 +61,10 @@ fn failure_shown(
     requires graph { IsGraphOver net.now.raw graph.now }
 
     requires table { AreStates net.now.raw graph.now table.now }
-    requires least { IsLeastClosed net.now.raw graph.now bits.now (states_of net.now.raw table.now) }
-    requires hops { AreHops net.now.raw bits.now (states_of net.now.raw table.now) graph.now.edges hops.now }
+    requires least { IsLeastClosed net.now.raw graph.now bits.now
+        (states_of net.now.raw table.now) }
+    requires hops { AreHops net.now.raw bits.now (states_of net.now.raw table.now)
+        graph.now.edges hops.now }
     ensures { IfOk result (λ shown. IsShownIf net.now.raw graph.now bits.now failure shown) }
 {
     settles(net);

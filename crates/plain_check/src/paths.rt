@@ -114,7 +114,8 @@ fn all_one_more(
 ) -> Result<Vec<Items<usize>>, AllocError>
     requires ends { All (λ hop. hop.to < length best.now) hops.now }
     ensures long { IfOk result (λ more. length more.items ≡ length best.now) }
-    ensures best { IfOk result (λ more. (how : How) (n : ℕ) → 0 < n → AreBest how hops.now n best.now →
+    ensures best { IfOk result (λ more. (how : How) (n : ℕ) → 0 < n →
+        AreBest how hops.now n best.now →
         AreBest how hops.now (n + 1) more.items) }
 {
     let mut more = Vec::new(alloc);
@@ -133,7 +134,8 @@ fn search_on(
     requires some { 0 < length best.items }
     requires ends { All (λ hop. hop.to < length best.items) hops.now }
     ensures long { IfOk result (λ more. length more.items ≡ length best.items) }
-    ensures searched { IfOk result (λ more. (how : How) (n : ℕ) → IsSearched how hops.now n best.items →
+    ensures searched { IfOk result (λ more. (how : How) (n : ℕ) →
+        IsSearched how hops.now n best.items →
         IsSearched how hops.now (n + 1) more.items) }
 {
     if 0 < best[0].len() {
@@ -154,7 +156,8 @@ pub fn shortest_path(
     requires some { 0 < vertices }
     requires few { latches * 2 + 1 < 18446744073709551616 }
     requires ends { All (λ hop. hop.to < vertices) hops.now }
-    ensures { IfOk result (λ path. IsShortest failure hops.now (vertices * (latches * 2 + 1) + 1) path) }
+    ensures { IfOk result (λ path.
+        IsShortest failure hops.now (vertices * (latches * 2 + 1) + 1) path) }
 {
     let mut best = last_hops(alloc, failure, hops, vertices)?;
     for _ in 0..vertices {
