@@ -82,9 +82,11 @@ some_verdict : (net : RawNet) (vars : ℕ) (graph : Graph) → IsSettled net →
 some_verdict net vars graph settled good =
     let s = graph_findings_are_told.strong net vars graph settled good in
     let w = graph_findings_are_told.weak net vars graph settled good in
-    let c = graph_findings_are_told.contradictory net vars graph settled good in
-    (_, verdict_from vars (IsGraphStrong net graph) (IsGraphWeak net graph) (IsGraphContradictory net graph) _ _ _
-        (tells_some vars s.0 (IsGraphStrong net graph) s.1) (tells_some vars w.0 (IsGraphWeak net graph) w.1) (tells_each vars c.0 (IsGraphContradictory net graph) c.1))
+    let c = graph_findings_are_told.contradictory net vars graph settled good in (
+      _,
+      verdict_from vars (IsGraphStrong net graph) (IsGraphWeak net graph) (IsGraphContradictory net graph) _ _ _
+          (tells_some vars s.0 (IsGraphStrong net graph) s.1) (tells_some vars w.0 (IsGraphWeak net graph) w.1) (tells_each vars c.0 (IsGraphContradictory net graph) c.1),
+    )
 
 same_verdict : (vars : ℕ) (S W C : List Bool → Type 0) (one other : Verdict) → IsVerdict vars S W C one → IsVerdict vars S W C other → one ≡ other
 same_verdict vars S W C Strong Strong a b = refl

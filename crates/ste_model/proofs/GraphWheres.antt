@@ -89,10 +89,10 @@ module _ (net : RawNet) (graph : Graph) (table : ℕ → SymbolicState) (sets : 
           λ c.
               let none = subst (λ (t : ℕ → VertexState). All (λ edge. (s : ℕ → BitSet) → ¬ IsFeasible net bits t edge s) graph.edges) (least_alike net graph bits c.0 here c.1 least) c.2 in
               not_from_false total (is_false total (λ e.
-                  let any = each.0 e in
-                  let at : Contains graph.edges any.1 = (any.0, any.2, any.3) in
-                  (none_is any.1 (All-contains (λ edge. ArePossible net (here edge.from).latches (asked_on edge bits) (sets_here edge)) graph.edges any.1 possible at)).1
-                  (All-contains (λ edge. (s : ℕ → BitSet) → ¬ IsFeasible net bits here edge s) graph.edges any.1 none at) any.4)),
+              let any = each.0 e in
+              let at : Contains graph.edges any.1 = (any.0, any.2, any.3) in
+              (none_is any.1 (All-contains (λ edge. ArePossible net (here edge.from).latches (asked_on edge bits) (sets_here edge)) graph.edges any.1 possible at)).1
+              (All-contains (λ edge. (s : ℕ → BitSet) → ¬ IsFeasible net bits here edge s) graph.edges any.1 none at) any.4)),
         )
 
     module _ (finds : SymbolicSet → Function → Function) (Says : BitSet → Bool → Type 0) (is : (w : SymbolicSet) (x : Function) → IsTrue (finds w x bits) ↔ Says (set_at bits w) (x bits)) where
