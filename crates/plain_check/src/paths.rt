@@ -156,8 +156,8 @@ pub fn shortest_path(
     requires some { 0 < vertices }
     requires few { latches * 2 + 1 < 18446744073709551616 }
     requires ends { All (λ hop. hop.to < vertices) hops.now }
-    ensures { IfOk result (λ path. IsShortest failure hops.now
-        (vertices * (latches * 2 + 1) + 1) path) }
+    ensures { IfOk result (λ path.
+        IsShortest failure hops.now (vertices * (latches * 2 + 1) + 1) path) }
 {
     let mut best = last_hops(alloc, failure, hops, vertices)?;
     for _ in 0..vertices {

@@ -53,7 +53,8 @@ fn starts(alloc: Global, net: &Net, graph: &Graph) -> Result<Vec<State>, AllocEr
     requires { IsGraph graph.now }
     ensures states { IfOk result (λ states. AreStates net.now.raw graph.now states.items) }
     ensures first { IfOk result (λ states.
-        states_of net.now.raw states.items 0 ≡ state_of net.now.raw (Some (start net.now.raw graph.now.reset))) }
+        states_of net.now.raw states.items 0
+        ≡ state_of net.now.raw (Some (start net.now.raw graph.now.reset))) }
     ensures others { IfOk result (λ states. (vertex : ℕ) →
         states_of net.now.raw states.items (suc vertex) ≡ state_of net.now.raw None) }
 {
@@ -147,7 +148,8 @@ fn follow(
     // whatever graph has these edges, and whatever table has this state at the edge's source
     ensures next { OnOk result ((graph : AGraph) (edges : List AnEdge) (table : ℕ → VertexState) →
         table edge.now.from ≡ state_of net.now.raw (Some source.now) →
-        IsNext net.now.raw (with_edges graph edges) bits.now table (states_of net.now.raw next.old.items) →
+        IsNext net.now.raw (with_edges graph edges) bits.now table
+        (states_of net.now.raw next.old.items) →
         IsNext net.now.raw (with_edges graph (edges ++ edge.now ∷ [])) bits.now table
         (states_of net.now.raw next.new.items)) }
 {
