@@ -69,16 +69,6 @@ zero_cells nets times rows e t id = ap (λ (rs : List (List Bool)). cell rs t id
     by (suc n) zero = zero_row times t
     by (suc n) (suc id) = by n id
 
--- lists of as many bits that agree at each place are one
-pub same_lists : (xs ys : List Bool) → length xs ≡ length ys → ((k : ℕ) → k < length xs → get_or xs k false ≡ get_or ys k false) → xs ≡ ys
-same_lists [] [] l same = refl
-same_lists [] (y ∷ ys) l same = absurd (omega arith)
-same_lists (x ∷ xs) [] l same = absurd (omega arith)
-same_lists (x ∷ xs) (y ∷ ys) l same =
-    let here : x ≡ y = same 0 (omega arith) in
-    let rest : xs ≡ ys = same_lists xs ys (omega arith) (λ k m. same (suc k) (omega arith)) in
-    cc
-
 pub map_same : {X : Type 0} (xs : List X) → map (λ x. x) xs ≡ xs
 map_same [] = refl
 map_same (x ∷ xs) = ap (λ ys. x ∷ ys) (map_same xs)

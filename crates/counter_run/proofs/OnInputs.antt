@@ -1,5 +1,5 @@
 -- The rows at the end are a run on the rows of inputs and free nets at the start.
-use Rattle.std.proofs.Common.{◌≡◌, ℕ, suc, ◌<◌, Bool, List, [], ◌∷◌, map, length, get_or, arith, sym, ap, refl, subst, ◌∙◌}
+use Rattle.std.proofs.Common.{◌≡◌, ℕ, suc, ◌<◌, Bool, false, List, [], ◌∷◌, map, length, get_or, arith, sym, ap, refl, subst, ◌∙◌}
 use Rattle.std.specs.Prelude.{All}
 use Rattle.ste_base.specs.declared.id.NodeId.{NodeId}
 use Rattle.net_core.specs.declared.raw.RawNet.{RawNet}
@@ -7,10 +7,11 @@ use Rattle.net_core.specs.Flat.{HasOneDriver}
 use Rattle.net_core.specs.Run.{IsRun}
 use Rattle.net_core.specs.OneRun.{IsGivenRun}
 use Rattle.ste_model.specs.declared.run.Run.{Run}
-use Rattle.counter_run.specs.Runs.{HasRows, IsRunOn}
+use Rattle.ste_model.specs.Runs.{HasRows}
+use Rattle.ste_model.proofs.RunData.{same_lists}
+use Rattle.counter_run.specs.Runs.{IsRunOn}
 use Rattle.counter_run.specs.Undriven.{undriven_nets}
 use Rattle.counter_run.specs.private.Matrix.{IsMatrix, cell}
-use Rattle.counter_run.proofs.Cells.{same_lists}
 use Rattle.counter_run.proofs.Given.{starts_are}
 use Rattle.counter_run.proofs.SourceNodes.{all_undriven, source_nodes, told}
 
@@ -37,7 +38,7 @@ run_on net times given rows inputs first run one long is m n at h =
     let none = told net id one (all_undriven net net.nets k d l) in
     let wide_rows : length (get_or rows id []) ≡ times = n.wide id [] (let t = n.tall in omega arith) in
     let wide_given : length (get_or given id []) ≡ times = m.wide id [] (let t = m.tall in omega arith) in
-    same_lists (get_or rows id []) (get_or given id []) (wide_rows ∙ sym wide_given) (λ t lt. h.sources t id (omega arith) inside none)) in
+    same_lists false (get_or rows id []) (get_or given id []) (wide_rows ∙ sym wide_given) (λ t lt. h.sources t id (omega arith) inside none)) in
     record {
       rows = has_rows net.nets times rows run long is n;
       is_run = subst (λ (rs : List (List Bool)). IsRun net times (cell rs)) (sym is) h.is_run;

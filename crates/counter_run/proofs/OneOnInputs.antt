@@ -10,9 +10,9 @@ use Rattle.net_core.specs.OneRun.{IsGivenRun}
 use Rattle.net_core.proofs.Runs.{same_run}
 use Rattle.ste_model.specs.declared.run.Run.{Run}
 use Rattle.ste_model.specs.Runs.{run_of}
+use Rattle.ste_model.proofs.RunData.{same_data}
 use Rattle.counter_run.specs.Runs.{IsRunOn, OneRunOn}
 use Rattle.counter_run.specs.Undriven.{undriven_nets}
-use Rattle.counter_run.proofs.Cells.{same_lists}
 use Rattle.counter_run.proofs.SourceNodes.{source_nodes}
 
 same_maps : {X Y : Type 0} (f g : X → Y) (xs : List X) → map f xs ≡ map g xs → All (λ x. f x ≡ g x) xs
@@ -25,20 +25,6 @@ begins bit [] [] e = tt
 begins bit [] (b ∷ first) e = absurd (cc e)
 begins bit (latch ∷ latches) [] e = absurd (cc e)
 begins bit (latch ∷ latches) (b ∷ first) e = (cc e, begins bit latches first (cc e))
-
-same_rows : (xs ys : List (List Bool)) → length xs ≡ length ys → ((k : ℕ) → k < length xs → get_or xs k [] ≡ get_or ys k []) → xs ≡ ys
-same_rows [] [] l same = refl
-same_rows [] (y ∷ ys) l same = absurd (omega arith)
-same_rows (x ∷ xs) [] l same = absurd (omega arith)
-same_rows (x ∷ xs) (y ∷ ys) l same =
-    let here : x ≡ y = same 0 (omega arith) in
-    let rest : xs ≡ ys = same_rows xs ys (omega arith) (λ k m. same (suc k) (omega arith)) in
-    cc
-
-same_fields : (n m : ℕ) (xs ys : List (List Bool)) → n ≡ m → xs ≡ ys → ◌≡◌ {A = Run} (record { length = n; rows = xs }) (record { length = m; rows = ys })
-same_fields n m xs ys e f =
-    let make : ℕ → List (List Bool) → Run = λ l rows. record { length = l; rows = rows } in
-    ap (λ l. make l xs) e ∙ ap (make m) f
 
 -- a run with given bits, over what another one has at inputs and free nets
 given_by : (net : RawNet) (times : ℕ) (inputs : List (List Bool)) (first : List Bool) (one other : Run) → HasOneDriver net → IsRunOn net times inputs first one → IsRunOn net times inputs first other → IsGivenRun net (run_of one) first times (run_of other)
@@ -54,10 +40,5 @@ given_by net times inputs first one other driver a b = record {
 
 pub one_run_on : OneRunOn
 one_run_on net driver range settled times inputs first one other a b =
-    let tall : length one.rows ≡ length other.rows = a.rows.tall ∙ sym b.rows.tall in
-    same_fields one.length other.length one.rows other.rows (a.rows.long ∙ sym b.rows.long) (same_rows one.rows other.rows tall (λ id m.
-    let ta = a.rows.tall in
-    let wide_a : length (get_or one.rows id []) ≡ times = a.rows.wide id [] m in
-    let wide_b : length (get_or other.rows id []) ≡ times = b.rows.wide id [] (omega arith) in
-    same_lists (get_or one.rows id []) (get_or other.rows id []) (wide_a ∙ sym wide_b) (λ t l.
-    same_run net range settled (run_of one) first times (run_of one) (run_of other) (given_by net times inputs first one one driver a a) (given_by net times inputs first one other driver a b) t id (omega arith) (omega arith))))
+    same_data net.nets times one other a.rows b.rows
+    (same_run net range settled (run_of one) first times (run_of one) (run_of other) (given_by net times inputs first one one driver a a) (given_by net times inputs first one other driver a b))

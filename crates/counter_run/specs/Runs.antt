@@ -4,14 +4,8 @@ use Rattle.net_core.specs.declared.raw.RawNet.{RawNet}
 use Rattle.net_core.specs.Flat.{HasOneDriver, IsInRange}
 use Rattle.net_core.specs.Run.{IsRun, IsSettled}
 use Rattle.ste_model.specs.declared.run.Run.{Run}
-use Rattle.ste_model.specs.Runs.{run_of}
+use Rattle.ste_model.specs.Runs.{HasRows, run_of}
 use Rattle.counter_run.specs.Undriven.{undriven_nets}
-
--- a row for each net, with a bit for each time
-pub record HasRows (nets times : ℕ) (run : Run) : Type 0 where
-  pub long : run.length ≡ times
-  pub tall : length run.rows ≡ nets
-  pub wide : All (λ row. length row ≡ times) run.rows
 
 -- a run with these rows of inputs and free nets, in the order of their numbers, and these first bits of the latches
 pub record IsRunOn (net : RawNet) (times : ℕ) (inputs : List (List Bool)) (first : List Bool) (run : Run) : Type 0 where

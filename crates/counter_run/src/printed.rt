@@ -1,11 +1,10 @@
 //! The run that is printed for a failure of an assertion; begin with `ste_run`.
 
 ghost use Rattle.std.specs.Prelude.{IfOk};
-ghost use Rattle.counter_run.specs.Runs.{HasRows};
+ghost use Rattle.ste_model.specs.Runs.{HasRows, run_of};
 ghost use Rattle.ste_model.specs.Asked.{cuts_at, depth};
 ghost use Rattle.ste_model.specs.Found.{IsContradictory};
 ghost use Rattle.ste_model.specs.Holds.{RunMeets};
-ghost use Rattle.ste_model.specs.Runs.{run_of};
 ghost use Rattle.ste_model.specs.Shown.{AsksOfNets, IsBindable, IsPrinted};
 ghost use Rattle.ste_model.specs.declared.task.Task.TheVariants.{Ste};
 

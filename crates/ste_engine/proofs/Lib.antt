@@ -1,10 +1,15 @@
 pub mod Asked
+pub mod Constants
 pub mod Exprs
 pub mod Family
+pub mod FirstFails
+pub mod FixedTasks
 pub mod Found
 pub mod Kept
 pub mod Lines
 pub mod Merged
+pub mod PlaceTurns
+pub mod Shows
 pub mod Times
 pub mod Turned
 pub mod Verdicts

@@ -89,11 +89,11 @@ pub record ReachedAt (net : RawNet) (task : Assertion) (table : ℕ → ℕ → 
   pub found : AreFound (strong_sum task table n) (weak_sum task table n) t r.found
   pub nets : (k id : ℕ) → k < n → id < net.nets → (rails : Rails) × AreRails t (table k id) rails
 
-held_long : (net : RawNet) (task : Assertion) (table : ℕ → ℕ → SymbolicSet) (n : ℕ) → length (latches_at net task table n) ≡ length net.latches
+pub held_long : (net : RawNet) (task : Assertion) (table : ℕ → ℕ → SymbolicSet) (n : ℕ) → length (latches_at net task table n) ≡ length net.latches
 held_long net task table zero = length-map net.latches (λ latch. constant_set (first_set task.reset latch))
 held_long net task table (suc n) = length-map net.latches (λ (latch : Latch). table n latch.input.0)
 
-zip_refs : (t : Store) (sets : List SymbolicSet) (rails : List Rails) → AllZip (AreRails t) sets rails → All (AreRefs t) rails
+pub zip_refs : (t : Store) (sets : List SymbolicSet) (rails : List Rails) → AllZip (AreRails t) sets rails → All (AreRefs t) rails
 zip_refs t [] [] h = All-nil (AreRefs t)
 zip_refs t [] (r ∷ rs) h = absurd h
 zip_refs t (w ∷ ws) [] h = absurd h

@@ -1,17 +1,17 @@
 -- From the functions of the results to the verdict, and from what calls leave to what the engine answers.
 use Rattle.std.proofs.Common.{◌≡◌, ◌≢◌, ℕ, zero, suc, ◌<◌, ◌+◌, Bool, true, false, List, [], ◌∷◌, length, arith, sym, ap, refl, subst, ◌∙◌, inl, inr, All}
-use Rattle.std.specs.Prelude.{◌⊎◌, ◌↔◌, IsTrue, IsSome}
+use Rattle.std.specs.Prelude.{◌⊎◌, IsSome}
 use Rattle.std.specs.List.{AllPairs}
 use Rattle.dd_nodes.specs.declared.node.Ref.{Ref}
 use Rattle.dd_nodes.specs.Diagram.{Function}
-use Rattle.dd_nodes.specs.Stores.{Store, function, Means}
+use Rattle.dd_nodes.specs.Stores.{Store, function}
 use Rattle.dd_nodes.specs.Spending.{Spends}
 use Rattle.dd_nodes.proofs.Spending.{too_few}
 use Rattle.dd_nodes.proofs.Stores.{IsGood}
 use Rattle.net_core.specs.declared.raw.RawNet.{RawNet}
 use Rattle.net_core.specs.Work.{SymbolicSet}
 use Rattle.ste_model.specs.declared.task.Assertion.{Assertion}
-use Rattle.ste_model.specs.Assignments.{EachAssignment, SomeAssignment}
+use Rattle.ste_model.specs.Assignments.{EachAssignment, SomeAssignment, Tells}
 use Rattle.ste_model.specs.Need.{IsNeed, IsWholeTable}
 use Rattle.ste_model.specs.Work.{task_work}
 
@@ -40,21 +40,21 @@ some_or_none zero f = by (f []) refl
         nothing (b ∷ bs) l = absurd (omega arith)
 some_or_none (suc v) f = both_halves v f (some_or_none v (λ bits. f (false ∷ bits))) (some_or_none v (λ bits. f (true ∷ bits)))
 
-module _ (t : Store) (r : Ref) (f : Function) (P : List Bool → Type 0) (m : Means t f r) (is : (bits : List Bool) → length bits ≡ t.vars → IsTrue (f bits) ↔ P bits) where
+module _ (t : Store) (r : Ref) (P : List Bool → Type 0) (is : Tells t.vars (function t r) P) where
   pub some_is : (((bits : List Bool) → length bits ≡ t.vars → function t r bits ≡ false) → ⊥) → SomeAssignment t.vars P
   some_is some = elim (some_or_none t.vars (function t r)) [
-    | inl e ↦ (e.0, e.1, (is e.0 e.1).0 (sym (m.value e.0 e.1) ∙ e.2))
+    | inl e ↦ (e.0, e.1, (is e.0 e.1).0 e.2)
     | inr none ↦ absurd (some none)
   ]
 
   pub none_is : ((bits : List Bool) → length bits ≡ t.vars → function t r bits ≡ false) → ¬ SomeAssignment t.vars P
-  none_is none some = let e : false ≡ true = sym (none some.0 some.1) ∙ m.value some.0 some.1 ∙ (is some.0 some.1).1 some.2 in absurd (cc e)
+  none_is none some = let e : false ≡ true = sym (none some.0 some.1) ∙ (is some.0 some.1).1 some.2 in absurd (cc e)
 
   pub each_is : ((bits : List Bool) → length bits ≡ t.vars → function t r bits ≡ true) → EachAssignment t.vars P
-  each_is all bits l = (is bits l).0 (sym (m.value bits l) ∙ all bits l)
+  each_is all bits l = (is bits l).0 (all bits l)
 
   pub not_each : (((bits : List Bool) → length bits ≡ t.vars → function t r bits ≡ true) → ⊥) → ¬ EachAssignment t.vars P
-  not_each some each = some (λ bits l. m.value bits l ∙ (is bits l).1 (each bits l))
+  not_each some each = some (λ bits l. (is bits l).1 (each bits l))
 
 -- where steps are out, fewer were left than the assertion needs
 pub short : (net : RawNet) (task : Assertion) (s t : Store) → IsGood t → AllPairs (λ a b. a ≢ b) t.made → All (λ r. IsSome (t.held r)) t.made

@@ -1,4 +1,6 @@
 pub mod Asks
 pub mod Finds
+pub mod Places
+pub mod Reports
 pub mod Times
 pub mod Turns

@@ -1,20 +1,21 @@
 //! The engine; begin with `check_ste`.
 
-ghost use Rattle.std.specs.Prelude.{◌≡◌, ◌≢◌, ◌<◌, ◌≤◌, ℕ, List, All, IfOk, Ok, map};
+ghost use Rattle.std.specs.Prelude.{◌≡◌, ◌≢◌, ◌<◌, ◌≤◌, ℕ, List, All, IfOk, map};
 ghost use Rattle.dd_nodes.specs.Functions.{IsCofactorOf};
 ghost use Rattle.dd_nodes.specs.Stores.{Builds, Keeps};
 ghost use Rattle.net_core.specs.Work.{SymbolicSet};
 ghost use Rattle.dual_rail.specs.Rail.{Built};
 ghost use Rattle.sym_step.specs.Step.{rows_of};
 ghost use Rattle.ste_model.specs.declared.verdict.Verdict.TheVariants.{Budget};
-ghost use Rattle.ste_model.specs.Found.{IsVerdictOf};
 ghost use Rattle.ste_model.specs.Need.{IsWholeTable, ReadBelow};
+ghost use Rattle.ste_model.specs.Report.{IsReportOf, budget_report};
 ghost use Rattle.ste_model.specs.Work.{quints_work, task_work};
 ghost use Rattle.ste_engine.specs.Engine.{IsBudget, IsKept};
 ghost use Rattle.ste_engine.specs.private.Turns.{AreResults, IsLine};
 
 use crate::asks::asks_of;
-use crate::finish::{finish, verdict_of};
+use crate::finish::finish;
+use crate::reports::{budget_report, report_of};
 use crate::results::Results;
 use crate::timeline::Timeline;
 use crate::turn::{at_start, turn};
@@ -23,7 +24,7 @@ use dd_ops::{OpFault, Ops};
 use net_core::Net;
 use std::alloc::{AllocError, Global};
 use ste_base::Time;
-use ste_model::{Assertion, Quint, Verdict, depth};
+use ste_model::{Assertion, Quint, Report, depth};
 use sym_step::GateRows;
 
 /// The references of quintuples, as a timeline before time 0.
@@ -95,32 +96,35 @@ fn results<N: Nodes>(
     finish(ops, nodes, reached.contradictory, reached.found)
 }
 
-/// The verdict of an assertion over the variables of the store, for all assignments at once. `rows` are those of the net,
-/// the task's nodes are nets of it, and its variables are below the store's.
+/// The report of an assertion over the variables of the store, for all assignments at once, with at most `cubes` cubes in
+/// each of its lists: see `Report`. `rows` are those of the net, the task's nodes are nets of it, and its variables are
+/// below the store's.
 ///
-/// `Budget` comes only where all steps are spent, and fewer were left at the start than the assertion needs. With every
-/// other verdict each node of the kept functions has a reference afterwards. Whatever the answer, each node that is made is a
-/// node of the work functions, and what was held stays.
+/// The verdict is `Budget` only where all steps are spent, and fewer were left at the start than the assertion needs; then
+/// nothing else is told. With every other verdict each node of the kept functions has a reference afterwards. Whatever the
+/// answer, each node that is made is a node of the work functions, and what was held stays.
 pub fn check_ste<N: Nodes>(
     alloc: Global,
     nodes: &mut N,
     net: &Net,
     rows: &GateRows,
     task: &Assertion,
-) -> Result<Verdict, AllocError>
+    cubes: u32,
+) -> Result<Report, AllocError>
     requires rows { rows.now.covers ≡ map rows_of net.now.raw.covers }
     requires ant { All (λ quint. quint.node.0 < net.now.raw.nets) task.now.ant }
     requires con { All (λ quint. quint.node.0 < net.now.raw.nets) task.now.con }
     requires reads_ant { ReadBelow (N.store nodes.old).vars task.now.ant }
     requires reads_con { ReadBelow (N.store nodes.old).vars task.now.con }
 
-    // The verdict is that of the definition.
-    ensures verdict { IfOk result (λ verdict. verdict ≢ Budget
-        → IsVerdictOf net.now.raw (N.store nodes.old).vars task.now verdict) }
+    // The report is that of the definition, with at most so many cubes in each list.
+    ensures report { IfOk result (λ report. report.verdict ≢ Budget
+        → IsReportOf net.now.raw (N.store nodes.old).vars cubes task.now report) }
 
-    // There is no verdict where steps were out, and they were too few.
-    ensures budget { result ≡ Ok Budget
-        → IsBudget net.now.raw task.now (N.store nodes.old) (N.store nodes.new) }
+    // There is none where steps were out, and they were too few.
+    ensures budget { IfOk result (λ report. report.verdict ≡ Budget
+        → (report ≡ budget_report task.now.name)
+        × IsBudget net.now.raw task.now (N.store nodes.old) (N.store nodes.new)) }
 
     // What was held stays, and so does the limit; only nodes of the work functions are made.
     ensures keeps { Keeps (N.store nodes.old) (N.store nodes.new) }
@@ -131,13 +135,13 @@ pub fn check_ste<N: Nodes>(
         (N.store nodes.old) (N.store nodes.new) }
 
     // The nodes of the kept functions are there.
-    ensures kept { IfOk result (λ verdict. verdict ≢ Budget
+    ensures kept { IfOk result (λ report. report.verdict ≢ Budget
         → IsKept net.now.raw task.now (N.store nodes.new)) }
 {
     let ops = Ops::new(alloc);
     match results(alloc, &ops, nodes, net, rows, task) {
-        Ok(r) => Ok(verdict_of(&ops, nodes, r)),
-        Err(OpFault::StepsOut) => Ok(Verdict::Budget),
+        Ok(r) => report_of(alloc, &ops, nodes, net, rows, task, r, cubes),
+        Err(OpFault::StepsOut) => budget_report(alloc, task),
         Err(OpFault::OutOfMemory) => Err(AllocError),
     }
 }

@@ -3,15 +3,12 @@
 ghost use Rattle.std.specs.Prelude.{◌≡◌, ℕ};
 ghost use Rattle.dd_nodes.specs.Diagram.{Function};
 ghost use Rattle.dd_nodes.specs.Stores.{IsRef, Means};
-ghost use Rattle.net_core.specs.Run.{IsSettled};
 ghost use Rattle.net_core.specs.declared.raw.RawNet.{RawNet};
-ghost use Rattle.net_core.specs.Work.{SymbolicSet};
 ghost use Rattle.ste_model.specs.declared.task.Assertion.{Assertion};
 ghost use Rattle.ste_model.specs.Found.{IsVerdictOf};
-ghost use Rattle.ste_model.specs.Need.{IsWholeTable};
 ghost use Rattle.dual_rail.specs.Rail.{Built};
 ghost use Rattle.ste_engine.specs.private.Finds.{AreFound, AreFoundRefs, AreLast, AreResultRefs, last_work};
-ghost use Rattle.ste_engine.specs.private.Turns.{AreResults};
+ghost use Rattle.ste_engine.specs.private.Reports.{TellFindings};
 
 use crate::find::but_not;
 use crate::results::{Found, Results};
@@ -42,12 +39,10 @@ pub fn finish<N: Nodes>(
     })
 }
 
-/// The verdict, from the strong, the weak and the contradictory assignments.
+/// The verdict, from the references that tell the strong, the weak and the contradictory assignments.
 pub fn verdict_of<N: Nodes>(ops: &Ops, nodes: &N, r: Results) -> Verdict
     requires { AreResultRefs (N.store nodes.now) r }
-    ensures { (net : RawNet) (task : Assertion) (table : ℕ → ℕ → SymbolicSet) → IsSettled net
-        → IsWholeTable net (N.store nodes.now).vars task table
-        → AreResults net task table (N.store nodes.now) r
+    ensures { (net : RawNet) (task : Assertion) → TellFindings (N.store nodes.now) net task r
         → IsVerdictOf net (N.store nodes.now).vars task result }
 {
     if !ops.is_false(nodes, r.strong) {

@@ -1,14 +1,18 @@
-//! The symbolic engine for assertions: the verdict of an assertion over all assignments at once, time after time, on
+//! The symbolic engine for assertions: the report of an assertion over all assignments at once, time after time, on
 //! decision diagrams. Begin with `check_ste`.
 #![tactic(auto)]
 
 mod asks;
 pub mod engine;
 mod expr;
+mod failing;
 mod find;
 mod finish;
 mod merge;
+mod place;
+mod reports;
 mod results;
+mod shown;
 mod timeline;
 mod turn;
 

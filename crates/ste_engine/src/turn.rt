@@ -43,7 +43,7 @@ fn first(reset: bool, latch: Latch) -> Rails
 }
 
 /// The first sets of the latches.
-fn first_sets(alloc: Global, net: &Net, reset: bool) -> Result<Items<Rails>, AllocError>
+pub fn first_sets(alloc: Global, net: &Net, reset: bool) -> Result<Items<Rails>, AllocError>
     ensures { IfOk result (λ sets. sets ≡ map (first_rails reset) net.now.raw.latches) }
 {
     let mut sets = Vec::new(alloc);

@@ -16,7 +16,7 @@ use std::alloc::{AllocError, Global};
 use std::test::Fail;
 use ste_base::{Items, Name, Time, VarId};
 use ste_engine::check_ste;
-use ste_model::{Assertion, Quint, Verdict};
+use ste_model::{Assertion, CubeList, Quint, Report, Run, Verdict};
 use sym_step::GateRows;
 
 /// An expression over two variables.
@@ -120,6 +120,29 @@ fn quints_of(
     Ok(quints)
 }
 
+/// The report with so many steps and at most so many cubes in each list, and how many steps were used.
+fn report_of(
+    alloc: Global,
+    ready: &Ready,
+    reset: bool,
+    ant: &[Asked],
+    con: &[Asked],
+    steps: u32,
+    cubes: u32,
+) -> Result<(Report, u32), Fail>
+    requires { steps ≤ 1000 }
+{
+    let task = Assertion {
+        name: Name::from_bytes(alloc, b"t")?,
+        reset,
+        ant: quints_of(alloc, &ready.names, ready.net.nets(), ant)?,
+        con: quints_of(alloc, &ready.names, ready.net.nets(), con)?,
+    };
+    let mut nodes = PlainNodes::new(alloc, 2, steps)?;
+    let report = check_ste(alloc, &mut nodes, &ready.net, &ready.rows, &task, cubes)?;
+    Ok((report, nodes.used()))
+}
+
 /// The verdict with so many steps, and how many of them were used.
 fn verdict_of(
     alloc: Global,
@@ -131,15 +154,8 @@ fn verdict_of(
 ) -> Result<(Verdict, u32), Fail>
     requires { steps ≤ 1000 }
 {
-    let task = Assertion {
-        name: Name::from_bytes(alloc, b"t")?,
-        reset,
-        ant: quints_of(alloc, &ready.names, ready.net.nets(), ant)?,
-        con: quints_of(alloc, &ready.names, ready.net.nets(), con)?,
-    };
-    let mut nodes = PlainNodes::new(alloc, 2, steps)?;
-    let verdict = check_ste(alloc, &mut nodes, &ready.net, &ready.rows, &task)?;
-    Ok((verdict, nodes.used()))
+    let (report, used) = report_of(alloc, ready, reset, ant, con, steps, 8)?;
+    Ok((report.verdict, used))
 }
 
 const INVERTER: &str = ".model inv\n.inputs a\n.outputs y\n.names a y\n0 1\n.end\n";
@@ -291,6 +307,292 @@ fn worked_examples_have_their_verdicts(rt: HostRuntime) -> Result<(), Fail> {
         let found = verdict_of(alloc, &ready, *reset, ant, con, 1000)?;
         assert_eq!(&rt; found.0, *verdict);
     }
+    Ok(())
+}
+
+/// The literals of cubes, by the numbers of their variables.
+type Cubes = &'static [&'static [(u32, bool)]];
+
+/// A task, and what its report has to tell: the strong, the weak and the contradictory assignments, and whether the lists
+/// have more; the least assignment, the failing place, and the run, a row for each net in the order of the netlist.
+struct Told {
+    text: &'static str,
+    reset: bool,
+    ant: &'static [Asked],
+    con: &'static [Asked],
+    max: u32,
+    verdict: Verdict,
+    strong: Cubes,
+    weak: Cubes,
+    contradictory: Cubes,
+    more: bool,
+    least: Option<&'static [bool]>,
+    fails: Option<(&'static str, Time)>,
+    run: Option<&'static [&'static [bool]]>,
+}
+
+/// The reports of worked examples, which were found by hand.
+const REPORTS: &[Told] = &[
+    // Strong under each assignment.
+    Told {
+        text: INVERTER,
+        reset: false,
+        ant: &[("a", Value::One, Value::P, 0, 1)],
+        con: &[("y", Value::One, Value::P, 0, 1)],
+        max: 8,
+        verdict: Verdict::Strong,
+        strong: &[&[]],
+        weak: &[],
+        contradictory: &[],
+        more: false,
+        least: Some(&[false, false]),
+        fails: Some(("y", 0)),
+        run: Some(&[&[false], &[true]]),
+    },
+    // Weak: no run is due.
+    Told {
+        text: INVERTER,
+        reset: false,
+        ant: &[],
+        con: &[("y", Value::One, Value::NotP, 0, 1)],
+        max: 8,
+        verdict: Verdict::Weak,
+        strong: &[],
+        weak: &[&[]],
+        contradictory: &[],
+        more: false,
+        least: Some(&[false, false]),
+        fails: Some(("y", 0)),
+        run: None,
+    },
+    // Contradictory where two variables differ.
+    Told {
+        text: INVERTER,
+        reset: false,
+        ant: &[
+            ("a", Value::One, Value::P, 0, 1),
+            ("a", Value::One, Value::Q, 0, 1),
+        ],
+        con: &[("y", Value::One, Value::NotP, 0, 1)],
+        max: 8,
+        verdict: Verdict::Pass,
+        strong: &[],
+        weak: &[],
+        contradictory: &[&[(0, false), (1, true)], &[(0, true), (1, false)]],
+        more: false,
+        least: None,
+        fails: None,
+        run: None,
+    },
+    // The same with room for one cube.
+    Told {
+        text: INVERTER,
+        reset: false,
+        ant: &[
+            ("a", Value::One, Value::P, 0, 1),
+            ("a", Value::One, Value::Q, 0, 1),
+        ],
+        con: &[("y", Value::One, Value::NotP, 0, 1)],
+        max: 1,
+        verdict: Verdict::Pass,
+        strong: &[],
+        weak: &[],
+        contradictory: &[&[(0, false), (1, true)]],
+        more: true,
+        least: None,
+        fails: None,
+        run: None,
+    },
+    // At time 1 the antecedent says nothing.
+    Told {
+        text: INVERTER,
+        reset: false,
+        ant: &[("a", Value::One, Value::P, 0, 1)],
+        con: &[("y", Value::One, Value::NotP, 0, 2)],
+        max: 8,
+        verdict: Verdict::Weak,
+        strong: &[],
+        weak: &[&[]],
+        contradictory: &[],
+        more: false,
+        least: Some(&[false, false]),
+        fails: Some(("y", 1)),
+        run: None,
+    },
+    // The antecedent asks of a gate's output, so no run is due.
+    Told {
+        text: INVERTER,
+        reset: false,
+        ant: &[("y", Value::One, Value::P, 0, 1)],
+        con: &[("y", Value::One, Value::NotP, 0, 1)],
+        max: 8,
+        verdict: Verdict::Strong,
+        strong: &[&[]],
+        weak: &[],
+        contradictory: &[],
+        more: false,
+        least: Some(&[false, false]),
+        fails: Some(("y", 0)),
+        run: None,
+    },
+    // A guard.
+    Told {
+        text: INVERTER,
+        reset: false,
+        ant: &[("a", Value::One, Value::P, 0, 1)],
+        con: &[("y", Value::P, Value::One, 0, 1)],
+        max: 8,
+        verdict: Verdict::Strong,
+        strong: &[&[(0, true)]],
+        weak: &[],
+        contradictory: &[],
+        more: false,
+        least: Some(&[true, false]),
+        fails: Some(("y", 0)),
+        run: Some(&[&[true], &[false]]),
+    },
+    // A latch begins with its initial value, and follows its input.
+    Told {
+        text: LATCH,
+        reset: true,
+        ant: &[("d", Value::One, Value::P, 0, 1)],
+        con: &[("q", Value::One, Value::NotP, 1, 2)],
+        max: 8,
+        verdict: Verdict::Strong,
+        strong: &[&[]],
+        weak: &[],
+        contradictory: &[],
+        more: false,
+        least: Some(&[false, false]),
+        fails: Some(("q", 1)),
+        run: Some(&[&[false, false], &[true, false]]),
+    },
+    // With p the output is strong and the other input is weak: such an assignment is strong alone. It is the second
+    // consequent that fails strongly.
+    Told {
+        text: AND_GATE,
+        reset: false,
+        ant: &[("a", Value::P, Value::Zero, 0, 1)],
+        con: &[
+            ("b", Value::One, Value::One, 0, 1),
+            ("y", Value::One, Value::One, 0, 1),
+        ],
+        max: 8,
+        verdict: Verdict::Strong,
+        strong: &[&[(0, true)]],
+        weak: &[&[(0, false)]],
+        contradictory: &[],
+        more: false,
+        least: Some(&[true, false]),
+        fails: Some(("y", 0)),
+        run: Some(&[&[false], &[false], &[false]]),
+    },
+    // The first time decides, and there the first consequent in text order.
+    Told {
+        text: INVERTER,
+        reset: false,
+        ant: &[("a", Value::One, Value::P, 0, 2)],
+        con: &[
+            ("y", Value::One, Value::P, 1, 2),
+            ("a", Value::One, Value::NotP, 0, 2),
+            ("y", Value::One, Value::P, 0, 1),
+        ],
+        max: 8,
+        verdict: Verdict::Strong,
+        strong: &[&[]],
+        weak: &[],
+        contradictory: &[],
+        more: false,
+        least: Some(&[false, false]),
+        fails: Some(("a", 0)),
+        run: Some(&[&[false, false], &[true, true]]),
+    },
+];
+
+/// Whether a list has these cubes.
+fn has_cubes(list: &CubeList, cubes: Cubes) -> bool {
+    list.cubes.len() == cubes.len()
+        && list
+            .cubes
+            .as_slice()
+            .iter()
+            .zip(cubes)
+            .all(|(cube, literals)| is_cube(cube.as_slice(), literals))
+}
+
+/// Whether a cube has these literals.
+fn is_cube(cube: &[(VarId, bool)], literals: &[(u32, bool)]) -> bool {
+    cube.len() == literals.len()
+        && cube
+            .iter()
+            .zip(literals)
+            .all(|(one, other)| one.0.0 == other.0 && one.1 == other.1)
+}
+
+/// Whether a run has these rows.
+fn has_rows(run: &Run, rows: &[&[bool]]) -> bool {
+    run.rows.len() == rows.len()
+        && run
+            .rows
+            .as_slice()
+            .iter()
+            .zip(rows)
+            .all(|(row, bits)| row.as_slice() == *bits)
+}
+
+#[test]
+fn worked_examples_have_their_reports(rt: HostRuntime) -> Result<(), Fail> {
+    let alloc = rt.alloc();
+    for (k, told) in REPORTS.iter().enumerate() {
+        let bytes = told.text.as_bytes();
+        if bytes.len() > 20000 {
+            return Err("a long text".into());
+        }
+        let ready = net_of(alloc, bytes)?;
+        let (report, _) = report_of(
+            alloc, &ready, told.reset, told.ant, told.con, 1000, told.max,
+        )?;
+        assert_eq!(&rt; report.name.bytes(), b"t".as_slice());
+        assert_eq!(&rt; report.verdict, told.verdict, "verdict of {k}");
+        let guards = &report.guards;
+        assert!(&rt; has_cubes(&guards.strong, told.strong), "strong of {k}");
+        assert!(&rt; has_cubes(&guards.weak, told.weak), "weak of {k}");
+        assert!(&rt;
+            has_cubes(&guards.contradictory, told.contradictory),
+            "contradictory of {k}"
+        );
+        assert_eq!(&rt; guards.contradictory.more, told.more, "more of {k}");
+        assert!(&rt; !guards.strong.more && !guards.weak.more);
+        let least = report.least.as_ref().map(|bits| bits.as_slice());
+        assert_eq!(&rt; least, told.least, "least of {k}");
+        let fails = match told.fails {
+            None => None,
+            Some((name, t)) => ready.names.resolve(name.as_bytes()).map(|node| (node, t)),
+        };
+        assert_eq!(&rt; report.fails, fails, "place of {k}");
+        assert!(&rt; report.path.as_slice().is_empty());
+        match (&report.run, told.run) {
+            (None, None) => {}
+            (Some(run), Some(rows)) => assert!(&rt; has_rows(run, rows), "run of {k}"),
+            _ => return Err("a run too many, or too few".into()),
+        }
+    }
+    Ok(())
+}
+
+/// Where the steps are spent nothing is told but the name and the verdict.
+#[test]
+fn a_budget_report_is_blank(rt: HostRuntime) -> Result<(), Fail> {
+    let alloc = rt.alloc();
+    let ready = net_of(alloc, INVERTER.as_bytes())?;
+    let given = &[("a", Value::One, Value::P, 0, 1)];
+    let claim = &[("y", Value::One, Value::P, 0, 1)];
+    let (report, used) = report_of(alloc, &ready, false, given, claim, 0, 8)?;
+    assert_eq!(&rt; used, 0);
+    assert_eq!(&rt; report.name.bytes(), b"t".as_slice());
+    assert_eq!(&rt; report.verdict, Verdict::Budget);
+    assert!(&rt; has_cubes(&report.guards.strong, &[]));
+    assert!(&rt; report.least.is_none() && report.fails.is_none() && report.run.is_none());
     Ok(())
 }
 

@@ -34,7 +34,7 @@ in_rest : {X : Type 0} (P : X → Type 0) (x : X) (xs : List X) (k : ℕ) (y : X
 in_rest P x xs zero y l e h none later = none (subst P (sym e) h)
 in_rest P x xs (suc k) y l e h none later = later (k, y, omega (arith, l), e, h)
 
-some_or_not : {X : Type 0} (P : X → Type 0) → ((x : X) → Dec (P x)) → (xs : List X) → Dec (Any P xs)
+pub some_or_not : {X : Type 0} (P : X → Type 0) → ((x : X) → Dec (P x)) → (xs : List X) → Dec (Any P xs)
 some_or_not P or_not [] = no (λ h. absurd (omega (arith, h.2)))
 some_or_not P or_not (x ∷ xs) = elim (or_not x) [
   | yes h ↦ yes (0, x, omega arith, refl, h)

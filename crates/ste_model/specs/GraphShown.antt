@@ -33,7 +33,7 @@ pub record IsCandidate (Fails : (ℕ → BitSet) → Cut → Type 0) (net : RawN
 
 -- the shown path, by the numbers of its edges: a candidate with the fewest edges, and among those with the least list of
 -- numbers
-pub record IsShown (Fails : (ℕ → BitSet) → Cut → Type 0) (net : RawNet) (graph : Graph) (bits : List Bool) (numbers : List ℕ) : Type 0 where
+pub record IsShownPath (Fails : (ℕ → BitSet) → Cut → Type 0) (net : RawNet) (graph : Graph) (bits : List Bool) (numbers : List ℕ) : Type 0 where
   pub path : List Edge
   pub are : AreNumbers graph numbers path
   pub candidate : IsCandidate Fails net graph bits path
@@ -53,7 +53,7 @@ pub record IsFirstFailing (Fails : (ℕ → BitSet) → Cut → Type 0) (sets : 
 
 -- the failing place of a path: the time of its last edge, which is the path's length without one, and the number of the
 -- first consequent of that edge, in text order, that fails so
-pub record IsFailingPlace (Fails : (ℕ → BitSet) → Cut → Type 0) (net : RawNet) (graph : Graph) (bits : List Bool) (path : List Edge) (t k : ℕ) : Type 0 where
+pub record IsPathPlace (Fails : (ℕ → BitSet) → Cut → Type 0) (net : RawNet) (graph : Graph) (bits : List Bool) (path : List Edge) (t k : ℕ) : Type 0 where
   pub table : ℕ → VertexState
   pub is_table : IsLeastClosed net graph bits table
   pub edge : Edge

@@ -48,8 +48,9 @@ fn is_quint_bindable(net: &Net, quint: &Quint) -> bool
     is_latch_output(net, quint.node)
 }
 
-/// Whether all quintuples are bindable.
-fn are_quints_bindable(net: &Net, quints: &[Quint]) -> bool
+/// Whether each quintuple asks of an input or free net, or of a latch output at time 0 alone, so that a run can be made to
+/// meet them all. It takes no memory.
+pub fn are_quints_bindable(net: &Net, quints: &[Quint]) -> bool
     requires { All (λ quint. quint.node.0 < net.now.raw.nets) quints.now }
     ensures { IsTrue result ↔ All (IsQuintBindable net.now.raw) quints.now }
 {

@@ -5,6 +5,7 @@ ghost use Rattle.ste_model.specs.Breaks.{MeetsOrBreaks};
 ghost use Rattle.ste_model.specs.Expressions.{FunctionsAreValues};
 ghost use Rattle.ste_model.specs.Found.{FindingsAreTold, OneVerdict, PassHolds};
 ghost use Rattle.ste_model.specs.Need.{OneNeed, ResultsAreFindings};
+ghost use Rattle.ste_model.specs.Report.{OneReportOf};
 ghost use Rattle.ste_model.specs.Samples.{SamplesAreCounted};
 ghost use Rattle.ste_model.specs.Table.{OneTable};
 
@@ -56,4 +57,9 @@ pub fn one_need()
 /// The work functions of an AND of two variables have 7 nodes; with a guard and a latch, over two times, they have 8.
 pub fn samples_are_counted()
     ensures { SamplesAreCounted }
+{}
+
+/// An assertion has one report at most.
+pub fn one_report_of()
+    ensures { OneReportOf }
 {}

@@ -1,0 +1,226 @@
+//! Tasks and reports as the table tells them; begin with `tasks_of` and `reports_of`.
+
+ghost use Rattle.std.specs.Prelude.{◌≡◌, ◌≤◌, ◌<◌, All, IfOk, IfSome, length};
+
+use crate::table::{List, Named, Told};
+use bool_expr::Expr;
+use std::alloc::{AllocError, Global};
+use std::test::Fail;
+use ste_base::{Items, Name, NodeId, Time, VarId};
+use ste_model::{
+    Assertion, Bind, Cube, CubeList, Edge, Graph, Guards, Quint, Report, Run, Task, Tasks,
+};
+
+/// Quintuples that name these nets.
+fn quints_of(alloc: Global, ids: &[u32]) -> Result<Items<Quint>, AllocError> {
+    let mut quints = Items::new(alloc);
+    for id in ids {
+        quints.push(Quint {
+            guard: Expr::Const(true),
+            node: NodeId(*id),
+            value: Expr::Const(false),
+            from: 0,
+            to: 1,
+        })?;
+    }
+    Ok(quints)
+}
+
+/// Bindings that name these nets.
+fn binds_of(alloc: Global, ids: &[u32]) -> Result<Items<Bind>, AllocError> {
+    let mut binds = Items::new(alloc);
+    for id in ids {
+        binds.push(Bind {
+            guard: Expr::Const(true),
+            node: NodeId(*id),
+            value: Expr::Const(false),
+        })?;
+    }
+    Ok(binds)
+}
+
+/// A task that names these nets.
+fn task_of(alloc: Global, told: &Told) -> Result<Task, AllocError> {
+    let name = Name::from_bytes(alloc, told.name.as_bytes())?;
+    match told.named {
+        Named::Ste(ant, con) => Ok(Task::Ste(Assertion {
+            name,
+            reset: false,
+            ant: quints_of(alloc, ant)?,
+            con: quints_of(alloc, con)?,
+        })),
+        Named::Gste(sides) => {
+            let mut edges = Items::new(alloc);
+            for (ant, con) in sides {
+                edges.push(Edge {
+                    from: 0,
+                    to: 0,
+                    ant: binds_of(alloc, *ant)?,
+                    con: binds_of(alloc, *con)?,
+                })?;
+            }
+            Ok(Task::Gste(Graph {
+                name,
+                reset: false,
+                vertices: Items::new(alloc),
+                edges,
+            }))
+        }
+    }
+}
+
+/// The names of these texts.
+fn names_of(alloc: Global, texts: &[&str]) -> Result<Items<Name>, AllocError> {
+    let mut names = Items::new(alloc);
+    for text in texts {
+        names.push(Name::from_bytes(alloc, text.as_bytes())?)?;
+    }
+    Ok(names)
+}
+
+/// The tasks, over these variables.
+pub fn tasks_of(alloc: Global, vars: &[&str], told: &[Told]) -> Result<Tasks, AllocError> {
+    let mut tasks = Items::new(alloc);
+    for one in told {
+        tasks.push(task_of(alloc, one)?)?;
+    }
+    Ok(Tasks {
+        vars: names_of(alloc, vars)?,
+        tasks,
+    })
+}
+
+/// The bits of a text.
+fn bits_of(alloc: Global, text: &str) -> Result<Items<bool>, AllocError> {
+    let mut bits = Items::new(alloc);
+    for byte in text.as_bytes() {
+        bits.push(*byte == b'1')?;
+    }
+    Ok(bits)
+}
+
+/// The cube of a text.
+fn cube_of(alloc: Global, text: &str) -> Result<Cube, AllocError> {
+    let mut cube = Items::new(alloc);
+    for (place, byte) in text.as_bytes().iter().enumerate() {
+        if *byte != b'-' {
+            cube.push((VarId(place as u32), *byte == b'1'))?;
+        }
+    }
+    Ok(cube)
+}
+
+/// The cubes of a list.
+fn list_of(alloc: Global, list: &List) -> Result<CubeList, AllocError> {
+    let mut cubes = Items::new(alloc);
+    for text in list.0 {
+        cubes.push(cube_of(alloc, *text)?)?;
+    }
+    Ok(CubeList {
+        cubes,
+        more: list.1,
+    })
+}
+
+/// A run of these rows, which are at most so many.
+fn run_of(alloc: Global, nets: u32, texts: &[&str]) -> Result<Run, Fail>
+    ensures { IfOk result (λ run. length run.rows ≤ nets) }
+{
+    let mut rows = Items::new(alloc);
+    for text in texts {
+        rows.push(bits_of(alloc, *text)?)?;
+    }
+    if rows.len() > nets as usize {
+        return Err("more rows than nets".into());
+    }
+    Ok(Run { length: 0, rows })
+}
+
+/// The run that is told, if one is.
+fn told_run(
+    alloc: Global,
+    nets: u32,
+    texts: Option<&'static [&'static str]>,
+) -> Result<Option<Run>, Fail>
+    ensures { IfOk result (λ told. IfSome told (λ run. length run.rows ≤ nets)) }
+{
+    match texts {
+        Some(rows) => {
+            let run = run_of(alloc, nets, rows)?;
+            Ok(Some(run))
+        }
+        None => Ok(None),
+    }
+}
+
+/// The failing place that is told, if one is.
+fn told_place(nets: u32, place: Option<(u32, u32)>) -> Result<Option<(NodeId, Time)>, Fail>
+    ensures { IfOk result (λ told. IfSome told (λ place. place.0.0 < nets)) }
+{
+    let Some((id, time)) = place else {
+        return Ok(None);
+    };
+    if id < nets {
+        Ok(Some((NodeId(id), time)))
+    } else {
+        Err("no net".into())
+    }
+}
+
+/// The least assignment that is told, if one is.
+fn told_least(
+    alloc: Global,
+    least: Option<&'static str>,
+) -> Result<Option<Items<bool>>, AllocError> {
+    match least {
+        Some(text) => {
+            let bits = bits_of(alloc, text)?;
+            Ok(Some(bits))
+        }
+        None => Ok(None),
+    }
+}
+
+/// The report of a task over so many nets.
+pub fn report_of(alloc: Global, nets: u32, told: &Told) -> Result<Report, Fail>
+    ensures fails { IfOk result (λ report. IfSome report.fails (λ place. place.0.0 < nets)) }
+    ensures rows { IfOk result (λ report. IfSome report.run (λ run. length run.rows ≤ nets)) }
+{
+    let mut path = Items::new(alloc);
+    for edge in told.path {
+        path.push(*edge)?;
+    }
+    let guards = Guards {
+        strong: list_of(alloc, &told.lists.0)?,
+        weak: list_of(alloc, &told.lists.1)?,
+        contradictory: list_of(alloc, &told.lists.2)?,
+    };
+    let name = Name::from_bytes(alloc, told.name.as_bytes())?;
+    let least = told_least(alloc, told.least)?;
+    let fails = told_place(nets, told.fails)?;
+    let run = told_run(alloc, nets, told.run)?;
+    Ok(Report {
+        name,
+        verdict: told.verdict,
+        guards,
+        least,
+        path,
+        fails,
+        run,
+    })
+}
+
+/// The reports of tasks over so many nets.
+pub fn reports_of(alloc: Global, nets: u32, told: &[Told]) -> Result<Items<Report>, Fail>
+    ensures fails { IfOk result (λ reports.
+        All (λ report. IfSome report.fails (λ place. place.0.0 < nets)) reports) }
+    ensures rows { IfOk result (λ reports.
+        All (λ report. IfSome report.run (λ run. length run.rows ≤ nets)) reports) }
+{
+    let mut reports = Items::new(alloc);
+    for one in told {
+        let report = report_of(alloc, nets, one)?;
+        reports.push(report)?;
+    }
+    Ok(reports)
+}

@@ -1,0 +1,35 @@
+use Rattle.std.proofs.Common.{sym, ◌∙◌, subst}
+use Rattle.dd_nodes.specs.Stores.{Store, function}
+use Rattle.net_core.specs.declared.raw.RawNet.{RawNet}
+use Rattle.ste_model.specs.declared.task.Assertion.{Assertion}
+use Rattle.ste_model.specs.Found.{IsVerdictOf}
+use Rattle.ste_engine.specs.declared.results.Results.{Results}
+use Rattle.ste_engine.specs.private.Reports.{IsFailureOf}
+use Rattle.ste_engine.proofs.reports.report_of.Goals as goal
+
+pub shown_of-requires-clause-judged : goal.shown_of-requires-clause-judged
+shown_of-requires-clause-judged g c =
+    let net : RawNet = c.args.net.now.raw in
+    let task : Assertion = c.args.task.now in
+    subst (λ (x : Store). IsVerdictOf net x.vars task c.verdict_of-verdict.result) (sym c.in_ok-guards.ensures.store) (c.verdict_of-verdict.ensures net task c.requires.told)
+
+pub returns-clause-report : goal.returns-clause-report
+returns-clause-report g c =
+    let net : RawNet = c.args.net.now.raw in
+    let task : Assertion = c.args.task.now in
+    let s : Store = g.N.Nodes.store c.args.nodes.now in
+    let r : Results = c.args.r in
+    let told = c.requires.told in
+    let guards = c.in_ok-guards.ensures.guards in
+    let shown = c.in_ok-shown.shown in
+    let failure : IsFailureOf net s.vars task c.verdict_of-verdict.result shown.least shown.fails shown.run = subst (λ (x : Store). IsFailureOf net x.vars task c.verdict_of-verdict.result shown.least shown.fails shown.run) c.in_ok-guards.ensures.store c.in_ok-shown.ensures.shown in
+    record {
+      named = c.in_ok-name.ensures ∙ c.bytes.ensures;
+      judged = c.verdict_of-verdict.ensures net task told;
+      strong = (function s r.strong, told.strong, guards.strong);
+      weak = (function s r.weak, told.weak, guards.weak);
+      contradictory = (function s r.contradictory, told.contradictory, guards.contradictory);
+      shown = failure.shown;
+      path = c.new.ensures;
+      run = failure.run;
+    }

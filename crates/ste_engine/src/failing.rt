@@ -1,0 +1,50 @@
+//! How a consequent fails where all references are constants; begin with `first_failing`.
+
+ghost use Rattle.std.specs.Prelude.{◌≡◌, ◌<◌, All, length};
+ghost use Rattle.ste_engine.specs.private.Places.{fails, first_failing};
+
+use dd_nodes::Ref;
+use dual_rail::Rails;
+use ste_base::NodeId;
+use sym_step::Cut;
+
+/// How a consequent fails: its net can only have the opposite bit, or can have both.
+#[derive(Clone, Copy, Debug, PartialEq, Eq, Drop)]
+pub enum Failure {
+    Strong,
+    Weak,
+}
+
+/// Whether a consequent fails so on a set of its net.
+fn fails(failure: Failure, r: Rails, c: Cut) -> bool
+    ensures { result ≡ fails failure r c }
+{
+    let can0 = r.can0 == Ref::TRUE;
+    let can1 = r.can1 == Ref::TRUE;
+    if c.guard != Ref::TRUE {
+        return false;
+    }
+    match failure {
+        Failure::Strong => {
+            if c.value == Ref::TRUE {
+                can0 && !can1
+            } else {
+                can1 && !can0
+            }
+        }
+        Failure::Weak => can0 && can1,
+    }
+}
+
+/// The net of the first consequent that fails so, on the sets of all nets.
+pub fn first_failing(failure: Failure, nets: &[Rails], cuts: &[Cut]) -> Option<NodeId>
+    requires { All (λ c. c.node.0 < length nets.now) cuts.now }
+    ensures { result ≡ first_failing failure nets.now cuts.now }
+{
+    for c in cuts {
+        if fails(failure, nets[c.node.0 as usize], *c) {
+            return Some(c.node);
+        }
+    }
+    None
+}

@@ -1,0 +1,119 @@
+//! Where an assertion fails under one assignment; begin with `failing_place`.
+
+ghost use Rattle.std.specs.Prelude.{◌≡◌, ◌<◌, ◌≤◌, All, IfOk, map};
+ghost use Rattle.sym_step.specs.Step.{rows_of};
+ghost use Rattle.ste_model.specs.Found.{IsFound};
+ghost use Rattle.ste_model.specs.Report.{IsFailingPlace};
+ghost use Rattle.ste_engine.specs.private.Places.{FailsBy, MakesNothing, constant_ref, fixed_ask, fixed_asks};
+ghost use Rattle.ste_engine.specs.private.Times.{IsTimeline};
+
+use crate::asks::Ask;
+use crate::failing::{Failure, first_failing};
+use crate::timeline::Timeline;
+use crate::turn::first_sets;
+use bool_expr::value;
+use dd_nodes::{Nodes, Ref};
+use dd_ops::{OpFault, Ops};
+use net_core::Net;
+use std::alloc::{AllocError, Global};
+use ste_base::{NodeId, Time};
+use ste_model::{Assertion, Quint, depth};
+use sym_step::{Cut, GateRows, step};
+
+/// The constant of a bit.
+fn constant(bit: bool) -> Ref
+    ensures { result ≡ constant_ref bit }
+{
+    if bit { Ref::TRUE } else { Ref::FALSE }
+}
+
+/// What a quintuple asks under an assignment, by constants.
+fn fixed_ask(quint: &Quint, bits: &[bool], place: usize) -> Ask
+    ensures { result ≡ fixed_ask bits.now place quint.now }
+{
+    Ask {
+        cut: Cut {
+            node: quint.node,
+            guard: constant(value(&quint.guard, bits)),
+            value: constant(value(&quint.value, bits)),
+        },
+        from: quint.from,
+        to: quint.to,
+        place,
+    }
+}
+
+/// The same of all quintuples, in order.
+fn fixed_asks(alloc: Global, quints: &[Quint], bits: &[bool]) -> Result<Vec<Ask>, AllocError>
+    ensures { IfOk result (λ asks. asks.items ≡ fixed_asks bits.now 0 quints.now) }
+{
+    let mut asks = Vec::with_capacity(alloc, quints.len())?;
+    for k in 0..quints.len() {
+        asks.push(fixed_ask(&quints[k], bits, k))?;
+    }
+    Ok(asks)
+}
+
+/// What quintuples ask under an assignment, as a timeline before time 0.
+fn fixed_line(
+    alloc: Global,
+    quints: &[Quint],
+    bits: &[bool],
+    depth: Time,
+) -> Result<Timeline, AllocError>
+    requires { All (λ quint. quint.to ≤ depth) quints.now }
+    ensures { IfOk result (λ line. IsTimeline (fixed_asks bits.now 0 quints.now) depth 0 line) }
+{
+    let asks = fixed_asks(alloc, quints, bits)?;
+    Timeline::of(alloc, asks.as_slice(), depth)
+}
+
+/// The net of the first consequent that fails so under an assignment, and the time step: the least at which any does. Each
+/// time is done once more, with constants in the place of guards and values, so that no node is made.
+pub fn failing_place<N: Nodes>(
+    alloc: Global,
+    ops: &Ops,
+    nodes: &mut N,
+    net: &Net,
+    rows: &GateRows,
+    task: &Assertion,
+    bits: &[bool],
+    failure: Failure,
+) -> Result<(NodeId, Time), AllocError>
+    requires rows { rows.now.covers ≡ map rows_of net.now.raw.covers }
+    requires ant { All (λ quint. quint.node.0 < net.now.raw.nets) task.now.ant }
+    requires con { All (λ quint. quint.node.0 < net.now.raw.nets) task.now.con }
+    requires found { IsFound (FailsBy failure) net.now.raw task.now bits.now }
+    ensures place { IfOk result (λ place.
+        IsFailingPlace (FailsBy failure) net.now.raw task.now bits.now place) }
+    ensures same { MakesNothing (N.store nodes.old) (N.store nodes.new) }
+{
+    let depth = depth(task);
+    let mut ant = fixed_line(alloc, task.ant.as_slice(), bits, depth)?;
+    let mut con = fixed_line(alloc, task.con.as_slice(), bits, depth)?;
+    let mut latches = first_sets(alloc, net, task.reset)?;
+    for t in 0..depth {
+        let asked = ant.cuts_at(alloc, t)?;
+        let wanted = con.cuts_at(alloc, t)?;
+        let made = match step(
+            alloc,
+            ops,
+            nodes,
+            net,
+            rows,
+            latches.as_slice(),
+            asked.as_slice(),
+        ) {
+            Ok(made) => made,
+            Err(OpFault::OutOfMemory) => return Err(AllocError),
+            // Nothing has to be made, so no step is wanted.
+            Err(OpFault::StepsOut) => unreachable!(),
+        };
+        if let Some(node) = first_failing(failure, made.nets.as_slice(), wanted.as_slice()) {
+            return Ok((node, t));
+        }
+        latches = made.next;
+    }
+    // Some consequent fails so at some time below the depth.
+    unreachable!()
+}

@@ -1,0 +1,147 @@
+//! What a failure shows; begin with `shown_of`.
+
+ghost use Rattle.std.specs.Prelude.{◌≡◌, ◌<◌, All, IfOk, Some, map};
+ghost use Rattle.dd_nodes.specs.Stores.{IsRef, function};
+ghost use Rattle.sym_step.specs.Step.{rows_of};
+ghost use Rattle.ste_model.specs.Assignments.{SomeAssignment, Tells};
+ghost use Rattle.ste_model.specs.Found.{IsStrong, IsVerdictOf};
+ghost use Rattle.ste_model.specs.Report.{IsShown};
+ghost use Rattle.ste_engine.specs.private.Places.{FailsBy, IsFoundBy, MakesNothing};
+ghost use Rattle.ste_engine.specs.private.Reports.{IsFailureOf, IsRunDue, TellFindings};
+
+use crate::failing::Failure;
+use crate::place::failing_place;
+use crate::results::Results;
+use counter_run::ste_run;
+use dd_nodes::{Nodes, Ref};
+use dd_ops::Ops;
+use dd_query::least;
+use net_core::Net;
+use std::alloc::{AllocError, Global};
+use ste_base::{Items, NodeId, Time};
+use ste_model::{Assertion, Run, Verdict, are_quints_bindable};
+use sym_step::GateRows;
+
+/// The least assignment that is strong, or weak, and the failing place under it.
+#[derive(Debug, Drop)]
+struct LeastFailure {
+    bits: Items<bool>,
+    place: (NodeId, Time),
+}
+
+/// What a failure shows: the least assignment, the failing place under it, and the run where one is due. Where there is no
+/// failure all is None.
+#[derive(Debug, Drop)]
+pub struct Shown {
+    pub least: Option<Items<bool>>,
+    pub fails: Option<(NodeId, Time)>,
+    pub run: Option<Run>,
+}
+
+/// The least of the assignments that a reference tells, of which there is one, and the failing place under it.
+fn least_failure<N: Nodes>(
+    alloc: Global,
+    ops: &Ops,
+    nodes: &mut N,
+    net: &Net,
+    rows: &GateRows,
+    task: &Assertion,
+    found: Ref,
+    failure: Failure,
+) -> Result<LeastFailure, AllocError>
+    requires rows { rows.now.covers ≡ map rows_of net.now.raw.covers }
+    requires ant { All (λ quint. quint.node.0 < net.now.raw.nets) task.now.ant }
+    requires con { All (λ quint. quint.node.0 < net.now.raw.nets) task.now.con }
+    requires held { IsRef (N.store nodes.old) found }
+
+    // The reference tells the assignments that are so, and there is one.
+    requires told { Tells (N.store nodes.old).vars (function (N.store nodes.old) found)
+        (IsFoundBy failure net.now.raw task.now) }
+    requires some { SomeAssignment (N.store nodes.old).vars
+        (IsFoundBy failure net.now.raw task.now) }
+
+    ensures shown { IfOk result (λ least. IsShown (IsFoundBy failure net.now.raw task.now)
+        (FailsBy failure) net.now.raw (N.store nodes.old).vars task.now
+        (Some least.bits) (Some least.place)) }
+    ensures same { MakesNothing (N.store nodes.old) (N.store nodes.new) }
+{
+    let bits = match least(alloc, nodes, found)? {
+        Some(bits) => bits,
+        None => unreachable!(),
+    };
+    let place = failing_place(alloc, ops, nodes, net, rows, task, bits.as_slice(), failure)?;
+    Ok(LeastFailure { bits, place })
+}
+
+/// The printed run under a strong assignment, where the antecedent is bindable.
+fn run_due(
+    alloc: Global,
+    net: &Net,
+    task: &Assertion,
+    bits: &[bool],
+) -> Result<Option<Run>, AllocError>
+    requires ant { All (λ quint. quint.node.0 < net.now.raw.nets) task.now.ant }
+    requires strong { IsStrong net.now.raw task.now bits.now }
+    ensures { IfOk result (λ run. IsRunDue net.now.raw task.now bits.now run) }
+{
+    if !are_quints_bindable(net, task.ant.as_slice()) {
+        return Ok(None);
+    }
+    let run = ste_run(alloc, net, task, bits)?;
+    Ok(Some(run))
+}
+
+/// What a failure shows, from the verdict and the references that tell the findings.
+pub fn shown_of<N: Nodes>(
+    alloc: Global,
+    ops: &Ops,
+    nodes: &mut N,
+    net: &Net,
+    rows: &GateRows,
+    task: &Assertion,
+    r: Results,
+    verdict: Verdict,
+) -> Result<Shown, AllocError>
+    requires rows { rows.now.covers ≡ map rows_of net.now.raw.covers }
+    requires ant { All (λ quint. quint.node.0 < net.now.raw.nets) task.now.ant }
+    requires con { All (λ quint. quint.node.0 < net.now.raw.nets) task.now.con }
+    requires told { TellFindings (N.store nodes.old) net.now.raw task.now r }
+    requires judged { IsVerdictOf net.now.raw (N.store nodes.old).vars task.now verdict }
+    ensures shown { IfOk result (λ shown. IsFailureOf net.now.raw (N.store nodes.old).vars task.now
+        verdict shown.least shown.fails shown.run) }
+    ensures same { MakesNothing (N.store nodes.old) (N.store nodes.new) }
+{
+    match verdict {
+        Verdict::Strong => {
+            let first = least_failure(
+                alloc,
+                ops,
+                nodes,
+                net,
+                rows,
+                task,
+                r.strong,
+                Failure::Strong,
+            )?;
+            let run = run_due(alloc, net, task, first.bits.as_slice())?;
+            Ok(Shown {
+                least: Some(first.bits),
+                fails: Some(first.place),
+                run,
+            })
+        }
+        Verdict::Weak => {
+            let first = least_failure(alloc, ops, nodes, net, rows, task, r.weak, Failure::Weak)?;
+            Ok(Shown {
+                least: Some(first.bits),
+                fails: Some(first.place),
+                run: None,
+            })
+        }
+        _ => Ok(Shown {
+            least: None,
+            fails: None,
+            run: None,
+        }),
+    }
+}
