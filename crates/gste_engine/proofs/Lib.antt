@@ -1,0 +1,5 @@
+pub mod CutLists
+pub mod EdgeParts
+pub mod GatedSets
+pub mod Lists
+pub mod Turning
