@@ -22,24 +22,23 @@ use ste_engine::shared::first_sets;
 use ste_model::Graph;
 
 /// No bit for any latch.
-fn no_sets(alloc: Global, net: &Net) -> Result<Items<Rails>, AllocError>
-    ensures { IfOk result (λ sets. sets ≡ map (λ latch. no_rails) net.now.raw.latches) }
+fn no_sets(alloc: Global, net: &Net) -> Result<Vec<Rails>, AllocError>
+    ensures { IfOk result (λ sets. sets.items ≡ map (λ latch. no_rails) net.now.raw.latches) }
 {
-    let mut sets = Vec::new(alloc);
-    for _ in net.latches() {
-        sets.push(Rails {
+    net.latches()
+        .iter()
+        .map(|_| Rails {
             can0: Ref::FALSE,
             can1: Ref::FALSE,
-        })?;
-    }
-    Ok(Items::from(sets))
+        })
+        .collect(alloc)
 }
 
 /// What a table says of a vertex that is not reached under any assignment.
 fn unreached(alloc: Global, net: &Net) -> Result<State, AllocError>
     ensures { IfOk result (λ state. state ≡ unreached net.now.raw) }
 {
-    let latches = no_sets(alloc, net)?;
+    let latches = Items::from(no_sets(alloc, net)?);
     Ok(State {
         reached: Ref::FALSE,
         latches,
