@@ -163,7 +163,9 @@ module _ (net : RawNet) (pre post : List SymbolicState) (y : SymbolicState) (lon
         | inr e ↦ Contains-append_right (sums (zeros_of (latch_in l all_of))) (sums (ones_of (latch_in l all_of))) f (subst (λ (h : Function). Contains (sums (ones_of (latch_in l all_of))) h) e one_has)
       ]))
     where
+      at : ((get_or before.latches l no_set).zero ≡ whole disjunction (get_or (never_state net).latches l no_set).zero (zeros_of (latch_in l pre))) × ((get_or before.latches l no_set).one ≡ whole disjunction (get_or (never_state net).latches l no_set).one (ones_of (latch_in l pre)))
       at = latch_is net l (never_state net) pre lt (never_long net) longs
+
       split : latch_in l all_of ≡ latch_in l pre ++ get_or y.latches l no_set ∷ latch_in l post
       split = map-append (λ (x : SymbolicState). get_or x.latches l no_set) pre (y ∷ post)
 

@@ -1,3 +1,4 @@
+pub mod Arrivals
 pub mod Comings
 pub mod CutLists
 pub mod EdgeParts
@@ -5,4 +6,5 @@ pub mod GatedSets
 pub mod Joins
 pub mod Lists
 pub mod Sets
+pub mod StateRefs
 pub mod Turning
