@@ -1,3 +1,4 @@
+pub mod AllGiven
 pub mod Arrivals
 pub mod Comings
 pub mod CutLists
@@ -5,6 +6,7 @@ pub mod EdgeParts
 pub mod GatedSets
 pub mod Joins
 pub mod Lists
+pub mod NextSums
 pub mod Sets
 pub mod StateRefs
 pub mod Turning

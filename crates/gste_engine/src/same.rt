@@ -20,6 +20,13 @@ fn same_sets(one: &[Rails], other: &[Rails]) -> bool
     true
 }
 
+/// Whether two states have the same references.
+fn same_state(one: &State, other: &State) -> bool
+    ensures { IsTrue result → one.now ≡ other.now }
+{
+    one.reached == other.reached && same_sets(one.latches.as_slice(), other.latches.as_slice())
+}
+
 /// Whether two tables have the same references, vertex by vertex.
 pub fn same_table(one: &[State], other: &[State]) -> bool
     ensures { IsTrue result → one.now ≡ other.now }
@@ -28,10 +35,7 @@ pub fn same_table(one: &[State], other: &[State]) -> bool
         return false;
     }
     for k in 0..one.len() {
-        if one[k].reached != other[k].reached {
-            return false;
-        }
-        if !same_sets(one[k].latches.as_slice(), other[k].latches.as_slice()) {
+        if !same_state(&one[k], &other[k]) {
             return false;
         }
     }
