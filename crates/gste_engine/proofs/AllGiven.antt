@@ -85,18 +85,26 @@ abbrev pub ArePossibleOn : ℕ → RawNet → (ℕ → SymbolicState) → (Edge 
 ArePossibleOn vars net states sets edges = All (λ edge. ArePossibleEach vars net (states edge.from).latches (symbolic_asked_on edge) (sets edge)) edges
 
 module _ (net : RawNet) (states : ℕ → SymbolicState) (sets : Edge → ℕ → SymbolicSet) (edges : List Edge) (table givens : List State) (s t u : Store) (k : ℕ) (edge : Edge) (source : State) (gs : IsGood s) (gt : IsGood t) (gu : IsGood u) (lt : k < length edges) (is : edge ≡ get_or edges k edge) (inside : edge.from < length table) (is_source : source ≡ get_or table edge.from source) (has : HasStates states (length table) s table) (possible : ArePossibleOn s.vars net states sets edges) (keeps : Keeps s t) (p : GivenSoFar net states sets edges s t k givens) where
+  -- the call, and what it leaves
+  pub edge_call : (result : Result EdgeFound OpFault)
+      → ((r : Function) (ls : List SymbolicSet) (family : ℕ → SymbolicSet) → Means t r source.reached → AllZip (AreRails t) ls source.latches → ArePossibleEach t.vars net ls (symbolic_asked_on edge) family
+      → Built (edge_work net edge (record { reached = r; latches = ls }) family) (IsEdgeFound net (record { reached = r; latches = ls }) family) t u result)
+      → Built (edge_work net edge (states edge.from) (sets edge)) (IsEdgeFound net (states edge.from) (sets edge)) t u result
+  edge_call result call =
+      let x : SymbolicState = states edge.from in
+      let h : IsState t x source = State-keeps s t x source gs gt keeps (subst (λ (r : State). IsState s x r) (sym is_source) (has.each edge.from source inside)) in
+      let family = subst (λ (e : Edge). ArePossibleEach s.vars net (states e.from).latches (symbolic_asked_on e) (sets e)) (sym is) (possible k edge lt) in
+      call x.reached x.latches (sets edge) h.reached h.latches (subst (λ v. ArePossibleEach v net x.latches (symbolic_asked_on edge) (sets edge)) (sym keeps.vars) family)
+
   pub edge_turn : (result : Result EdgeFound OpFault)
       → ((r : Function) (ls : List SymbolicSet) (family : ℕ → SymbolicSet) → Means t r source.reached → AllZip (AreRails t) ls source.latches → ArePossibleEach t.vars net ls (symbolic_asked_on edge) family
       → Built (edge_work net edge (record { reached = r; latches = ls }) family) (IsEdgeFound net (record { reached = r; latches = ls }) family) t u result)
       → Built (edges_work net states sets edges) (IsEdgeFound net (states edge.from) (sets edge)) s u result
   edge_turn result call =
       let x : SymbolicState = states edge.from in
-      let h : IsState t x source = State-keeps s t x source gs gt keeps (subst (λ (r : State). IsState s x r) (sym is_source) (has.each edge.from source inside)) in
-      let family = subst (λ (e : Edge). ArePossibleEach s.vars net (states e.from).latches (symbolic_asked_on e) (sets e)) (sym is) (possible k edge lt) in
       let within : Within (edge_work net edge x (sets edge)) (edges_work net states sets edges) =
       λ f c. flat_has (λ (e : Edge). edge_work net e (states e.from) (sets e)) edges k edge lt f (subst (λ (e : Edge). Contains (edge_work net e (states e.from) (sets e)) f) is c) in
-      turned (edges_work net states sets edges) (edge_work net edge x (sets edge)) (IsEdgeFound net x (sets edge)) s t u result gt gu within p.so
-      (call x.reached x.latches (sets edge) h.reached h.latches (subst (λ v. ArePossibleEach v net x.latches (symbolic_asked_on edge) (sets edge)) (sym keeps.vars) family))
+      turned (edges_work net states sets edges) (edge_work net edge x (sets edge)) (IsEdgeFound net x (sets edge)) s t u result gt gu within p.so (edge_call result call)
 
   pub edge_fit : (found : EdgeFound) (given : State) → Keeps t u → IsEdgeFound net (states edge.from) (sets edge) u found → given.reached ≡ found.feasible → given.latches ≡ found.next
       → AllZip (λ e r. IsState u (given_of net states sets e) r) (take (k + 1) edges) (givens ++ given ∷ [])

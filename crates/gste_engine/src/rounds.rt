@@ -49,8 +49,9 @@ fn all_given<N: Nodes>(
     settles(net);
     let mut givens = Vec::new(alloc);
     for k in 0..edges.len() {
-        let source = &table[edges[k].from as usize];
-        let found = edge_found(alloc, nodes, net, rows, &edges[k], source)?;
+        let edge = &edges[k];
+        let source = &table[edge.from as usize];
+        let found = edge_found(alloc, nodes, net, rows, edge, source)?;
         let given = State {
             reached: found.feasible,
             latches: found.next,

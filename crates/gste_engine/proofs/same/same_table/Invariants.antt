@@ -1,5 +1,4 @@
 use Rattle.std.proofs.Common.{◌≡◌, take}
-use Rattle.gste_engine.proofs.NextSums.{sums_next}
 use Rattle.gste_engine.proofs.same.same_table.Given as goal
 
 -- the first states are the same
