@@ -113,7 +113,7 @@ chain_at f (x ∷ fs) gs h =
     let rest = chain_at (disjunction f x) fs gs h in
     (suc rest.0, let lt = rest.1 in omega arith, rest.2)
 
-through : (F : ℕ → List Function) (n m : ℕ) → n < m → Within (F n) (over_times F m)
+pub through : (F : ℕ → List Function) (n m : ℕ) → n < m → Within (F n) (over_times F m)
 through F n zero lt f h = absurd (omega arith)
 through F n (suc m) lt f h = elim (cases_lt n m) [
   | inl before ↦ Contains-append_left (over_times F m) (F m) f (through F n m (omega arith) f h)

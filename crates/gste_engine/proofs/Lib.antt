@@ -7,6 +7,8 @@ pub mod GatedSets
 pub mod Joins
 pub mod Lists
 pub mod NextSums
+pub mod NextTables
+pub mod RoundParts
 pub mod Sets
 pub mod StateRefs
 pub mod Turning

@@ -89,7 +89,7 @@ fn round<N: Nodes>(
 {
     settles(net);
     let givens = all_given(alloc, nodes, net, rows, graph.edges.as_slice(), table)?;
-    summed(alloc, nodes, net, graph, &givens)
+    summed(alloc, nodes, net, graph, givens.as_slice())
 }
 
 /// A table after some rounds, and whether one of them changed nothing.
