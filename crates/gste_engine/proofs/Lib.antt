@@ -11,4 +11,5 @@ pub mod NextTables
 pub mod RoundParts
 pub mod Sets
 pub mod StateRefs
+pub mod Starts
 pub mod Turning

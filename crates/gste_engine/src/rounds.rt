@@ -124,8 +124,8 @@ fn more_rounds<N: Nodes>(
     settles(net);
     let mut table = before;
     for _ in 0..count {
-        let next = round(alloc, nodes, net, rows, graph, &table)?;
-        let settled = same_table(&table, &next);
+        let next = round(alloc, nodes, net, rows, graph, table.as_slice())?;
+        let settled = same_table(table.as_slice(), next.as_slice());
         table = next;
         if settled {
             return Ok(Progress {
@@ -171,8 +171,9 @@ pub fn settle<N: Nodes>(
     };
     for _ in 0..graph.vertices.len() {
         let progress = more_rounds(alloc, nodes, net, rows, graph, table, each)?;
+        let settled = progress.settled;
         table = progress.table;
-        if progress.settled {
+        if settled {
             return Ok(Items::from(table));
         }
     }
