@@ -1,9 +1,11 @@
-use Rattle.std.proofs.Common.{◌≡◌, ◌+◌, ◌*◌, ◌<◌, ◌≤◌, ℕ, suc, Bool, true, false, List, length, get_or, refl, sym, ◌∙◌, ap, subst, arith, All, Ok, Err, Vec, Global}
+use Rattle.std.proofs.Common.{◌≡◌, ◌+◌, ◌*◌, ◌<◌, ◌≤◌, ℕ, suc, Bool, true, false, List, length, get_or, refl, sym, ◌∙◌, ap, subst, arith, All, Ok, Err, Result, Vec, Global}
 use Rattle.dd_nodes.specs.Diagram.{Function}
 use Rattle.dd_nodes.specs.Stores.{Store}
 use Rattle.dd_nodes.proofs.Stores.{Keeps-refl, Keeps-trans}
 use Rattle.dual_rail.specs.Rail.{Built}
 use Rattle.dual_rail.proofs.Works.{Built-lost, Built-made, So-start, first, last, more, pass}
+use Rattle.dd_ops.specs.declared.fault.OpFault.{OpFault}
+use Rattle.net_core.specs.declared.raw.Latch.{Latch}
 use Rattle.net_core.specs.declared.raw.RawNet.{RawNet}
 use Rattle.net_core.specs.Run.{IsSettled}
 use Rattle.net_core.specs.Work.{SymbolicSet}
@@ -23,6 +25,11 @@ use Rattle.gste_engine.proofs.rounds.settle.Goals as goal
 
 abbrev IsLast : RawNet → Graph → (ℕ → ℕ → SymbolicState) → Store → List State → Type 0
 IsLast net graph tables t rs = HasStates (tables (enough net graph)) (length graph.vertices) t rs
+
+-- what is promised of a group of rounds
+abbrev Promises : RawNet → Graph → List State → Store → Store → Result Progress OpFault → List Latch → Type 0
+Promises net graph table t u result latches = (tables : ℕ → ℕ → SymbolicState) (sets : ℕ → Edge → ℕ → SymbolicSet) (n : ℕ) → AreWholeRounds net t.vars graph tables sets → n + (length latches * 2 + 1) ≤ enough net graph → HasStates (tables n) (length graph.vertices) t table
+    → Built (rounds_work net graph tables sets) (IsProgress net graph tables (n + (length latches * 2 + 1))) t u result
 
 last_of : (net : RawNet) (graph : Graph) (tables : ℕ → ℕ → SymbolicState) (u : Store) (progress : Progress) (m : ℕ) → m ≡ enough net graph → IsProgress net graph tables m u progress → (d : Bool) → progress.settled ≡ d → IsLast net graph tables u progress.table.items
 last_of net graph tables u progress m is h true e = h.done e
@@ -64,7 +71,7 @@ loop-preserved g c =
     let w = whole_exists net s.vars graph settled in
     let q = p.so w.0 w.1 w.2 in
     let progress : Progress = c.in_ok-progress.progress in
-    let keeps = (c.in_ok-progress.ensures w.0 w.1 (i * e) (subst (λ v. AreWholeRounds net v graph w.0 w.1) (sym p.keeps.vars) w.2) within q.has).spends.keeps in
+    let keeps = ((subst (Promises net graph table t u (Ok c.in_ok-progress.progress)) c.latches.ensures c.in_ok-progress.ensures) w.0 w.1 (i * e) (subst (λ v. AreWholeRounds net v graph w.0 w.1) (sym p.keeps.vars) w.2) within q.has).spends.keeps in
     record {
       keeps = Keeps-trans s t u p.keeps keeps;
       so = λ tables sets whole.
@@ -73,7 +80,7 @@ loop-preserved g c =
           let there : AreWholeRounds net t.vars graph tables sets = subst (λ v. AreWholeRounds net v graph tables sets) (sym p.keeps.vars) whole in
           let Good : Store → Progress → Type 0 = IsProgress net graph tables (i * e + e) in
           let progress : Progress = c.in_ok-progress.progress in
-          let b : Built work Good t u (Ok progress) = c.in_ok-progress.ensures tables sets (i * e) there within q.has in
+          let b : Built work Good t u (Ok progress) = (subst (Promises net graph table t u (Ok c.in_ok-progress.progress)) c.latches.ensures c.in_ok-progress.ensures) tables sets (i * e) there within q.has in
           let so = more work Good s t u (Ok progress) gt gu q.so b in
           record { so = so; has = subst (λ m. HasStates (tables m) (length graph.vertices) u progress.table.items) (next_group i e) (b.ok.more c.if-settled.false) };
     }
@@ -100,7 +107,7 @@ returns-in_err-progress g c = λ tables sets whole.
     let there : AreWholeRounds net t.vars graph tables sets = subst (λ v. AreWholeRounds net v graph tables sets) (sym p.keeps.vars) whole in
     let Good : Store → Progress → Type 0 = IsProgress net graph tables (i * e + e) in
     let fault = c.in_err-progress.field-0.0 in
-    pass work Good (IsLast net graph tables) s t u fault c.from_residual.result gt gu q.so (c.in_err-progress.ensures tables sets (i * e) there within q.has) c.from_residual.ensures.1
+    pass work Good (IsLast net graph tables) s t u fault c.from_residual.result gt gu q.so ((subst (Promises net graph table t u (Err fault)) c.latches.ensures c.in_err-progress.ensures) tables sets (i * e) there within q.has) c.from_residual.ensures.1
 
 pub returns-then-settled : goal.returns-then-settled
 returns-then-settled g c = λ tables sets whole.
@@ -124,7 +131,7 @@ returns-then-settled g c = λ tables sets whole.
     let there : AreWholeRounds net t.vars graph tables sets = subst (λ v. AreWholeRounds net v graph tables sets) (sym p.keeps.vars) whole in
     let Good : Store → Progress → Type 0 = IsProgress net graph tables (i * e + e) in
     let progress : Progress = c.in_ok-progress.progress in
-    let b : Built work Good t u (Ok progress) = c.in_ok-progress.ensures tables sets (i * e) there within q.has in
+    let b : Built work Good t u (Ok progress) = (subst (Promises net graph table t u (Ok c.in_ok-progress.progress)) c.latches.ensures c.in_ok-progress.ensures) tables sets (i * e) there within q.has in
     let so = more work Good s t u (Ok progress) gt gu q.so b in
     Built-made work (IsLast net graph tables) s u c.from.result so (subst (λ (rs : List State). IsLast net graph tables u rs) (sym {A = List State} c.from.ensures) (b.ok.done c.if-settled.true))
 
