@@ -1,5 +1,5 @@
 -- What each edge gives, one edge after another.
-use Rattle.std.proofs.Common.{◌≡◌, ℕ, zero, suc, ◌+◌, ◌<◌, ◌≤◌, Bool, List, [], ◌∷◌, ◌++◌, length, take, get_or, map, refl, sym, ◌∙◌, ap, subst, arith, Result, All, Contains, inl, inr}
+use Rattle.std.proofs.Common.{◌≡◌, ℕ, zero, suc, ◌+◌, ◌<◌, ◌≤◌, List, [], ◌∷◌, ◌++◌, length, take, get_or, refl, sym, ◌∙◌, ap, subst, arith, Result, All, Contains, inl, inr}
 use Rattle.std.specs.List.{AllZip, flat_map}
 use Rattle.std.proofs.lemmas.Bool.{cases_lt}
 use Rattle.std.proofs.lemmas.List.{get_or_default, length-map, take_more}
@@ -24,7 +24,7 @@ use Rattle.gste_engine.specs.private.Sums.{never_state, unreached}
 use Rattle.gste_engine.proofs.Arrivals.{never_is}
 use Rattle.gste_engine.proofs.Comings.{never_long}
 use Rattle.gste_engine.proofs.Lists.{zip_push, zip_right, zip_weaker}
-use Rattle.gste_engine.proofs.StateRefs.{State-keeps, StateRefs-keep, own_is, own_long, own_state, state_refs}
+use Rattle.gste_engine.proofs.StateRefs.{State-keeps, own_is, own_long, own_state, state_refs}
 use Rattle.gste_engine.proofs.Turning.{turned}
 
 abbrev pub given_of : RawNet → (ℕ → SymbolicState) → (Edge → ℕ → SymbolicSet) → Edge → SymbolicState

@@ -1,11 +1,9 @@
 -- One edge after another is summed.
-use Rattle.std.proofs.Common.{◌≡◌, ◌≢◌, ℕ, zero, suc, ◌+◌, ◌<◌, Bool, true, false, List, [], ◌∷◌, length, take, get_or, map, set, replicate, refl, ne_eqb, ◌++◌, sym, ◌∙◌, ap, subst, arith, Result, All}
+use Rattle.std.proofs.Common.{◌≡◌, ℕ, zero, suc, ◌+◌, ◌<◌, Bool, List, [], ◌∷◌, length, take, get_or, map, set, replicate, refl, ne_eqb, ◌++◌, sym, ◌∙◌, ap, subst, arith, Result, All}
 use Rattle.std.specs.List.{AllZip}
 use Rattle.std.specs.Prelude.{if◌then◌else◌}
 use Rattle.std.proofs.Math.Decide.{ℕ_discrete}
 use Rattle.std.proofs.lemmas.List.{get_or-replicate, get_or-set_other, get_or-set_same, length-map, length-replicate, length-set}
-use Rattle.std.proofs.lemmas.List.Elements.{All-set}
-use Rattle.dd_nodes.specs.Diagram.{Function}
 use Rattle.dd_nodes.specs.Stores.{Store, Keeps}
 use Rattle.dd_nodes.proofs.Spending.{one_means, zero_means}
 use Rattle.dd_nodes.proofs.Stores.{IsGood}
@@ -20,12 +18,11 @@ use Rattle.ste_model.specs.declared.task.Edge.{Edge}
 use Rattle.ste_model.specs.declared.task.Graph.{Graph}
 use Rattle.ste_model.specs.GraphWork.{SymbolicState, start_state}
 use Rattle.ste_model.specs.Work.{constant_set}
-use Rattle.dual_rail.specs.declared.rails.Rails.{Rails}
 use Rattle.dual_rail.specs.Rail.{AreRails, Built}
 use Rattle.dual_rail.proofs.Turns.{zip_at, zip_long}
-use Rattle.dual_rail.proofs.Works.{SoFar, refs_of}
+use Rattle.dual_rail.proofs.Works.{SoFar}
 use Rattle.gste_engine.specs.declared.state.State.{State}
-use Rattle.gste_engine.specs.Tables.{AreStateRefs, HasStates, IsState}
+use Rattle.gste_engine.specs.Tables.{AreStateRefs, IsState}
 use Rattle.gste_engine.specs.private.Sums.{arrivals_work, begun, coming, never_state, no_rails, state_functions, summed_at, unreached, with_state, with_states}
 use Rattle.gste_engine.proofs.Comings.{IsLong, arrival_in, coming_other, coming_this, with_states_push}
 use Rattle.gste_engine.proofs.Sets.{no_set, unions_none}

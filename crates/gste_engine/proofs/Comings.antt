@@ -15,7 +15,7 @@ use Rattle.ste_model.specs.declared.task.Graph.{Graph}
 use Rattle.ste_model.specs.GraphWork.{SymbolicState, latch_in, ones_of, reached_in, start_state, vertex_work, zeros_of}
 use Rattle.ste_model.specs.Work.{constant_set, over_times}
 use Rattle.dual_rail.proofs.Works.{Within}
-use Rattle.gste_engine.specs.private.Sums.{arrivals_work, coming, never_state, state_functions, summed_at, unions, with_state, with_states}
+use Rattle.gste_engine.specs.private.Sums.{arrivals_work, coming, never_state, state_functions, summed_at, with_state, with_states}
 use Rattle.gste_engine.proofs.Lists.{unions_long}
 use Rattle.gste_engine.proofs.Sets.{IsOfUnion, no_set, none_at, unions_at, unions_find}
 

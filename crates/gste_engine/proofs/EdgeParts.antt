@@ -1,7 +1,6 @@
 -- One edge: the functions of each part are among those of the whole.
-use Rattle.std.proofs.Common.{◌≡◌, ℕ, List, ◌∷◌, ◌++◌, map, refl, sym, subst, arith, Contains}
+use Rattle.std.proofs.Common.{ℕ, ◌∷◌, refl, arith, Contains}
 use Rattle.std.proofs.lemmas.List.Elements.{Contains-append_left, Contains-append_right}
-use Rattle.dd_nodes.specs.Diagram.{Function}
 use Rattle.net_core.specs.declared.raw.RawNet.{RawNet}
 use Rattle.net_core.specs.Work.{SymbolicSet, negation, some_empty, time_work}
 use Rattle.ste_model.specs.declared.task.Edge.{Edge}

@@ -1,5 +1,5 @@
 -- Sets where a function is 1, one after another; and what an edge gives by them.
-use Rattle.std.proofs.Common.{◌≡◌, ℕ, ◌+◌, ◌<◌, List, [], ◌∷◌, ◌++◌, length, take, get_or, map, refl, sym, ◌∙◌, ap, subst, arith, Result, Contains}
+use Rattle.std.proofs.Common.{◌≡◌, ℕ, ◌+◌, ◌<◌, List, [], ◌∷◌, ◌++◌, length, take, get_or, map, refl, sym, ap, subst, arith, Result}
 use Rattle.std.specs.List.{AllZip}
 use Rattle.std.proofs.lemmas.List.{map_more}
 use Rattle.dd_nodes.specs.declared.node.Ref.{Ref}
@@ -8,13 +8,12 @@ use Rattle.dd_nodes.specs.Stores.{Store, Keeps, Means}
 use Rattle.dd_nodes.proofs.Stores.{IsGood, Means-keeps}
 use Rattle.dd_ops.specs.declared.fault.OpFault.{OpFault}
 use Rattle.net_core.specs.declared.raw.Latch.{Latch}
-use Rattle.net_core.specs.declared.raw.RawNet.{RawNet}
 use Rattle.net_core.specs.Work.{SymbolicSet, everything}
-use Rattle.ste_model.specs.GraphWork.{SymbolicState, feasible_where, gated_set, given_by, sets_functions}
+use Rattle.ste_model.specs.GraphWork.{gated_set, sets_functions}
 use Rattle.dual_rail.specs.declared.rails.Rails.{Rails}
 use Rattle.dual_rail.specs.Rail.{AreRails, Built, HasSet}
 use Rattle.dual_rail.proofs.Turns.{Zip-keep, zip_at, zip_long}
-use Rattle.dual_rail.proofs.Works.{Rails-keep, SoFar, Within}
+use Rattle.dual_rail.proofs.Works.{Rails-keep, SoFar}
 use Rattle.gste_engine.specs.private.Given.{gated_sets}
 use Rattle.gste_engine.proofs.Lists.{gated_has, zip_push}
 use Rattle.gste_engine.proofs.Turning.{turned}

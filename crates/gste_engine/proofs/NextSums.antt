@@ -1,5 +1,5 @@
 -- The sums of what comes to each vertex are, under each assignment, the table of the next round.
-use Rattle.std.proofs.Common.{◌≡◌, ◌≢◌, ℕ, zero, suc, ◌+◌, ◌<◌, Bool, true, false, not, List, [], ◌∷◌, ◌++◌, length, take, drop, get_or, map, filter, refl, sym, ◌∙◌, ap, subst, arith, Contains, All, inl, inr}
+use Rattle.std.proofs.Common.{◌≡◌, ℕ, suc, ◌<◌, Bool, true, false, not, List, [], ◌∷◌, ◌++◌, length, take, drop, get_or, map, filter, refl, sym, ◌∙◌, ap, subst, arith, All}
 use Rattle.std.specs.Prelude.{◌==◌, ◌&&◌, ◌||◌, IsTrue, if◌then◌else◌}
 use Rattle.std.specs.List.{AllZip}
 use Rattle.std.proofs.lemmas.Bool.{and_from, and_parts, both_ways, eqb-true, not-true, not_from_false, or_left, or_right}
@@ -16,7 +16,7 @@ use Rattle.net_core.proofs.Possible.{itself, one_family}
 use Rattle.ste_model.specs.declared.task.Edge.{Edge}
 use Rattle.ste_model.specs.declared.task.Graph.{Graph}
 use Rattle.ste_model.specs.Edges.{asked_on}
-use Rattle.ste_model.specs.GraphTable.{IsFeasible, IsNext, IsReachedWith, IsStateWithin, IsTableWithin, Takes, VertexState}
+use Rattle.ste_model.specs.GraphTable.{IsFeasible, IsNext, IsReachedWith, IsStateWithin, Takes, VertexState}
 use Rattle.ste_model.specs.GraphWork.{SymbolicState, feasible_where, gated_set, given_by, start_state, state_at}
 use Rattle.ste_model.specs.Work.{constant_set}
 use Rattle.ste_model.proofs.Rounds.{state_trans}

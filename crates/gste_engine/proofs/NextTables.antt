@@ -1,5 +1,5 @@
 -- From the table of one round to that of the next, and from one that does not change to the one that settles.
-use Rattle.std.proofs.Common.{◌≡◌, ℕ, suc, ◌+◌, ◌<◌, Bool, false, List, [], ◌∷◌, length, get_or, map, replicate, refl, sym, ◌∙◌, ap, subst, arith, All, Result, Vec, Global}
+use Rattle.std.proofs.Common.{◌≡◌, ℕ, suc, ◌<◌, Bool, false, List, [], ◌∷◌, length, get_or, map, replicate, refl, sym, ◌∙◌, ap, subst, arith, Result, Vec, Global}
 use Rattle.std.specs.List.{AllZip}
 use Rattle.std.proofs.lemmas.List.{length-replicate}
 use Rattle.dd_nodes.specs.Diagram.{Function}
@@ -18,7 +18,7 @@ use Rattle.ste_model.specs.declared.task.Edge.{Edge}
 use Rattle.ste_model.specs.declared.task.Graph.{Graph}
 use Rattle.ste_model.specs.Edges.{IsGraph, bind_at, bind_cuts}
 use Rattle.ste_model.specs.GraphNeed.{AreWholeRounds}
-use Rattle.ste_model.specs.GraphTable.{AreRounds, IsLeastClosed, IsReachedWith, VertexState, enough}
+use Rattle.ste_model.specs.GraphTable.{IsLeastClosed, IsReachedWith, VertexState, enough}
 use Rattle.ste_model.specs.GraphWork.{SymbolicState, state_at, symbolic_binds}
 use Rattle.ste_model.proofs.Rounds.{below, long, same_least, settle_all, states_alike}
 use Rattle.dual_rail.specs.declared.rails.Rails.{Rails}

@@ -1,5 +1,5 @@
 -- Before the first round; and how many rounds there are.
-use Rattle.std.proofs.Common.{◌≡◌, ℕ, suc, ◌+◌, ◌-◌, ◌*◌, ◌<◌, ◌≤◌, Bool, false, List, [], ◌∷◌, length, get_or, map, replicate, refl, sym, ◌∙◌, ap, subst, arith, All}
+use Rattle.std.proofs.Common.{◌≡◌, ℕ, ◌+◌, ◌-◌, ◌*◌, ◌<◌, ◌≤◌, Bool, false, List, [], ◌∷◌, length, map, replicate, refl, sym, ◌∙◌, ap, subst, arith, All}
 use Rattle.std.proofs.lemmas.List.{get_or-replicate, length-map, length-replicate}
 use Rattle.std.proofs.lemmas.List.Elements.{All-head, All-tail}
 use Rattle.dd_nodes.specs.Stores.{Store}
@@ -13,7 +13,7 @@ use Rattle.net_core.specs.Work.{SymbolicSet, set_at}
 use Rattle.ste_model.specs.declared.task.Edge.{Edge}
 use Rattle.ste_model.specs.declared.task.Graph.{Graph}
 use Rattle.ste_model.specs.GraphNeed.{AreWholeRounds}
-use Rattle.ste_model.specs.GraphTable.{VertexState, enough}
+use Rattle.ste_model.specs.GraphTable.{VertexState}
 use Rattle.ste_model.specs.GraphWork.{SymbolicState, state_at}
 use Rattle.ste_model.proofs.GraphNeeds.{one_graph_need}
 use Rattle.ste_model.proofs.Rounds.{long}

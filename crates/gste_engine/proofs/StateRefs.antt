@@ -1,6 +1,5 @@
 -- States by references: what is held stays, and each has its own functions.
-use Rattle.std.proofs.Common.{◌≡◌, ℕ, ◌<◌, List, length, get_or, map, sym, ◌∙◌, ap, subst, arith, All}
-use Rattle.std.specs.List.{AllZip}
+use Rattle.std.proofs.Common.{◌≡◌, ℕ, List, length, get_or, map, sym, ◌∙◌, All}
 use Rattle.std.proofs.lemmas.List.{length-map}
 use Rattle.dd_nodes.specs.Stores.{Store, Keeps, function}
 use Rattle.dd_nodes.proofs.Spending.{own}

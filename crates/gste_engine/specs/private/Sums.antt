@@ -1,7 +1,6 @@
 -- For private functions. What comes to each vertex, one edge after another.
-use Rattle.std.specs.Prelude.{◌≡◌, ◌==◌, ℕ, Bool, List, [], ◌∷◌, ◌++◌, filter, if◌then◌else◌, length, map, replicate, set}
+use Rattle.std.specs.Prelude.{◌==◌, ℕ, Bool, List, [], ◌∷◌, ◌++◌, filter, if◌then◌else◌, length, map, replicate, set}
 use Rattle.dd_nodes.specs.Diagram.{Function}
-use Rattle.net_core.specs.declared.raw.Latch.{Latch}
 use Rattle.net_core.specs.declared.raw.RawNet.{RawNet}
 use Rattle.net_core.specs.Work.{SymbolicSet, disjunction, never, union}
 use Rattle.dual_rail.specs.declared.rails.Rails.{Rails}

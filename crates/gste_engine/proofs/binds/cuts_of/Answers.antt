@@ -4,7 +4,6 @@ use Rattle.std.specs.Prelude.{◌&&◌, IsTrue}
 use Rattle.std.proofs.lemmas.List.{map_more, take_all}
 use Rattle.dd_nodes.specs.Stores.{Store}
 use Rattle.net_core.specs.Work.{SymbolicCut}
-use Rattle.dual_rail.specs.Rail.{Built}
 use Rattle.dual_rail.proofs.Works.{Built-lost, Built-made, So-start, Within, first, pass}
 use Rattle.ste_model.specs.declared.task.Bind.{Bind}
 use Rattle.ste_model.specs.Expressions.{reads}

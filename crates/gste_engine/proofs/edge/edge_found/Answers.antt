@@ -1,4 +1,4 @@
-use Rattle.std.proofs.Common.{◌≡◌, ◌∙◌, ap, ℕ, List, length, map, sym, subst, All, Ok, Err, Vec, Global}
+use Rattle.std.proofs.Common.{◌∙◌, ap, List, length, sym, subst, All, Ok, Err, Vec, Global}
 use Rattle.std.specs.List.{AllZip}
 use Rattle.dd_nodes.specs.Diagram.{Function}
 use Rattle.dd_nodes.specs.Stores.{Store}
@@ -15,7 +15,6 @@ use Rattle.dual_rail.proofs.Works.{Built-wider, So-start, first, last, more, pas
 use Rattle.sym_step.specs.declared.cut.Cut.{Cut}
 use Rattle.sym_step.specs.declared.made.Step.{Step}
 use Rattle.sym_step.specs.Step.{IsCutBy, IsCutOf, IsStep}
-use Rattle.gste_engine.specs.declared.edge.EdgeFound.{EdgeFound}
 use Rattle.gste_engine.specs.declared.state.State.{State}
 use Rattle.gste_engine.specs.Tables.{IsEdgeFound}
 use Rattle.gste_engine.specs.private.Given.{given_work}

@@ -1,14 +1,13 @@
-use Rattle.std.proofs.Common.{◌≡◌, ℕ, List, map, refl, sym, subst, All, Contains, Ok, Err}
+use Rattle.std.proofs.Common.{List, map, sym, subst, Contains, Ok, Err}
 use Rattle.std.specs.List.{AllZip}
 use Rattle.dd_nodes.specs.Diagram.{Function}
-use Rattle.dd_nodes.specs.Stores.{Store, IsRef}
-use Rattle.dd_nodes.proofs.Stores.{Keeps-trans, Means-keeps}
-use Rattle.dd_nodes.proofs.Walks.{IsFrom-grows}
+use Rattle.dd_nodes.specs.Stores.{Store}
+use Rattle.dd_nodes.proofs.Stores.{Means-keeps}
 use Rattle.net_core.specs.Work.{SymbolicSet, negation, some_empty}
-use Rattle.ste_model.specs.GraphWork.{feasible_where, given_by, sets_functions}
+use Rattle.ste_model.specs.GraphWork.{feasible_where, sets_functions}
 use Rattle.dual_rail.specs.declared.rails.Rails.{Rails}
-use Rattle.dual_rail.specs.Rail.{AreRails, AreRefs, Built, HasFunction}
-use Rattle.dual_rail.proofs.Turns.{All-refs-keep, Zip-keep}
+use Rattle.dual_rail.specs.Rail.{AreRails, Built, HasFunction}
+use Rattle.dual_rail.proofs.Turns.{Zip-keep}
 use Rattle.dual_rail.proofs.Works.{Built-made, Built-wider, Rails-keep, So-start, and_built, first, more, not_built, pass}
 use Rattle.sym_step.specs.Step.{rails_at}
 use Rattle.gste_engine.specs.Tables.{IsEdgeFound}

@@ -6,7 +6,7 @@ use Rattle.net_core.specs.Work.{conjunction}
 use Rattle.ste_model.specs.GraphWork.{gated_set, sets_functions}
 use Rattle.dual_rail.specs.declared.rails.Rails.{Rails}
 use Rattle.dual_rail.specs.Rail.{Built, HasFunction, HasSet}
-use Rattle.dual_rail.proofs.Works.{Built-made, Rails-keep, So-start, and_built, first, more, pass}
+use Rattle.dual_rail.proofs.Works.{Built-made, So-start, and_built, first, more, pass}
 use Rattle.gste_engine.proofs.gate.gated.Goals as goal
 
 pub returns-in_err-can0 : goal.returns-in_err-can0

@@ -1,4 +1,4 @@
-use Rattle.std.proofs.Common.{◌≡◌, ◌+◌, ◌<◌, ◌∷◌, ◌++◌, [], length, map, get_or, sym, subst, arith, List, Ok, Err, take}
+use Rattle.std.proofs.Common.{◌≡◌, ◌+◌, ◌<◌, [], length, get_or, sym, subst, arith, List, Ok, Err, take}
 use Rattle.std.specs.List.{AllZip}
 use Rattle.std.proofs.lemmas.List.{get_or_default, take_all}
 use Rattle.dd_nodes.specs.Diagram.{Function}
@@ -14,7 +14,7 @@ use Rattle.dual_rail.proofs.Turns.{Refs-keep, zip_long}
 use Rattle.dual_rail.proofs.Works.{Built-lost, Built-made, So-start, first, own_set, pass, set_where}
 use Rattle.gste_engine.specs.private.Given.{gated_sets}
 use Rattle.gste_engine.specs.private.Sums.{no_rails}
-use Rattle.gste_engine.proofs.GatedSets.{GatedSoFar, gated_fit, gated_turn, this}
+use Rattle.gste_engine.proofs.GatedSets.{gated_fit, gated_turn, this}
 use Rattle.gste_engine.proofs.gate.gated_all.Goals as goal
 
 pub loop-k-init : goal.loop-k-init

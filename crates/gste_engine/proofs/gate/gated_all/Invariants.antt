@@ -1,4 +1,4 @@
-use Rattle.std.proofs.Common.{List, All}
+use Rattle.std.proofs.Common.{List}
 use Rattle.std.specs.List.{AllZip}
 use Rattle.dd_nodes.specs.Diagram.{Function}
 use Rattle.dd_nodes.specs.Stores.{Keeps, Means}

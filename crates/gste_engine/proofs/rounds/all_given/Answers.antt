@@ -1,4 +1,4 @@
-use Rattle.std.proofs.Common.{◌≡◌, ◌+◌, ◌<◌, ◌∷◌, ◌++◌, [], ℕ, List, length, get_or, take, refl, sym, ◌∙◌, ap, subst, arith, All, Ok, Err, Vec, Global}
+use Rattle.std.proofs.Common.{◌≡◌, ◌+◌, ◌<◌, [], ℕ, List, length, get_or, take, refl, sym, subst, arith, Ok, Err, Vec, Global}
 use Rattle.std.specs.List.{AllZip}
 use Rattle.std.proofs.lemmas.List.{take_all}
 use Rattle.dd_nodes.specs.Diagram.{Function}
@@ -16,7 +16,7 @@ use Rattle.gste_engine.specs.declared.edge.EdgeFound.{EdgeFound}
 use Rattle.gste_engine.specs.declared.state.State.{State}
 use Rattle.gste_engine.specs.Tables.{AreStateRefs, IsEdgeFound, IsEdgeOver, IsState}
 use Rattle.gste_engine.specs.private.Rounds.{edges_work}
-use Rattle.gste_engine.proofs.AllGiven.{GivenSoFar, edge_fit, edge_turn, given_of, own_has, own_possible, own_sets, own_table, edge_call}
+use Rattle.gste_engine.proofs.AllGiven.{edge_fit, edge_turn, given_of, own_has, own_possible, own_sets, own_table, edge_call}
 use Rattle.gste_engine.proofs.StateRefs.{StateRefs-keep}
 use Rattle.gste_engine.proofs.rounds.all_given.Goals as goal
 

@@ -1,25 +1,20 @@
-use Rattle.std.proofs.Common.{◌≡◌, ◌+◌, ◌<◌, ◌≤◌, ℕ, suc, Bool, true, false, List, length, get_or, refl, sym, ◌∙◌, ap, subst, arith, All, Ok, Err, Vec, Global}
+use Rattle.std.proofs.Common.{◌≡◌, ◌+◌, ◌<◌, ℕ, suc, true, false, List, length, sym, ◌∙◌, ap, subst, arith, All, Ok, Err, Vec, Global}
 use Rattle.dd_nodes.specs.Diagram.{Function}
 use Rattle.dd_nodes.specs.Stores.{Store}
 use Rattle.dd_nodes.proofs.Stores.{Keeps-refl, Keeps-trans}
-use Rattle.dual_rail.specs.Rail.{Built}
 use Rattle.dual_rail.proofs.Works.{Built-made, So-start, first, pass}
 use Rattle.net_core.specs.declared.raw.RawNet.{RawNet}
 use Rattle.net_core.specs.Run.{IsSettled}
-use Rattle.net_core.specs.Work.{SymbolicSet}
 use Rattle.net_core.proofs.Ordered.{settled_by_order}
-use Rattle.ste_model.specs.declared.task.Edge.{Edge}
 use Rattle.ste_model.specs.declared.task.Graph.{Graph}
 use Rattle.ste_model.specs.GraphTable.{enough}
-use Rattle.ste_model.specs.GraphWork.{SymbolicState}
-use Rattle.gste_engine.specs.declared.rounds.Progress.{Progress}
 use Rattle.gste_engine.specs.declared.state.State.{State}
 use Rattle.gste_engine.specs.Tables.{AreStateRefs, HasStates, IsGraphOver, rounds_work}
 use Rattle.gste_engine.specs.private.Rounds.{IsProgress}
 use Rattle.gste_engine.specs.private.Sums.{summed_at}
 use Rattle.gste_engine.proofs.AllGiven.{given_of, own_has, own_possible, own_sets, own_table}
 use Rattle.gste_engine.proofs.NextSums.{all_sums_long}
-use Rattle.gste_engine.proofs.NextTables.{GivesNext, IsTableAt, RoundsSoFar, early, round_turn}
+use Rattle.gste_engine.proofs.NextTables.{GivesNext, IsTableAt, early, round_turn}
 use Rattle.gste_engine.proofs.StateRefs.{States-keep, states_refs}
 use Rattle.gste_engine.proofs.rounds.more_rounds.Goals as goal
 

@@ -1,9 +1,9 @@
-use Rattle.std.proofs.Common.{◌≡◌, ◌+◌, ◌*◌, ◌<◌, ◌≤◌, ℕ, suc, Bool, true, false, List, length, get_or, refl, sym, ◌∙◌, ap, subst, arith, All, Ok, Err, Result, Vec, Global}
+use Rattle.std.proofs.Common.{◌≡◌, ◌+◌, ◌*◌, ◌<◌, ◌≤◌, ℕ, Bool, true, false, List, length, refl, sym, subst, arith, Ok, Err, Result}
 use Rattle.dd_nodes.specs.Diagram.{Function}
 use Rattle.dd_nodes.specs.Stores.{Store}
 use Rattle.dd_nodes.proofs.Stores.{Keeps-refl, Keeps-trans}
 use Rattle.dual_rail.specs.Rail.{Built}
-use Rattle.dual_rail.proofs.Works.{Built-lost, Built-made, So-start, first, last, more, pass}
+use Rattle.dual_rail.proofs.Works.{Built-lost, Built-made, So-start, more, pass}
 use Rattle.dd_ops.specs.declared.fault.OpFault.{OpFault}
 use Rattle.net_core.specs.declared.raw.Latch.{Latch}
 use Rattle.net_core.specs.declared.raw.RawNet.{RawNet}
@@ -17,7 +17,7 @@ use Rattle.ste_model.specs.GraphTable.{enough}
 use Rattle.ste_model.specs.GraphWork.{SymbolicState}
 use Rattle.gste_engine.specs.declared.rounds.Progress.{Progress}
 use Rattle.gste_engine.specs.declared.state.State.{State}
-use Rattle.gste_engine.specs.Tables.{AreStateRefs, HasStates, IsGraphOver, rounds_work}
+use Rattle.gste_engine.specs.Tables.{HasStates, IsGraphOver, rounds_work}
 use Rattle.gste_engine.specs.private.Rounds.{IsProgress}
 use Rattle.gste_engine.proofs.NextTables.{RoundsSoFar}
 use Rattle.gste_engine.proofs.Starts.{all_rounds, group_below, next_group, starts_are, tables_refs, whole_exists}

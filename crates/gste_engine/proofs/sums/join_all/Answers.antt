@@ -1,4 +1,4 @@
-use Rattle.std.proofs.Common.{◌≡◌, ◌+◌, ◌<◌, ◌∷◌, ◌++◌, [], length, get_or, sym, ◌∙◌, subst, arith, List, Ok, Err, take, ap}
+use Rattle.std.proofs.Common.{◌≡◌, ◌+◌, ◌<◌, [], length, get_or, sym, subst, arith, List, Ok, Err, take}
 use Rattle.std.specs.List.{AllZip}
 use Rattle.std.proofs.lemmas.List.{get_or_default, take_all}
 use Rattle.dd_nodes.specs.Diagram.{Function}

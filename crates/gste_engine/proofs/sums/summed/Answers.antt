@@ -1,5 +1,4 @@
-use Rattle.std.proofs.Common.{◌≡◌, ◌+◌, ◌<◌, ℕ, List, [], ◌∷◌, length, get_or, take, set, sym, ◌∙◌, ap, subst, arith, All, Ok, Err, Vec, Global}
-use Rattle.std.specs.List.{AllZip}
+use Rattle.std.proofs.Common.{◌≡◌, ◌+◌, ◌<◌, List, length, get_or, take, set, sym, ◌∙◌, ap, subst, arith, All, Ok, Err, Vec, Global}
 use Rattle.std.proofs.lemmas.List.{length-set, take_all}
 use Rattle.std.proofs.lemmas.List.Elements.{All-set}
 use Rattle.dd_nodes.specs.Diagram.{Function}
@@ -9,7 +8,7 @@ use Rattle.ste_model.specs.declared.task.Edge.{Edge}
 use Rattle.ste_model.specs.declared.task.Graph.{Graph}
 use Rattle.ste_model.specs.GraphWork.{SymbolicState}
 use Rattle.dual_rail.specs.Rail.{Built}
-use Rattle.dual_rail.proofs.Works.{Built-lost, Built-made, So-start, first, pass}
+use Rattle.dual_rail.proofs.Works.{Built-made, So-start, first, pass}
 use Rattle.gste_engine.specs.declared.state.State.{State}
 use Rattle.gste_engine.specs.Tables.{AreStateRefs, HasStates, IsState}
 use Rattle.gste_engine.specs.private.Sums.{arrivals_work, begun, summed_at, with_state}

@@ -1,4 +1,4 @@
-use Rattle.std.proofs.Common.{◌≡◌, ℕ, List, ◌∷◌, length, refl, sym, ◌∙◌, ap, subst, arith, All, Ok, Err}
+use Rattle.std.proofs.Common.{List, length, refl, sym, ◌∙◌, ap, subst, arith, All, Ok, Err}
 use Rattle.std.specs.List.{AllZip}
 use Rattle.dd_nodes.specs.Diagram.{Function}
 use Rattle.dd_nodes.specs.Stores.{Store}
