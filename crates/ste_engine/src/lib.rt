@@ -12,6 +12,7 @@ mod merge;
 mod place;
 mod reports;
 mod results;
+pub mod shared;
 mod shown;
 mod timeline;
 mod turn;

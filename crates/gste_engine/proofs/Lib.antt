@@ -1,0 +1,15 @@
+pub mod AllGiven
+pub mod Arrivals
+pub mod Comings
+pub mod CutLists
+pub mod EdgeParts
+pub mod GatedSets
+pub mod Joins
+pub mod Lists
+pub mod NextSums
+pub mod NextTables
+pub mod RoundParts
+pub mod Sets
+pub mod StateRefs
+pub mod Starts
+pub mod Turning

@@ -1,0 +1,66 @@
+-- For private functions. What comes to each vertex, one edge after another.
+use Rattle.std.specs.Prelude.{◌==◌, ℕ, Bool, List, [], ◌∷◌, ◌++◌, filter, if◌then◌else◌, length, map, replicate, set}
+use Rattle.dd_nodes.specs.Diagram.{Function}
+use Rattle.net_core.specs.declared.raw.RawNet.{RawNet}
+use Rattle.net_core.specs.Work.{SymbolicSet, disjunction, never, union}
+use Rattle.dual_rail.specs.declared.rails.Rails.{Rails}
+use Rattle.ste_engine.specs.private.Turns.{first_rails}
+use Rattle.ste_model.specs.declared.task.Edge.{Edge}
+use Rattle.ste_model.specs.declared.task.Graph.{Graph}
+use Rattle.ste_model.specs.GraphWork.{SymbolicState, sets_functions, start_state, vertex_work}
+use Rattle.ste_model.specs.Work.{over_times}
+use Rattle.gste_engine.specs.declared.state.State.{State}
+
+-- ---- by references
+
+-- no bit under any assignment
+abbrev pub no_rails : Rails
+no_rails = record { can0 = record { 0 = 0 }; can1 = record { 0 = 0 } }
+
+-- a vertex that is not reached under any assignment
+abbrev pub unreached : RawNet → State
+unreached net = record { reached = record { 0 = 0 }; latches = map (λ latch. no_rails) net.latches }
+
+-- vertex 0 is reached with the first values, and nothing else is
+abbrev pub begun : RawNet → Bool → ℕ → List State
+begun net reset vertices =
+    set (replicate vertices (unreached net)) 0 (record { reached = record { 0 = 1 }; latches = map (first_rails reset) net.latches })
+
+-- ---- by functions
+
+-- the unions, latch by latch
+abbrev pub unions : List SymbolicSet → List SymbolicSet → List SymbolicSet
+unions [] ws = ws
+unions (v ∷ vs) [] = v ∷ vs
+unions (v ∷ vs) (w ∷ ws) = union v w ∷ unions vs ws
+
+-- a state with what one more edge gives
+abbrev pub with_state : SymbolicState → SymbolicState → SymbolicState
+with_state x y = record { reached = disjunction x.reached y.reached; latches = unions x.latches y.latches }
+
+-- a state with each of these, in order
+abbrev pub with_states : SymbolicState → List SymbolicState → SymbolicState
+with_states x [] = x
+with_states x (y ∷ ys) = with_states (with_state x y) ys
+
+-- where it is reached, and z and o of each set
+abbrev pub state_functions : SymbolicState → List Function
+state_functions x = x.reached ∷ sets_functions x.latches
+
+-- what is reached under no assignment
+abbrev pub never_state : RawNet → SymbolicState
+never_state net = record { reached = never; latches = map (λ latch. record { zero = never; one = never }) net.latches }
+
+-- what comes to a vertex by some edges, with the start at vertex 0
+abbrev pub coming : RawNet → Bool → (Edge → SymbolicState) → List Edge → ℕ → List SymbolicState
+coming net reset given edges vertex =
+    (if vertex == 0 then start_state net reset ∷ [] else []) ++ map given (filter (λ edge. edge.to == vertex) edges)
+
+-- the sum of what comes to a vertex
+abbrev pub summed_at : RawNet → Bool → (Edge → SymbolicState) → List Edge → ℕ → SymbolicState
+summed_at net reset given edges vertex = with_states (never_state net) (coming net reset given edges vertex)
+
+-- the functions for all sums
+abbrev pub arrivals_work : RawNet → Graph → (Edge → SymbolicState) → List Function
+arrivals_work net graph given =
+    over_times (λ vertex. vertex_work net (coming net graph.reset given graph.edges vertex)) (length graph.vertices)

@@ -1,0 +1,162 @@
+//! What comes to each vertex, summed in the order of the edges; begin with `summed`.
+
+ghost use Rattle.std.specs.Prelude.{◌≡◌, ◌<◌, ◌∷◌, [], List, All, IfOk, length, map, replicate};
+ghost use Rattle.std.specs.List.{AllZip};
+ghost use Rattle.dd_nodes.specs.Stores.{IsRef, Means};
+ghost use Rattle.net_core.specs.Work.{SymbolicSet};
+ghost use Rattle.dual_rail.specs.Rail.{AreRails, AreRefs, Built};
+ghost use Rattle.ste_model.specs.declared.task.Edge.{Edge as AnEdge};
+ghost use Rattle.ste_model.specs.Edges.{IsGraph};
+ghost use Rattle.ste_model.specs.GraphWork.{SymbolicState, sets_functions};
+ghost use Rattle.gste_engine.specs.Tables.{AreStateRefs, HasStates, IsState};
+ghost use Rattle.gste_engine.specs.private.Sums.{arrivals_work, begun, no_rails, state_functions, summed_at, unions, unreached, with_state};
+
+use crate::state::State;
+use dd_nodes::{Nodes, Ref};
+use dd_ops::{OpFault, Ops};
+use dual_rail::{Rails, either, join};
+use net_core::Net;
+use std::alloc::{AllocError, Global};
+use ste_base::Items;
+use ste_engine::shared::first_sets;
+use ste_model::Graph;
+
+/// No bit for any latch.
+fn no_sets(alloc: Global, net: &Net) -> Result<Vec<Rails>, AllocError>
+    ensures { IfOk result (λ sets. sets.items ≡ map (λ latch. no_rails) net.now.raw.latches) }
+{
+    net.latches()
+        .iter()
+        .map(|_| Rails {
+            can0: Ref::FALSE,
+            can1: Ref::FALSE,
+        })
+        .collect(alloc)
+}
+
+/// What a table says of a vertex that is not reached under any assignment.
+fn unreached(alloc: Global, net: &Net) -> Result<State, AllocError>
+    ensures { IfOk result (λ state. state ≡ unreached net.now.raw) }
+{
+    let latches = Items::from(no_sets(alloc, net)?);
+    Ok(State {
+        reached: Ref::FALSE,
+        latches,
+    })
+}
+
+/// The table of round 0, in which nothing is reached.
+pub fn nothing(alloc: Global, net: &Net, graph: &Graph) -> Result<Vec<State>, AllocError>
+    ensures { IfOk result (λ table. table.items
+        ≡ replicate (length graph.now.vertices) (unreached net.now.raw)) }
+{
+    let mut table = Vec::new(alloc);
+    for _ in 0..graph.vertices.len() {
+        let state = unreached(alloc, net)?;
+        table.push(state)?;
+    }
+    Ok(table)
+}
+
+/// What comes to each vertex before any edge: to vertex 0 the first values, and nothing to the others.
+fn begun(alloc: Global, net: &Net, graph: &Graph) -> Result<Vec<State>, AllocError>
+    requires { 0 < length graph.now.vertices }
+    ensures { IfOk result (λ table. table.items
+        ≡ begun net.now.raw graph.now.reset (length graph.now.vertices)) }
+{
+    let mut table = nothing(alloc, net, graph)?;
+    let latches = first_sets(alloc, net, graph.reset)?;
+    table[0] = State {
+        reached: Ref::TRUE,
+        latches,
+    };
+    Ok(table)
+}
+
+/// The unions of the sets, latch by latch.
+fn join_all<N: Nodes>(
+    alloc: Global,
+    ops: &Ops,
+    nodes: &mut N,
+    a: &[Rails],
+    b: &[Rails],
+) -> Result<Items<Rails>, OpFault>
+    requires long { length a.now ≡ length b.now }
+    requires left { All (AreRefs (N.store nodes.old)) a.now }
+    requires right { All (AreRefs (N.store nodes.old)) b.now }
+    ensures { (vs ws : List SymbolicSet) → AllZip (AreRails (N.store nodes.old)) vs a.now
+        → AllZip (AreRails (N.store nodes.old)) ws b.now
+        → Built (sets_functions (unions vs ws)) (λ t all. AllZip (AreRails t) (unions vs ws) all)
+        (N.store nodes.old) (N.store nodes.new) result }
+{
+    let mut all = Items::new(alloc);
+    for k in 0..a.len() {
+        let one = join(ops, nodes, a[k], b[k])?;
+        match all.push(one) {
+            Ok(()) => {}
+            Err(_) => return Err(OpFault::OutOfMemory),
+        }
+    }
+    Ok(all)
+}
+
+/// A state with what one more edge gives.
+fn with_state<N: Nodes>(
+    alloc: Global,
+    ops: &Ops,
+    nodes: &mut N,
+    state: &State,
+    more: &State,
+) -> Result<State, OpFault>
+    requires long { length state.now.latches ≡ length more.now.latches }
+    requires reached { IsRef (N.store nodes.old) state.now.reached }
+    requires latches { All (AreRefs (N.store nodes.old)) state.now.latches }
+    requires more_reached { IsRef (N.store nodes.old) more.now.reached }
+    requires more_latches { All (AreRefs (N.store nodes.old)) more.now.latches }
+    ensures { (x y : SymbolicState) → IsState (N.store nodes.old) x state.now
+        → IsState (N.store nodes.old) y more.now
+        → Built (state_functions (with_state x y)) (λ t r. IsState t (with_state x y) r)
+        (N.store nodes.old) (N.store nodes.new) result }
+{
+    let reached = either(ops, nodes, state.reached, more.reached)?;
+    let latches = join_all(
+        alloc,
+        ops,
+        nodes,
+        state.latches.as_slice(),
+        more.latches.as_slice(),
+    )?;
+    Ok(State { reached, latches })
+}
+
+/// The table of the next round, from what each edge gives, by number.
+pub fn summed<N: Nodes>(
+    alloc: Global,
+    nodes: &mut N,
+    net: &Net,
+    graph: &Graph,
+    givens: &[State],
+) -> Result<Vec<State>, OpFault>
+    requires graph { IsGraph graph.now }
+    requires count { length givens.now ≡ length graph.now.edges }
+    requires givens { All (AreStateRefs (N.store nodes.old) net.now.raw) givens.now }
+    ensures { (given : AnEdge → SymbolicState)
+        → AllZip (λ edge r. IsState (N.store nodes.old) (given edge) r) graph.now.edges givens.now
+        → Built (arrivals_work net.now.raw graph.now given)
+        (λ t table. HasStates (summed_at net.now.raw graph.now.reset given graph.now.edges)
+        (length graph.now.vertices) t table.items)
+        (N.store nodes.old) (N.store nodes.new) result }
+{
+    let ops = Ops::new(alloc);
+    let edges = graph.edges.as_slice();
+    let mut table = match begun(alloc, net, graph) {
+        Ok(table) => table,
+        Err(_) => return Err(OpFault::OutOfMemory),
+    };
+    for k in 0..edges.len() {
+        let to = edges[k].to as usize;
+        let state = with_state(alloc, &ops, nodes, &table[to], &givens[k])?;
+        table[to] = state;
+    }
+    Ok(table)
+}
