@@ -35,7 +35,8 @@ fn all_given<N: Nodes>(
     table: &[State],
 ) -> Result<Vec<State>, OpFault>
     requires rows { rows.now.covers ≡ map rows_of net.now.raw.covers }
-    requires edges { AreEdgesOver net.now.raw (N.store nodes.old).vars (length table.now) edges.now }
+    requires edges { AreEdgesOver net.now.raw (N.store nodes.old).vars
+        (length table.now) edges.now }
     requires table { All (AreStateRefs (N.store nodes.old) net.now.raw) table.now }
     ensures { (states : ℕ → SymbolicState) (sets : AnEdge → ℕ → SymbolicSet)
         → HasStates states (length table.now) (N.store nodes.old) table.now
