@@ -1,6 +1,0 @@
-//! Tests of the symbolic engine for assertion graphs. Nothing else is here, so that `gste_engine` itself is proved once, and
-//! below it.
-#![tactic(auto)]
-
-#[cfg(test)]
-mod tests;
