@@ -40,7 +40,8 @@ pub struct Known {
 /// Adds a name; false where it is there already.
 fn add_name(set: &mut IndexSet<Name>, name: &Name) -> Result<bool, AllocError>
     ensures fresh { IfOk result (λ fresh. fresh ≡ not (list_any (bytes_eq name.now) set.old.keys)) }
-    ensures keys { IfOk result (λ fresh. fresh ≡ true → set.new.keys ≡ set.old.keys ++ name.now ∷ []) }
+    ensures keys { IfOk result (λ fresh. fresh ≡ true →
+        set.new.keys ≡ set.old.keys ++ name.now ∷ []) }
 {
     if set.contains(name) {
         return Ok(false);

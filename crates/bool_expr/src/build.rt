@@ -260,7 +260,8 @@ pub fn expr_of(alloc: Global, text: &[u8], variables: &Variables) -> Result<Expr
         ≡ build_from (place_by (number_in variables.now)) build_start (tokens_of text.now)) }
     ensures known { IfOk result (λ _. first_unknown (number_in variables.now) (tokens_of text.now)
         ≡ None) }
-    ensures err { IfErr result (λ fault. IsCause (number_in variables.now) (tokens_of text.now) fault) }
+    ensures err { IfErr result (λ fault. IsCause (number_in variables.now)
+        (tokens_of text.now) fault) }
 {
     let mut build = Build::new(alloc);
     let mut rest = text;

@@ -39,7 +39,8 @@ impl Model for Variables {
 fn add_place(places: &mut HashMap<Name, usize>, name: &Name, place: usize) -> Result<(), AllocError>
     ensures ok { OnOk result ((word : List ℕ) → numbers places.new word
         ≡ with_place (numbers places.old word) (bytes_eq name.now word) place) }
-    ensures err { OnErr result ((word : List ℕ) → numbers places.new word ≡ numbers places.old word) }
+    ensures err { OnErr result ((word : List ℕ) → numbers places.new word
+        ≡ numbers places.old word) }
 {
     if places.get(name).is_none() {
         places.insert(name.clone()?, place)?;

@@ -60,7 +60,8 @@ fn add_below(
 fn rows_on(alloc: Global, graph: &[Items<usize>], depth: u32) -> Result<Vec<Row>, AllocError>
     requires in_range { All (λ used. All (λ k. k < length graph.now) used) graph.now }
     requires some { 0 < length graph.now }
-    ensures { IfOk result (λ rows. IsTable graph.now rows.items (instances_on graph.now depth [] 0)) }
+    ensures { IfOk result (λ rows. IsTable graph.now rows.items
+        (instances_on graph.now depth [] 0)) }
 {
     let mut rows = Vec::new(alloc);
     let top = Row {

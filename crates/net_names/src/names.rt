@@ -60,7 +60,8 @@ fn uses_in(model: &blif_syntax::Model) -> usize
 
 /// How often each model uses models.
 fn all_uses(alloc: Global, models: &[blif_syntax::Model]) -> Result<Vec<usize>, AllocError>
-    ensures { IfOk result (λ uses. uses.items ≡ map (λ model. length (use_lines model)) models.now) }
+    ensures { IfOk result (λ uses. uses.items
+        ≡ map (λ model. length (use_lines model)) models.now) }
 {
     let mut uses = Vec::new(alloc);
     for model in models {
