@@ -106,7 +106,8 @@ fn net_of(alloc: Global, text: &[u8]) -> Result<Named, Fail>
 
 /// Whether each cover is narrow enough for its rows to be made.
 fn are_few(alloc: Global, covers: &[Cover]) -> Result<bool, AllocError>
-    ensures inputs { IfOk result (λ few. IsTrue few → All (λ cover. cover.inputs ≤ 1000) covers.now) }
+    ensures inputs { IfOk result (λ few. IsTrue few
+        → All (λ cover. cover.inputs ≤ 1000) covers.now) }
     ensures cases { IfOk result (λ few. IsTrue few
         → All (λ cover. cases_of cover.inputs cover.rows ≤ 65536) covers.now) }
 {
