@@ -1,3 +1,4 @@
 pub mod Undriven
 pub mod Runs
+pub mod Along
 pub mod private

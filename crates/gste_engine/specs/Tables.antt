@@ -64,3 +64,8 @@ antecedents_work graph = flat_map (λ (edge : Edge). binds_work edge.ant) graph.
 abbrev pub rounds_work : RawNet → Graph → (ℕ → ℕ → SymbolicState) → (ℕ → Edge → ℕ → SymbolicSet) → List Function
 rounds_work net graph tables sets =
     antecedents_work graph ++ over_times (λ n. round_work net graph (tables n) (sets n)) (suc (enough net graph))
+
+-- the consequents of a graph name nets of the net, and read variables below this number
+abbrev pub AreConsequentsOver : RawNet → ℕ → Graph → Type 0
+AreConsequentsOver net vars graph =
+    All (λ edge. All (λ bind. bind.node.0 < net.nets) edge.con × BindsReadBelow vars edge.con) graph.edges

@@ -141,7 +141,7 @@ pub fn check_ste<N: Nodes>(
     let ops = Ops::new(alloc);
     match results(alloc, &ops, nodes, net, rows, task) {
         Ok(r) => report_of(alloc, &ops, nodes, net, rows, task, r, cubes),
-        Err(OpFault::StepsOut) => budget_report(alloc, task),
+        Err(OpFault::StepsOut) => budget_report(alloc, &task.name),
         Err(OpFault::OutOfMemory) => Err(AllocError),
     }
 }

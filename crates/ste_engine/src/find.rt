@@ -71,7 +71,7 @@ fn refuted_zero<N: Nodes>(
 }
 
 /// Where a set is exactly the opposite of the value.
-fn refuted<N: Nodes>(ops: &Ops, nodes: &mut N, r: Rails, value: Ref) -> Result<Ref, OpFault>
+pub fn refuted<N: Nodes>(ops: &Ops, nodes: &mut N, r: Rails, value: Ref) -> Result<Ref, OpFault>
     requires rails { AreRefs (N.store nodes.old) r }
     requires value { IsRef (N.store nodes.old) value }
     ensures { (w : SymbolicSet) (x : Function)

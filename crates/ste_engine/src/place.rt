@@ -21,7 +21,7 @@ use ste_model::{Assertion, Quint, depth};
 use sym_step::{Cut, GateRows, step};
 
 /// The constant of a bit.
-fn constant(bit: bool) -> Ref
+pub fn constant(bit: bool) -> Ref
     ensures { result ≡ constant_ref bit }
 {
     if bit { Ref::TRUE } else { Ref::FALSE }

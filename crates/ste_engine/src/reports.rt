@@ -20,7 +20,7 @@ use ste_model::{Assertion, CubeList, Guards, Report, Verdict};
 use sym_step::GateRows;
 
 /// The strong, the weak and the contradictory assignments, each as the first cubes of its list.
-fn guards_of<N: Nodes>(
+pub fn guards_of<N: Nodes>(
     alloc: Global,
     nodes: &mut N,
     r: Results,
@@ -84,13 +84,13 @@ fn no_cubes(alloc: Global) -> CubeList
     }
 }
 
-/// What is told of an assertion whose node steps were spent.
-pub fn budget_report(alloc: Global, task: &Assertion) -> Result<Report, AllocError>
-    ensures { IfOk result (λ report. report ≡ budget_report task.now.name) }
+/// What is told of a task of this name whose node steps were spent.
+pub fn budget_report(alloc: Global, name: &Name) -> Result<Report, AllocError>
+    ensures { IfOk result (λ report. report ≡ budget_report name.now) }
 {
-    let name = Name::from_bytes(alloc, task.name.bytes())?;
+    let copy = Name::from_bytes(alloc, name.bytes())?;
     Ok(Report {
-        name,
+        name: copy,
         verdict: Verdict::Budget,
         guards: Guards {
             strong: no_cubes(alloc),
