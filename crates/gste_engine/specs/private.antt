@@ -1,3 +1,4 @@
 pub mod Given
+pub mod Judged
 pub mod Rounds
 pub mod Sums
