@@ -1,5 +1,5 @@
 -- What a failure shows is one: the failing place, and the printed run.
-use Rattle.std.proofs.Common.{◌≡◌, ◌≢◌, ℕ, zero, suc, ◌<◌, Bool, true, false, List, [], ◌∷◌, map, length, get_or, arith, sym, ap, refl, subst, ◌∙◌, inl, inr}
+use Rattle.std.proofs.Common.{◌≡◌, ℕ, zero, suc, ◌<◌, Bool, true, false, List, [], ◌∷◌, map, get_or, arith, sym, ap, refl, subst, ◌∙◌, inl, inr}
 use Rattle.std.specs.Prelude.{All, Any, IsTrue, ◌⊎◌, Some, slice_get}
 use Rattle.std.specs.List.{AllZip}
 use Rattle.std.proofs.lemmas.List.{get_or_default}
@@ -14,7 +14,7 @@ use Rattle.net_core.specs.declared.raw.RawNet.{RawNet}
 use Rattle.net_core.specs.Flat.{IsInRange}
 use Rattle.net_core.specs.OneRun.{IsGivenRun}
 use Rattle.net_core.specs.Possible.{IsLeft}
-use Rattle.net_core.specs.Run.{Cut, IsInitial, IsSettled, IsUndriven, MayStart}
+use Rattle.net_core.specs.Run.{Cut, IsInitial, IsSettled, MayStart}
 use Rattle.net_core.proofs.Possible.{and_or_not, same_or_not}
 use Rattle.net_core.proofs.Runs.{same_run}
 use Rattle.ste_model.specs.declared.task.Assertion.{Assertion}
@@ -32,7 +32,7 @@ any_at P [] k x e h = absurd (cc e)
 any_at P (y ∷ xs) zero x e h = let same : y ≡ x = cc e in (0, y, omega arith, refl, subst P (sym same) h)
 any_at P (y ∷ xs) (suc k) x e h = let any = any_at P xs k x e h in (suc any.0, any.1, (let l = any.2 in omega arith), any.3, any.4)
 
-same_place : (p q : NodeId × ℕ) → p.0.0 ≡ q.0.0 → p.1 ≡ q.1 → p ≡ q
+pub same_place : (p q : NodeId × ℕ) → p.0.0 ≡ q.0.0 → p.1 ≡ q.1 → p ≡ q
 same_place p q e f =
     let make : ℕ → ℕ → NodeId × ℕ = λ id t. (record { 0 = id }, t) in
     ap (λ id. make id p.1) e ∙ ap (make q.0.0) f
@@ -87,13 +87,13 @@ one_asked cuts id b c f g any =
     let at : (bit : Bool) → IsLeft cuts id bit → any.1.value ≡ bit = λ bit left. All-contains (λ cut. IsTrue cut.on → cut.node ≡ id → cut.value ≡ bit) cuts any.1 left (any.0, any.2, any.3) any.4.0 any.4.1 in
     sym (at b f) ∙ at c g
 
-one_filled : (cuts : List Cut) (id : ℕ) (b c : Bool) → IsFilled cuts id b → IsFilled cuts id c → b ≡ c
+pub one_filled : (cuts : List Cut) (id : ℕ) (b c : Bool) → IsFilled cuts id b → IsFilled cuts id c → b ≡ c
 one_filled cuts id b c f g = elim (open_or_asked cuts id) [
   | inl none ↦ f.rest none ∙ sym (g.rest none)
   | inr any ↦ one_asked cuts id b c f.asked g.asked any
 ]
 
-one_first : (reset : Bool) (latch : Latch) (cuts : List Cut) (b c : Bool) → IsFirst reset latch cuts b → IsFirst reset latch cuts c → MayStart reset latch b → MayStart reset latch c → b ≡ c
+pub one_first : (reset : Bool) (latch : Latch) (cuts : List Cut) (b c : Bool) → IsFirst reset latch cuts b → IsFirst reset latch cuts c → MayStart reset latch b → MayStart reset latch c → b ≡ c
 one_first reset latch cuts b c f g s t = elim (open_or_asked cuts latch.output.0) [
   | inl none ↦ by reset latch.init refl (f.rest none) (g.rest none) s t
   | inr any ↦ one_asked cuts latch.output.0 b c f.asked g.asked any
@@ -107,7 +107,7 @@ one_first reset latch cuts b c f g s t = elim (open_or_asked cuts latch.output.0
     by true init.Zero e p q s t = subst (λ (i : Init). IsInitial i b) e (s refl) ∙ sym (subst (λ (i : Init). IsInitial i c) e (t refl))
     by true init.One e p q s t = subst (λ (i : Init). IsInitial i b) e (s refl) ∙ sym (subst (λ (i : Init). IsInitial i c) e (t refl))
 
-starts_with : (f g : Latch → Bool) (latches : List Latch) → All (λ latch. f latch ≡ g latch) latches → AllZip (λ latch bit. f latch ≡ bit) latches (map g latches)
+pub starts_with : (f g : Latch → Bool) (latches : List Latch) → All (λ latch. f latch ≡ g latch) latches → AllZip (λ latch bit. f latch ≡ bit) latches (map g latches)
 starts_with f g [] all = tt
 starts_with f g (latch ∷ latches) all = (all 0 latch (omega arith), starts_with f g latches (λ k d l. all (suc k) d (omega arith)))
 

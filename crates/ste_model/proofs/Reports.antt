@@ -1,6 +1,6 @@
 -- An assertion has one report at most.
-use Rattle.std.proofs.Common.{◌≡◌, ◌≢◌, ℕ, ◌<◌, Bool, true, false, List, [], length, Option, Some, None, arith, sym, ap, refl, subst, ◌∙◌, inl, inr}
-use Rattle.std.specs.Prelude.{IsTrue, ◌⊎◌, ◌↔◌}
+use Rattle.std.proofs.Common.{◌≡◌, ℕ, Bool, true, false, List, Option, Some, sym, ap, refl, subst, ◌∙◌, inl, inr}
+use Rattle.std.specs.Prelude.{IsTrue, ◌↔◌}
 use Rattle.ste_base.specs.declared.id.NodeId.{NodeId}
 use Rattle.net_core.specs.declared.bit_set.BitSet.{BitSet}
 use Rattle.net_core.specs.declared.raw.RawNet.{RawNet}
@@ -15,7 +15,7 @@ use Rattle.ste_model.specs.declared.verdict.Verdict.TheVariants.{Strong, Weak}
 use Rattle.ste_model.specs.Asked.{depth}
 use Rattle.ste_model.specs.Cubes.{first_cubes}
 use Rattle.ste_model.specs.Found.{FailsStrongly, FailsWeakly, IsContradictory, IsStrong, IsWeak}
-use Rattle.ste_model.specs.Report.{AreCubes, IsDue, IsFailingPlace, IsPrintedUnder, IsReportOf, IsShown, OneReportOf, Prints, Shows}
+use Rattle.ste_model.specs.Report.{AreCubes, IsFailingPlace, IsPrintedUnder, IsShown, OneReportOf, Prints, Shows}
 use Rattle.ste_model.specs.Runs.{run_of}
 use Rattle.ste_model.specs.Shown.{IsPrinted}
 use Rattle.ste_model.proofs.CubeLists.{cubes_alike}
@@ -30,7 +30,7 @@ tells_same false true P f g = absurd (cc (f.1 (g.0 refl)))
 tells_same true false P f g = absurd (cc (g.1 (f.0 refl)))
 tells_same true true P f g = refl
 
-one_list : (max vars : ℕ) (P : List Bool → Type 0) (one other : CubeList) → AreCubes max vars P one → AreCubes max vars P other → one ≡ other
+pub one_list : (max vars : ℕ) (P : List Bool → Type 0) (one other : CubeList) → AreCubes max vars P one → AreCubes max vars P other → one ≡ other
 one_list max vars P one other a b =
     a.2 ∙ ap (first_cubes max) (cubes_alike 0 vars a.0 b.0 (λ bits l. tells_same (a.0 bits) (b.0 bits) (P bits) (a.1 bits l) (b.1 bits l))) ∙ sym b.2
 
@@ -41,7 +41,7 @@ one_shown Finds Fails net vars task least others fails places settled a b =
     let place : a.place ≡ b.place = one_place Fails net task b.bits settled a.place b.place (subst (λ (bs : List Bool). IsFailingPlace Fails net task bs a.place) bits a.is_place) b.is_place in
     (a.least_is ∙ ap Some bits ∙ sym b.least_is, a.fails_is ∙ ap Some place ∙ sym b.fails_is)
 
-strong_weak : (v : Verdict) → v ≡ Strong → v ≡ Weak → ⊥
+pub strong_weak : (v : Verdict) → v ≡ Strong → v ≡ Weak → ⊥
 strong_weak v e f = let both : Strong ≡ Weak = sym e ∙ f in cc
 
 same_shown : (net : RawNet) (vars : ℕ) (task : Assertion) (v : Verdict) (least others : Option (List Bool)) (fails places : Option (NodeId × ℕ)) → IsSettled net →
@@ -84,7 +84,7 @@ report_with name verdict strong weak contradictory least path fails run = record
   run = run;
 }
 
-same_parts : (a b : Report) → a.name ≡ b.name → a.verdict ≡ b.verdict → a.guards.strong ≡ b.guards.strong → a.guards.weak ≡ b.guards.weak → a.guards.contradictory ≡ b.guards.contradictory
+pub same_parts : (a b : Report) → a.name ≡ b.name → a.verdict ≡ b.verdict → a.guards.strong ≡ b.guards.strong → a.guards.weak ≡ b.guards.weak → a.guards.contradictory ≡ b.guards.contradictory
     → a.least ≡ b.least → a.path ≡ b.path → a.fails ≡ b.fails → a.run ≡ b.run → a ≡ b
 unfolding report_with
 same_parts a b name verdict strong weak contradictory least path fails run = λ i. report_with (name i) (verdict i) (strong i) (weak i) (contradictory i) (least i) (path i) (fails i) (run i)

@@ -3,6 +3,7 @@
 ghost use Rattle.ste_model.specs.GraphFound.{GraphFindingsAreTold, GraphPassHolds, OneGraphVerdict};
 ghost use Rattle.ste_model.specs.GraphHops.{PathsAreShown};
 ghost use Rattle.ste_model.specs.GraphNeed.{GraphResultsAreFindings, OneGraphNeed};
+ghost use Rattle.ste_model.specs.GraphReport.{OneGraphReportOf};
 ghost use Rattle.ste_model.specs.GraphShown.{DueBreaksAlong, FoundHasCandidate};
 ghost use Rattle.ste_model.specs.GraphTable.{OneLeastClosed, RoundsSettle};
 
@@ -55,4 +56,9 @@ pub fn one_graph_need()
 /// The functions of the results tell under which assignments a graph is strong, weak and contradictory.
 pub fn graph_results_are_findings()
     ensures { GraphResultsAreFindings }
+{}
+
+/// A graph has one report at most.
+pub fn one_graph_report_of()
+    ensures { OneGraphReportOf }
 {}
