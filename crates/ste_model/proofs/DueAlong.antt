@@ -20,13 +20,13 @@ use Rattle.ste_model.specs.Shown.{AsksOfNets, IsBindable}
 use Rattle.ste_model.proofs.Paths.{along}
 
 -- the edges of a path are edges of the graph
-on_path : (edges : List Edge) (vertex : ℕ) (path : List Edge) → IsPathFrom edges vertex path → (i : ℕ) (edge : Edge) → slice_get path i ≡ Some edge → Contains edges edge
+pub on_path : (edges : List Edge) (vertex : ℕ) (path : List Edge) → IsPathFrom edges vertex path → (i : ℕ) (edge : Edge) → slice_get path i ≡ Some edge → Contains edges edge
 on_path edges vertex [] is_path i edge here = absurd (cc here)
 on_path edges vertex (first ∷ path) is_path zero edge here = let same : first ≡ edge = cc here in subst (Contains edges) same is_path.0
 on_path edges vertex (first ∷ path) is_path (suc i) edge here = on_path edges first.to path is_path.2 i edge here
 
 -- what holds of the nets of bindings holds of those of their cuts
-of_cuts : (P : ℕ → Type 0) (bits : List Bool) (binds : List Bind) → All (λ bind. P bind.node.0) binds → All (λ cut. P cut.node) (bind_cuts binds bits)
+pub of_cuts : (P : ℕ → Type 0) (bits : List Bool) (binds : List Bind) → All (λ bind. P bind.node.0) binds → All (λ cut. P cut.node) (bind_cuts binds bits)
 of_cuts P bits binds all = All-map (λ cut. P cut.node) (bind_at bits) binds all
 
 due_meets : (net : RawNet) (graph : Graph) (bits : List Bool) (path : List Edge) (run : ℕ → ℕ → Bool) → AsksOfNets net (Gste graph) → IsBindable net (Gste graph) → IsPathFrom graph.edges 0 path → IsPrintedAlong net graph bits path run → MeetsAlong (λ edge. edge.ant) bits path run

@@ -55,7 +55,7 @@ one_path Fails net graph bits one other a b =
     least_is_one one other (below.1 (sym long)) (above.1 long)
 
 -- the numbers fix the edges
-same_edges : (graph : Graph) (numbers : List ℕ) (one other : List Edge) → AreNumbers graph numbers one → AreNumbers graph numbers other → one ≡ other
+pub same_edges : (graph : Graph) (numbers : List ℕ) (one other : List Edge) → AreNumbers graph numbers one → AreNumbers graph numbers other → one ≡ other
 same_edges graph [] [] [] a b = refl
 same_edges graph [] [] (y ∷ ys) a b = absurd b
 same_edges graph [] (x ∷ xs) ys a b = absurd a
