@@ -5,3 +5,4 @@ pub mod Printing
 pub mod SourceNodes
 pub mod OnInputs
 pub mod OneOnInputs
+pub mod PrintedAlong
