@@ -1,7 +1,8 @@
 -- The run with what a path of bindable edges asks is the printed run along the path.
-use Rattle.std.proofs.Common.{◌≡◌, ◌≢◌, ℕ, zero, suc, ◌<◌, Bool, false, List, [], ◌∷◌, map, length, get_or, arith, sym, ap, refl, subst, ◌∙◌}
+use Rattle.std.proofs.Common.{◌≡◌, ◌≢◌, ℕ, zero, suc, ◌+◌, ◌<◌, ◌≤◌, Bool, false, List, [], ◌∷◌, map, length, get_or, arith, sym, ap, refl, subst, ◌∙◌, inl, inr}
 use Rattle.std.specs.Prelude.{All, IsTrue, Some, slice_get}
 use Rattle.std.specs.List.{AllZip}
+use Rattle.std.proofs.lemmas.Bool.{cases_lt}
 use Rattle.std.proofs.lemmas.List.Elements.{All-map}
 use Rattle.std.proofs.lemmas.Option.{get_or_from_slice_get, slice_get_within}
 use Rattle.net_core.specs.declared.raw.RawNet.{RawNet}
@@ -9,6 +10,7 @@ use Rattle.net_core.specs.Flat.{IsInRange}
 use Rattle.net_core.specs.Run.{IsUndriven, MayStart}
 use Rattle.net_core.specs.OneRun.{IsGivenRun}
 use Rattle.net_core.specs.Possible.{IsLeft}
+use Rattle.ste_model.specs.declared.task.Bind.{Bind}
 use Rattle.ste_model.specs.declared.task.Edge.{Edge}
 use Rattle.ste_model.specs.declared.task.Graph.{Graph}
 use Rattle.ste_model.specs.declared.task.Task.TheVariants.{Gste}
@@ -63,6 +65,27 @@ one_path edges (number ∷ numbers) (x ∷ one) (y ∷ other) a b =
 first_edge : (path : List Edge) → 0 < length path → (edge : Edge) × (slice_get path 0 ≡ Some edge)
 first_edge [] l = absurd (omega arith)
 first_edge (edge ∷ path) l = (edge, refl)
+
+-- ---- the turns of a loop
+
+-- one edge more
+pub edge_turn : (edges : List Edge) (bits : List Bool) (numbers : List ℕ) (old rows new : List (List Bool)) (n : ℕ) (x : Edge) (ant : List Bind) → x ≡ get_or edges (get_or numbers n 0) x → ant ≡ x.ant
+    → ((id : ℕ) → IsAskedOr (bind_cuts ant bits) id (cell rows n id) (cell new n id)) → ((s id : ℕ) → s ≢ n → cell new s id ≡ cell rows s id)
+    → ((i : ℕ) (edge : Edge) (id : ℕ) → i < n → slice_get edges (get_or numbers i 0) ≡ Some edge → IsAskedOr (bind_cuts edge.ant bits) id (cell old i id) (cell rows i id))
+    → ((s id : ℕ) → n ≤ s → cell rows s id ≡ cell old s id)
+    → ((i : ℕ) (edge : Edge) (id : ℕ) → i < n + 1 → slice_get edges (get_or numbers i 0) ≡ Some edge → IsAskedOr (bind_cuts edge.ant bits) id (cell old i id) (cell new i id))
+    × ((s id : ℕ) → n + 1 ≤ s → cell new s id ≡ cell old s id)
+edge_turn edges bits numbers old rows new n x ant is ant_is here others each later = (
+  (λ i edge id l at. elim (cases_lt i n) [
+    | inl early ↦ subst (λ (b : Bool). IsAskedOr (bind_cuts edge.ant bits) id (cell old i id) b) (sym (others i id (λ e. absurd (omega arith)))) (each i edge id early at)
+    | inr now ↦
+        let same : n ≡ i = omega arith in
+        subst (λ (k : ℕ). IsAskedOr (bind_cuts edge.ant bits) id (cell old k id) (cell new k id)) same
+        (subst (λ (b : Bool). IsAskedOr (bind_cuts edge.ant bits) id b (cell new n id)) (later n id (omega arith))
+        (subst (λ (binds : List Bind). IsAskedOr (bind_cuts binds bits) id (cell rows n id) (cell new n id)) (ant_is ∙ ap (λ (e : Edge). e.ant) (is ∙ ap (λ (k : ℕ). get_or edges (get_or numbers k 0) x) same ∙ get_or_from_slice_get edges (get_or numbers i 0) edge x at)) (here id)))
+  ]),
+  λ s id l. others s id (λ e. absurd (omega arith)) ∙ later s id (omega arith),
+)
 
 -- ---- the run
 
