@@ -141,3 +141,21 @@ module _ (net : RawNet) (graph : Graph) (bits : List Bool) (range : IsInRange ne
               rest = λ open_cuts either. first (slice_get_within path 0 edge here) k d m ∙ start_open graph.reset latch either;
             };
       }
+
+-- the same of what the code holds: the rows behind the edges, and what the run is made from
+pub printed_as : (net : RawNet) (graph : Graph) (bits : List Bool) → IsInRange net → IsBindable net (Gste graph)
+    → (numbers : List ℕ) (path : List Edge) → AreNumbers graph numbers path → All (λ edge. DoAgree (bind_cuts edge.ant bits)) path
+    → (start old asked given : List (List Bool)) (edges : List Edge) (run : ℕ → ℕ → Bool) → old ≡ start → given ≡ asked → edges ≡ graph.edges
+    → (0 < length numbers → All (λ latch. cell start 0 latch.output.0 ≡ start_bit graph.reset latch.init) net.latches)
+    → ((t id : ℕ) → All (λ latch. latch.output.0 ≢ id) net.latches → cell start t id ≡ false)
+    → ((i : ℕ) (edge : Edge) (id : ℕ) → i < length numbers → slice_get edges (get_or numbers i 0) ≡ Some edge → IsAskedOr (bind_cuts edge.ant bits) id (cell old i id) (cell asked i id))
+    → IsGivenRun net (cell given) (map (λ latch. cell given 0 latch.output.0) net.latches) (length numbers) run → IsPrintedAlong net graph bits path run
+printed_as net graph bits range bindable numbers path are agree start old asked given edges run old_is given_is edges_are starts others each h =
+    let size = as_many graph.edges numbers path are in
+    printed_along net graph bits range bindable numbers path are agree start given (λ l. starts (omega arith)) others
+    (λ i edge id here.
+        let at = numbered graph.edges numbers path are i edge here in
+        subst (λ (rows : List (List Bool)). IsAskedOr (bind_cuts edge.ant bits) id (cell rows i id) (cell given i id)) old_is
+        (subst (λ (rows : List (List Bool)). IsAskedOr (bind_cuts edge.ant bits) id (cell old i id) (cell rows i id)) (sym given_is)
+        (each i edge id at.0 (subst (λ (es : List Edge). slice_get es (get_or numbers i 0) ≡ Some edge) (sym edges_are) at.1))))
+    run (subst (λ (n : ℕ). IsGivenRun net (cell given) (map (λ latch. cell given 0 latch.output.0) net.latches) n run) size h)
