@@ -154,8 +154,8 @@ printed_as net graph bits range bindable numbers path are agree start old asked 
     let size = as_many graph.edges numbers path are in
     printed_along net graph bits range bindable numbers path are agree start given (λ l. starts (omega arith)) others
     (λ i edge id here.
-        let at = numbered graph.edges numbers path are i edge here in
-        subst (λ (rows : List (List Bool)). IsAskedOr (bind_cuts edge.ant bits) id (cell rows i id) (cell given i id)) old_is
-        (subst (λ (rows : List (List Bool)). IsAskedOr (bind_cuts edge.ant bits) id (cell old i id) (cell rows i id)) (sym given_is)
-        (each i edge id at.0 (subst (λ (es : List Edge). slice_get es (get_or numbers i 0) ≡ Some edge) (sym edges_are) at.1))))
+    let at = numbered graph.edges numbers path are i edge here in
+    subst (λ (rows : List (List Bool)). IsAskedOr (bind_cuts edge.ant bits) id (cell rows i id) (cell given i id)) old_is
+    (subst (λ (rows : List (List Bool)). IsAskedOr (bind_cuts edge.ant bits) id (cell old i id) (cell rows i id)) (sym given_is)
+    (each i edge id at.0 (subst (λ (es : List Edge). slice_get es (get_or numbers i 0) ≡ Some edge) (sym edges_are) at.1))))
     run (subst (λ (n : ℕ). IsGivenRun net (cell given) (map (λ latch. cell given 0 latch.output.0) net.latches) n run) size h)
