@@ -1,6 +1,6 @@
 -- What is left of a bit behind cuts that were put in its place, one after another.
 use Rattle.std.proofs.Common.{◌≡◌, ◌≢◌, ℕ, ◌+◌, ◌<◌, ◌≤◌, Bool, true, false, List, [], ◌∷◌, ◌++◌, map, take, length, get_or, arith, sym, ap, refl, subst, ◌∙◌, inl, inr, eq-eqb, eqb-true}
-use Rattle.std.specs.Prelude.{All, Any, IsTrue, ◌&&◌, ◌==◌, if◌then◌else◌}
+use Rattle.std.specs.Prelude.{IsTrue, ◌&&◌, ◌==◌, if◌then◌else◌}
 use Rattle.std.proofs.lemmas.Bool.{and_from, and_parts}
 use Rattle.std.proofs.lemmas.List.{get_or_append_left, length-append, map_more, take_all}
 use Rattle.std.proofs.lemmas.List.Elements.{All-contains, All-push}

@@ -2,7 +2,6 @@
 use Rattle.std.proofs.Common.{◌≡◌, ◌≢◌, ℕ, zero, suc, ◌<◌, ◌≤◌, Bool, true, false, List, [], ◌∷◌, map, length, get_or, arith, sym, refl, subst, inl, inr, ◌∙◌}
 use Rattle.std.specs.Prelude.{All, IsTrue}
 use Rattle.std.specs.List.{AllZip}
-use Rattle.std.proofs.lemmas.List.Elements.{All-map}
 use Rattle.net_core.specs.declared.bit_set.BitSet.{BitSet}
 use Rattle.net_core.specs.declared.raw.Init.{Init}
 use Rattle.net_core.specs.declared.raw.Init.TheVariants.{Zero, One, Free}
@@ -16,10 +15,9 @@ use Rattle.net_core.specs.Sets.{IsIn, first_set, neither}
 use Rattle.net_core.proofs.Possible.{same_fields}
 use Rattle.net_core.proofs.Starts.{first_values}
 use Rattle.ste_model.specs.declared.task.Assertion.{Assertion}
-use Rattle.ste_model.specs.declared.task.Quint.{Quint}
-use Rattle.ste_model.specs.Asked.{asked_at, cuts_at, depth, quint_at}
+use Rattle.ste_model.specs.Asked.{asked_at, cuts_at, depth}
 use Rattle.ste_model.specs.Found.{IsContradictory, IsTableOf}
-use Rattle.ste_model.specs.Shown.{IsOpen, IsPrinted}
+use Rattle.ste_model.specs.Shown.{IsPrinted}
 use Rattle.ste_model.specs.Table.{latch_sets}
 use Rattle.ste_model.proofs.Passes.{each_to}
 use Rattle.ste_model.proofs.Tables.{one_table}

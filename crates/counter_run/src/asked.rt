@@ -1,8 +1,8 @@
 //! What an antecedent asks, as rows of bits; begin with `put_quints`.
 
 ghost use Rattle.std.specs.Prelude.{◌≡◌, ◌≢◌, ◌<◌, ◌≤◌, ℕ, [], false, All, IfOk, length, map, slice_index_or};
-ghost use Rattle.counter_run.specs.private.Asking.{IsAskedOr, after_cut, start_bit};
 ghost use Rattle.ste_model.specs.Asked.{cuts_at, quint_at};
+ghost use Rattle.counter_run.specs.private.Asking.{IsAskedOr, after_cut, start_bit};
 ghost use Rattle.counter_run.specs.private.Matrix.{IsMatrix, SameShape, cell};
 
 use crate::matrix::{cell, zeros};

@@ -1,8 +1,7 @@
-use Rattle.std.proofs.Common.{◌≡◌, List, subst}
+use Rattle.std.proofs.Common.{subst}
 use Rattle.std.specs.Prelude.{All}
 use Rattle.ste_model.specs.declared.task.Edge.{Edge}
-use Rattle.ste_model.specs.Edges.{AreNumbers, IsPathFrom, bind_cuts}
-use Rattle.ste_model.specs.GraphShown.{IsPrintedAlong}
+use Rattle.ste_model.specs.Edges.{IsPathFrom, bind_cuts}
 use Rattle.ste_model.specs.Runs.{run_of}
 use Rattle.ste_model.proofs.DueAlong.{due_breaks_along}
 use Rattle.counter_run.specs.Along.{DoAgree}

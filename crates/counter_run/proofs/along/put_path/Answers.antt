@@ -1,4 +1,3 @@
-use Rattle.std.proofs.Common.{arith}
 use Rattle.counter_run.proofs.Cells.{shape_then}
 use Rattle.counter_run.proofs.PrintedAlong.{edge_turn}
 use Rattle.counter_run.proofs.along.put_path.Goals as goal
