@@ -6,3 +6,4 @@ pub mod SourceNodes
 pub mod OnInputs
 pub mod OneOnInputs
 pub mod PrintedAlong
+pub mod NumberedPaths

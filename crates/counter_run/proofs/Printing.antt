@@ -25,7 +25,7 @@ use Rattle.counter_run.specs.private.Asking.{IsAskedOr, start_bit}
 use Rattle.counter_run.proofs.Askings.{asked_left, left_by, open_by}
 use Rattle.counter_run.specs.private.Matrix.{IsMatrix, cell}
 
-some_in : (set : BitSet) → set ≢ neither → (bit : Bool) × IsIn bit set
+pub some_in : (set : BitSet) → set ≢ neither → (bit : Bool) × IsIn bit set
 some_in set full = by set.zero set.one refl refl
   where
     by : (z o : Bool) → set.zero ≡ z → set.one ≡ o → (bit : Bool) × IsIn bit set
