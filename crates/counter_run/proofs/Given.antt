@@ -1,5 +1,5 @@
 -- What is known of each run with given bits, time by time; and a run of the same bits is a run with them.
-use Rattle.std.proofs.Common.{◌≡◌, ℕ, zero, suc, ◌<◌, Bool, List, [], ◌∷◌, map, length, get_or, arith, sym, ap, refl, ◌∙◌, eq-eqb, ne_eqb, inl, inr}
+use Rattle.std.proofs.Common.{◌≡◌, ℕ, zero, suc, ◌<◌, Bool, List, [], ◌∷◌, map, length, get_or, arith, sym, ap, refl, subst, ◌∙◌, eq-eqb, ne_eqb, inl, inr}
 use Rattle.std.specs.Prelude.{All}
 use Rattle.std.specs.List.{AllZip}
 use Rattle.std.proofs.lemmas.Bool.{cases_eq}
@@ -77,3 +77,11 @@ run_as net given first times run other range h same = record {
   sources = λ t id l m none. same t id l m ∙ h.sources t id l m none;
   starts = λ l. starts_as (run 0) (other 0) net.latches first (λ k d m. same 0 (get_or net.latches k d).output.0 l (range.latch_outputs k d m)) (h.starts l);
 }
+
+-- the same of what the code holds: the rows as they were borrowed, and those of the run as lists
+pub given_as : (net : RawNet) (times : ℕ) (items given rows lists : List (List Bool)) (first : List Bool) → given ≡ items → lists ≡ rows → first ≡ map (λ latch. cell items 0 latch.output.0) net.latches
+    → IsGivenRun net (cell given) first times (cell rows) → IsGivenRun net (cell items) (map (λ latch. cell items 0 latch.output.0) net.latches) times (cell lists)
+given_as net times items given rows lists first is lists_are first_is h =
+    subst (λ (f : List Bool). IsGivenRun net (cell items) f times (cell lists)) first_is
+    (subst (λ (g : List (List Bool)). IsGivenRun net (cell g) first times (cell lists)) is
+    (subst (λ (r : List (List Bool)). IsGivenRun net (cell given) first times (cell r)) (sym lists_are) h))

@@ -5,3 +5,5 @@ pub mod Printing
 pub mod SourceNodes
 pub mod OnInputs
 pub mod OneOnInputs
+pub mod PrintedAlong
+pub mod NumberedPaths

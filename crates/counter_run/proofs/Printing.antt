@@ -2,7 +2,6 @@
 use Rattle.std.proofs.Common.{◌≡◌, ◌≢◌, ℕ, zero, suc, ◌<◌, ◌≤◌, Bool, true, false, List, [], ◌∷◌, map, length, get_or, arith, sym, refl, subst, inl, inr, ◌∙◌}
 use Rattle.std.specs.Prelude.{All, IsTrue}
 use Rattle.std.specs.List.{AllZip}
-use Rattle.std.proofs.lemmas.List.Elements.{All-map}
 use Rattle.net_core.specs.declared.bit_set.BitSet.{BitSet}
 use Rattle.net_core.specs.declared.raw.Init.{Init}
 use Rattle.net_core.specs.declared.raw.Init.TheVariants.{Zero, One, Free}
@@ -16,22 +15,17 @@ use Rattle.net_core.specs.Sets.{IsIn, first_set, neither}
 use Rattle.net_core.proofs.Possible.{same_fields}
 use Rattle.net_core.proofs.Starts.{first_values}
 use Rattle.ste_model.specs.declared.task.Assertion.{Assertion}
-use Rattle.ste_model.specs.declared.task.Quint.{Quint}
-use Rattle.ste_model.specs.Asked.{asked_at, cuts_at, depth, quint_at}
+use Rattle.ste_model.specs.Asked.{asked_at, cuts_at, depth}
 use Rattle.ste_model.specs.Found.{IsContradictory, IsTableOf}
-use Rattle.ste_model.specs.Shown.{IsOpen, IsPrinted}
+use Rattle.ste_model.specs.Shown.{IsPrinted}
 use Rattle.ste_model.specs.Table.{latch_sets}
 use Rattle.ste_model.proofs.Passes.{each_to}
 use Rattle.ste_model.proofs.Tables.{one_table}
-use Rattle.counter_run.specs.private.Asking.{IsAskedFor, IsAskedOr, start_bit}
+use Rattle.counter_run.specs.private.Asking.{IsAskedOr, start_bit}
+use Rattle.counter_run.proofs.Askings.{asked_left, left_by, open_by}
 use Rattle.counter_run.specs.private.Matrix.{IsMatrix, cell}
 
-map_apart : {X Y : Type 0} (f : X → Y) (P : Y → Type 0) (xs : List X) → All P (map f xs) → All (λ x. P (f x)) xs
-map_apart f P [] all k d l = absurd (omega arith)
-map_apart f P (x ∷ xs) all zero d l = all 0 (f d) (omega arith)
-map_apart f P (x ∷ xs) all (suc k) d l = map_apart f P xs (λ i e m. all (suc i) e (omega arith)) k d (omega arith)
-
-some_in : (set : BitSet) → set ≢ neither → (bit : Bool) × IsIn bit set
+pub some_in : (set : BitSet) → set ≢ neither → (bit : Bool) × IsIn bit set
 some_in set full = by set.zero set.one refl refl
   where
     by : (z o : Bool) → set.zero ≡ z → set.one ≡ o → (bit : Bool) × IsIn bit set
@@ -40,7 +34,7 @@ some_in set full = by set.zero set.one refl refl
     by false false e f = absurd (full (same_fields set.zero false set.one false e f))
 
 -- the bit of a latch of which nothing is asked is one that it may start with
-start_may : (reset : Bool) (latch : Latch) → MayStart reset latch (start_bit reset latch.init)
+pub start_may : (reset : Bool) (latch : Latch) → MayStart reset latch (start_bit reset latch.init)
 start_may reset latch on = by latch.init reset on
   where
     by : (init : Init) (reset : Bool) → IsTrue reset → IsInitial init (start_bit reset init)
@@ -51,7 +45,7 @@ start_may reset latch on = by latch.init reset on
     by One false on = absurd (cc on)
     by Free false on = absurd (cc on)
 
-start_open : (reset : Bool) (latch : Latch) → ((start : Bool) → MayStart reset latch start) → start_bit reset latch.init ≡ false
+pub start_open : (reset : Bool) (latch : Latch) → ((start : Bool) → MayStart reset latch start) → start_bit reset latch.init ≡ false
 start_open reset latch either = by latch.init reset either
   where
     by : (init : Init) (reset : Bool) → ((start : Bool) → IsTrue reset → IsInitial init start) → start_bit reset init ≡ false
@@ -60,29 +54,12 @@ start_open reset latch either = by latch.init reset either
     by Free true either = refl
     by One true either = absurd (cc (either false refl))
 
--- what is asked for is what is left
-asked_left : (quints : List Quint) (bits : List Bool) (t id : ℕ) (bit left : Bool) → IsAskedFor quints bits (length quints) t id bit → IsLeft (cuts_at quints bits t) id left → bit ≡ left
-asked_left quints bits t id bit left asked all =
-    let each = map_apart (quint_at bits t) (λ cut. IsTrue cut.on → cut.node ≡ id → cut.value ≡ left) quints all in
-    sym asked.5 ∙ each asked.0 asked.1 asked.2 asked.3 asked.4
-
--- a bit that is asked for, or nothing is, agrees with all that is asked
-left_by : (quints : List Quint) (bits : List Bool) (t id : ℕ) (other bit left : Bool) → IsLeft (cuts_at quints bits t) id left → IsAskedOr quints bits (length quints) t id other bit → IsLeft (cuts_at quints bits t) id bit
-left_by quints bits t id other bit left all (inl asked) = subst (IsLeft (cuts_at quints bits t) id) (sym (asked_left quints bits t id bit left asked all)) all
-left_by quints bits t id other bit left all (inr none) =
-    All-map (λ cut. IsTrue cut.on → cut.node ≡ id → cut.value ≡ bit) (quint_at bits t) quints (λ k d l on e. absurd (none.0 k d l on e))
-
-open_by : (quints : List Quint) (bits : List Bool) (t id : ℕ) (other bit : Bool) → IsOpen (cuts_at quints bits t) id → IsAskedOr quints bits (length quints) t id other bit → bit ≡ other
-open_by quints bits t id other bit open_cuts (inl asked) =
-    absurd (map_apart (quint_at bits t) (λ cut. IsTrue cut.on → cut.node ≢ id) quints open_cuts asked.0 asked.1 asked.2 asked.3 asked.4)
-open_by quints bits t id other bit open_cuts (inr none) = none.1
-
 latch_in : (id : ℕ) (bit : Bool) (reset : Bool) (latches : List Latch) → AllZip (λ latch set. latch.output.0 ≡ id → IsIn bit set) latches (map (first_set reset) latches) → All (λ latch. latch.output.0 ≡ id → IsIn bit (first_set reset latch)) latches
 latch_in id bit reset [] h k d l = absurd (omega arith)
 latch_in id bit reset (latch ∷ latches) h zero d l = h.0
 latch_in id bit reset (latch ∷ latches) h (suc k) d l = latch_in id bit reset latches h.1 k d (omega arith)
 
-starts_at : (bit : ℕ → Bool) (first : ℕ → Bool) (latches : List Latch) → AllZip (λ latch b. bit latch.output.0 ≡ b) latches (map (λ latch. first latch.output.0) latches) → All (λ latch. bit latch.output.0 ≡ first latch.output.0) latches
+pub starts_at : (bit : ℕ → Bool) (first : ℕ → Bool) (latches : List Latch) → AllZip (λ latch b. bit latch.output.0 ≡ b) latches (map (λ latch. first latch.output.0) latches) → All (λ latch. bit latch.output.0 ≡ first latch.output.0) latches
 starts_at bit first [] h k d l = absurd (omega arith)
 starts_at bit first (latch ∷ latches) h zero d l = h.0
 starts_at bit first (latch ∷ latches) h (suc k) d l = starts_at bit first latches h.1 k d (omega arith)
@@ -91,7 +68,7 @@ module _ (net : RawNet) (task : Assertion) (bits : List Bool) (settled : IsSettl
     (before given : List (List Bool))
     (starts : 0 < depth task → All (λ latch. cell before 0 latch.output.0 ≡ start_bit task.reset latch.init) net.latches)
     (others : (t id : ℕ) → All (λ latch. latch.output.0 ≢ id) net.latches → cell before t id ≡ false)
-    (each : (t id : ℕ) → IsAskedOr task.ant bits (length task.ant) t id (cell before t id) (cell given t id)) where
+    (each : (t id : ℕ) → IsAskedOr (cuts_at task.ant bits t) id (cell before t id) (cell given t id)) where
   table : (table : ℕ → ℕ → BitSet) × IsTableOf net task bits table
   table = one_table.some net task.reset (asked_at task bits) (depth task) settled
 
@@ -104,7 +81,7 @@ module _ (net : RawNet) (task : Assertion) (bits : List Bool) (settled : IsSettl
   left_at : (t id : ℕ) → t < depth task → id < net.nets → IsLeft (cuts_at task.ant bits t) id (cell given t id)
   left_at t id l m =
       let some = one_bit t id l m in
-      left_by task.ant bits t id (cell before t id) (cell given t id) some.0 some.1.left (each t id)
+      left_by (cuts_at task.ant bits t) id (cell before t id) (cell given t id) some.0 some.1.left (each t id)
 
   may_start : 0 < depth task → All (λ latch. MayStart task.reset latch (cell given 0 latch.output.0)) net.latches
   may_start l k d m =
@@ -113,7 +90,7 @@ module _ (net : RawNet) (task : Assertion) (bits : List Bool) (settled : IsSettl
       let some = one_bit 0 id l (range.latch_outputs k d m) in
       elim (each 0 id) [
         | inl asked ↦
-            let is = asked_left task.ant bits 0 id (cell given 0 id) some.0 asked some.1.left in
+            let is = asked_left (cuts_at task.ant bits 0) id (cell given 0 id) some.0 asked some.1.left in
             let within = latch_in id some.0 task.reset net.latches some.1.source.by_latch k d m refl in
             subst (MayStart task.reset latch) (sym is) ((first_values task.reset latch some.0).0 within)
         | inr none ↦ subst (MayStart task.reset latch) (sym (none.1 ∙ starts l k d m)) (start_may task.reset latch)
@@ -129,30 +106,28 @@ module _ (net : RawNet) (task : Assertion) (bits : List Bool) (settled : IsSettl
         };
         sources = λ t id l m none. record {
           asked = subst (IsLeft (cuts_at task.ant bits t) id) (sym (h.sources t id l m none)) (left_at t id l m);
-          rest = λ open_cuts. h.sources t id l m none ∙ open_by task.ant bits t id (cell before t id) (cell given t id) open_cuts (each t id) ∙ others t id none.by_latch;
+          rest = λ open_cuts. h.sources t id l m none ∙ open_by (cuts_at task.ant bits t) id (cell before t id) (cell given t id) open_cuts (each t id) ∙ others t id none.by_latch;
         };
         starts = λ l k d m.
             let latch = get_or net.latches k d in
             let id = latch.output.0 in
             record {
               asked = subst (IsLeft (cuts_at task.ant bits 0) id) (sym (first l k d m)) (left_at 0 id l (range.latch_outputs k d m));
-              rest = λ open_cuts either. first l k d m ∙ open_by task.ant bits 0 id (cell before 0 id) (cell given 0 id) open_cuts (each 0 id) ∙ starts l k d m ∙ start_open task.reset latch either;
+              rest = λ open_cuts either. first l k d m ∙ open_by (cuts_at task.ant bits 0) id (cell before 0 id) (cell given 0 id) open_cuts (each 0 id) ∙ starts l k d m ∙ start_open task.reset latch either;
             };
       }
 
--- the same of what the code holds: the rows behind the quintuples, what the run is completed from, and its rows as lists
+-- the same of what the code holds: the rows behind the quintuples, and what the run is made from
 pub printed_as : (net : RawNet) (task : Assertion) (bits : List Bool) → IsSettled net → IsInRange net → ¬ IsContradictory net task bits
-    → (before asked given rows lists : List (List Bool)) (first : List Bool) (times : ℕ) → times ≡ depth task → given ≡ asked → lists ≡ rows → first ≡ map (λ latch. cell given 0 latch.output.0) net.latches
+    → (before asked given : List (List Bool)) (times : ℕ) (run : ℕ → ℕ → Bool) → times ≡ depth task → given ≡ asked
     → (0 < times → All (λ latch. cell before 0 latch.output.0 ≡ start_bit task.reset latch.init) net.latches)
     → ((t id : ℕ) → All (λ latch. latch.output.0 ≢ id) net.latches → cell before t id ≡ false)
-    → ((t id : ℕ) → IsAskedOr task.ant bits (length task.ant) t id (cell before t id) (cell asked t id))
-    → IsGivenRun net (cell given) first times (cell rows) → IsPrinted net task bits (cell lists)
-printed_as net task bits settled range possible before asked given rows lists first times deep is lists_are first_is starts others each h =
-    let h1 = subst (λ (f : List Bool). IsGivenRun net (cell given) f times (cell rows)) first_is h in
-    let h2 = subst (λ (n : ℕ). IsGivenRun net (cell given) (map (λ latch. cell given 0 latch.output.0) net.latches) n (cell rows)) deep h1 in
-    subst (λ (l : List (List Bool)). IsPrinted net task bits (cell l)) (sym lists_are)
-    (printed net task bits settled range possible before given (λ l. starts (subst (λ (n : ℕ). 0 < n) (sym deep) l)) others
-    (λ t id. subst (λ (a : List (List Bool)). IsAskedOr task.ant bits (length task.ant) t id (cell before t id) (cell a t id)) (sym is) (each t id)) (cell rows) h2)
+    → ((t id : ℕ) → IsAskedOr (cuts_at task.ant bits t) id (cell before t id) (cell asked t id))
+    → IsGivenRun net (cell given) (map (λ latch. cell given 0 latch.output.0) net.latches) times run → IsPrinted net task bits run
+printed_as net task bits settled range possible before asked given times run deep is starts others each h =
+    printed net task bits settled range possible before given (λ l. starts (subst (λ (n : ℕ). 0 < n) (sym deep) l)) others
+    (λ t id. subst (λ (a : List (List Bool)). IsAskedOr (cuts_at task.ant bits t) id (cell before t id) (cell a t id)) (sym is) (each t id)) run
+    (subst (λ (n : ℕ). IsGivenRun net (cell given) (map (λ latch. cell given 0 latch.output.0) net.latches) n run) deep h)
 
 -- a quintuple of the antecedent asks nothing behind the depth
 pub ant_within : (task : Assertion) (rows : List (List Bool)) (nets times : ℕ) → times ≡ depth task → IsMatrix nets times rows → All (λ quint. quint.node.0 < nets) task.ant → All (λ quint. quint.to ≤ length (get_or rows quint.node.0 [])) task.ant

@@ -1,7 +1,8 @@
 //! What an antecedent asks, as rows of bits; begin with `put_quints`.
 
 ghost use Rattle.std.specs.Prelude.{◌≡◌, ◌≢◌, ◌<◌, ◌≤◌, ℕ, [], false, All, IfOk, length, map, slice_index_or};
-ghost use Rattle.counter_run.specs.private.Asking.{IsAskedOr, after_quint, start_bit};
+ghost use Rattle.ste_model.specs.Asked.{cuts_at, quint_at};
+ghost use Rattle.counter_run.specs.private.Asking.{IsAskedOr, after_cut, start_bit};
 ghost use Rattle.counter_run.specs.private.Matrix.{IsMatrix, SameShape, cell};
 
 use crate::matrix::{cell, zeros};
@@ -66,7 +67,7 @@ fn put_quint(rows: &mut [Row], bits: &[bool], quint: &Quint)
     requires below { quint.now.to ≤ length (slice_index_or rows.old quint.now.node.0 []) }
     ensures shape { SameShape rows.old rows.new }
     ensures each { (t id : ℕ) → cell rows.new t id
-        ≡ after_quint bits.now quint.now t id (cell rows.old t id) }
+        ≡ after_cut (quint_at bits.now t quint.now) id (cell rows.old t id) }
 {
     if value(&quint.guard, bits) {
         let bit = value(&quint.value, bits);
@@ -80,7 +81,7 @@ pub fn put_quints(rows: &mut [Row], bits: &[bool], quints: &[Quint])
     requires below { All (λ quint. quint.to ≤ length (slice_index_or rows.old quint.node.0 []))
         quints.now }
     ensures shape { SameShape rows.old rows.new }
-    ensures each { (t id : ℕ) → IsAskedOr quints.now bits.now (length quints.now) t id
+    ensures each { (t id : ℕ) → IsAskedOr (cuts_at quints.now bits.now t) id
         (cell rows.old t id) (cell rows.new t id) }
 {
     for quint in quints {

@@ -3,14 +3,18 @@
 ghost use Rattle.std.specs.Prelude.{◌≡◌, ◌<◌, OnOk, IfOk, length, map};
 ghost use Rattle.net_core.specs.OneRun.{IsGivenRun};
 ghost use Rattle.clock_step.specs.private.Settled.{bit_at};
+ghost use Rattle.ste_model.specs.Runs.{HasRows, run_of};
 ghost use Rattle.counter_run.specs.private.Matrix.{AreSourceNodes, IsMatrix, cell};
 
-use crate::matrix::{gather, put_column};
+use crate::asked::first_bits;
+use crate::matrix::{gather, lists_of, put_column};
 use crate::row::Row;
+use crate::undriven::undriven_nets;
 use clock_step::settle::{bit_at, settle};
 use net_core::Net;
 use std::alloc::{AllocError, Global};
 use ste_base::{NodeId, Time};
+use ste_model::Run;
 
 /// The same bits.
 fn copy_of(alloc: Global, bits: &[bool]) -> Result<Vec<bool>, AllocError>
@@ -81,4 +85,29 @@ pub fn complete(
 {
     let mut bits = vec![in alloc; false; net.nets() as usize]?;
     complete_times(alloc, net, nodes, times, first, rows, bits.as_mut_slice())
+}
+
+/// The run from these rows, which give the bits at inputs and free nets, and those at time 0 of the latches.
+pub fn run_from(alloc: Global, net: &Net, times: Time, rows: Vec<Row>) -> Result<Run, AllocError>
+    requires { IsMatrix net.now.raw.nets times rows.items }
+    ensures rows { IfOk result (λ run. HasRows net.now.raw.nets times run) }
+    ensures run { IfOk result (λ run. IsGivenRun net.now.raw (cell rows.items)
+        (map (λ latch. cell rows.items 0 latch.output.0) net.now.raw.latches) times
+        (run_of run)) }
+{
+    let mut rows = rows;
+    let nodes = undriven_nets(alloc, net)?;
+    let first = first_bits(alloc, net, rows.as_slice())?;
+    complete(
+        alloc,
+        net,
+        nodes.as_slice(),
+        times,
+        first.as_slice(),
+        rows.as_mut_slice(),
+    )?;
+    Ok(Run {
+        length: times,
+        rows: lists_of(alloc, rows)?,
+    })
 }

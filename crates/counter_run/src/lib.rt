@@ -1,7 +1,8 @@
-//! Two-valued runs of nets: the one run with given bits, and the run that is printed for a failure of an assertion. Begin
-//! with `two_valued` and `ste_run`.
+//! Two-valued runs of nets: the one run with given bits, and the run that is printed for a failure of an assertion or of an
+//! assertion graph. Begin with `two_valued`, `ste_run` and `graph_run`.
 #![tactic(auto)]
 
+mod along;
 mod asked;
 mod completion;
 pub mod laws;
@@ -13,5 +14,6 @@ mod simple;
 mod tests;
 mod undriven;
 
+pub use along::graph_run;
 pub use printed::ste_run;
 pub use simple::two_valued;

@@ -8,10 +8,8 @@ ghost use Rattle.ste_model.specs.Holds.{RunMeets};
 ghost use Rattle.ste_model.specs.Shown.{AsksOfNets, IsBindable, IsPrinted};
 ghost use Rattle.ste_model.specs.declared.task.Task.TheVariants.{Ste};
 
-use crate::asked::{first_bits, put_quints, start_rows};
-use crate::completion::complete;
-use crate::matrix::lists_of;
-use crate::undriven::undriven_nets;
+use crate::asked::{put_quints, start_rows};
+use crate::completion::run_from;
 use net_core::Net;
 use std::alloc::{AllocError, Global};
 use ste_model::{Assertion, Run, depth};
@@ -30,22 +28,10 @@ pub fn run_as_asked(
         → IsPrinted net.now.raw task.now bits.now (run_of run)) }
 {
     let times = depth(task);
-    let nodes = undriven_nets(alloc, net)?;
     let mut rows = start_rows(alloc, net, task.reset, times)?;
     put_quints(rows.as_mut_slice(), bits, task.ant.as_slice());
-    let first = first_bits(alloc, net, rows.as_slice())?;
-    complete(
-        alloc,
-        net,
-        nodes.as_slice(),
-        times,
-        first.as_slice(),
-        rows.as_mut_slice(),
-    )?;
-    Ok(Run {
-        length: times,
-        rows: lists_of(alloc, rows)?,
-    })
+    let made = run_from(alloc, net, times, rows)?;
+    Ok(made)
 }
 
 /// The printed run of an assertion under an assignment, which has a bit for each variable and is not contradictory: it has

@@ -4,6 +4,7 @@ ghost use Rattle.std.specs.Prelude.{◌≡◌, ◌<◌, ◌∷◌, ◌↔◌, []
 ghost use Rattle.net_core.specs.Cover.{IsCover};
 ghost use Rattle.net_core.specs.Flat.{HasOneDriver, IsInRange};
 
+use crate::along::run_along;
 use crate::printed::run_as_asked;
 use crate::simple::two_valued;
 use crate::undriven::undriven_nets;
@@ -12,7 +13,7 @@ use net_core::{Cover, Gate, Init, Latch, Lit, Net, RawNet, order};
 use std::alloc::{AllocError, Global};
 use std::test::Fail;
 use ste_base::{Items, Name, NodeId, Time, VarId};
-use ste_model::{Assertion, Quint};
+use ste_model::{Assertion, Bind, Edge, Graph, Quint};
 
 /// A gate of two inputs.
 fn gate(alloc: Global, one: u32, other: u32, output: u32, cover: u32) -> Result<Gate, AllocError>
@@ -239,5 +240,116 @@ fn printed_runs_have_what_is_asked_and_0_elsewhere(rt: HostRuntime) -> Result<()
         reset.as_slice(),
         b" 000 100 000 000 000 000 000 000".as_slice()
     );
+    Ok(())
+}
+
+/// An input d, which is net 0, and a latch q, which is net 1, takes d and has initial value 1.
+fn latch(alloc: Global) -> Result<RawNet, AllocError>
+    ensures in_range { IfOk result (λ raw. IsInRange raw) }
+    ensures one_driver { IfOk result (λ raw. HasOneDriver raw) }
+{
+    let latches = [Latch {
+        input: NodeId(0),
+        output: NodeId(1),
+        init: Init::One,
+    }];
+    Ok(RawNet {
+        nets: 2,
+        inputs: Items::from(Vec::from_array(alloc, [NodeId(0)])?),
+        outputs: Items::new(alloc),
+        gates: Items::new(alloc),
+        latches: Items::from(Vec::from_array(alloc, latches)?),
+        covers: Items::new(alloc),
+    })
+}
+
+/// An edge whose antecedent asks for the variable, or for 1, of d, where the variable is 1, or always.
+fn edge(alloc: Global, from: u32, guard: bool, value: bool) -> Result<Edge, AllocError> {
+    let mut ant = Items::new(alloc);
+    ant.push(Bind {
+        guard: asked(guard),
+        node: NodeId(0),
+        value: asked(value),
+    })?;
+    Ok(Edge {
+        from,
+        to: 1,
+        ant,
+        con: Items::new(alloc),
+    })
+}
+
+/// Edges to vertex 1: from vertex 0 d has the variable; from vertex 1 d has 1, or has it where the variable is 1.
+fn graph(alloc: Global, reset: bool) -> Result<Graph, AllocError> {
+    let mut vertices = Items::new(alloc);
+    vertices.push(Name::from_bytes(alloc, b"a")?)?;
+    vertices.push(Name::from_bytes(alloc, b"b")?)?;
+    let mut edges = Items::new(alloc);
+    edges.push(edge(alloc, 0, false, true)?)?;
+    edges.push(edge(alloc, 1, false, false)?)?;
+    edges.push(edge(alloc, 1, true, false)?)?;
+    Ok(Graph {
+        name: Name::from_bytes(alloc, b"g")?,
+        reset,
+        vertices,
+        edges,
+    })
+}
+
+/// Whether each binding asks of a net that there is.
+fn bind_nets(net: &Net, binds: &[Bind]) -> bool
+    ensures { IsTrue result ↔ All (λ bind. bind.node.0 < net.now.raw.nets) binds.now }
+{
+    let nets = net.nets();
+    binds.iter().all(|bind| bind.node.0 < nets)
+}
+
+/// Whether each antecedent asks of nets that there are.
+fn edges_bind_nets(net: &Net, edges: &[Edge]) -> bool
+    ensures { IsTrue result
+        ↔ All (λ edge. All (λ bind. bind.node.0 < net.now.raw.nets) edge.ant) edges.now }
+{
+    edges.iter().all(|edge| bind_nets(net, edge.ant.as_slice()))
+}
+
+/// Whether each is the number of an edge.
+fn are_numbers(path: &[u32], edges: &[Edge]) -> bool
+    ensures { IsTrue result ↔ All (λ number. number < length edges.now) path.now }
+{
+    let count = edges.len();
+    path.iter().all(|number| (*number as usize) < count)
+}
+
+/// The rows of the printed run of the latch along a path.
+fn along(alloc: Global, reset: bool, path: &[u32], bit: bool) -> Result<Vec<u8>, Fail> {
+    let net = match order(alloc, latch(alloc)?) {
+        Ok(net) => net,
+        Err(_) => return Err("no order".into()),
+    };
+    let graph = graph(alloc, reset)?;
+    let edges = graph.edges.as_slice();
+    if !edges_bind_nets(&net, edges) || !are_numbers(path, edges) || path.len() > 9 {
+        return Err("a short path of edges over the nets".into());
+    }
+    let run = run_along(alloc, &net, &graph, path, &[bit])?;
+    let text = text_of(alloc, run.rows.as_slice())?;
+    Ok(text)
+}
+
+#[test]
+fn printed_runs_follow_the_edges_of_a_path(rt: HostRuntime) -> Result<(), Fail> {
+    let alloc = rt.alloc();
+    let none = along(alloc, true, &[], true)?;
+    assert_eq!(rt; none.as_slice(), b"  ".as_slice());
+    let one = along(alloc, false, &[0], true)?;
+    assert_eq!(rt; one.as_slice(), b" 1 0".as_slice());
+    let same = along(alloc, false, &[0, 1], true)?;
+    assert_eq!(rt; same.as_slice(), b" 11 01".as_slice());
+    let different = along(alloc, false, &[0, 1], false)?;
+    assert_eq!(rt; different.as_slice(), b" 01 00".as_slice());
+    let unasked = along(alloc, false, &[0, 2, 1], false)?;
+    assert_eq!(rt; unasked.as_slice(), b" 001 000".as_slice());
+    let reset = along(alloc, true, &[0, 2], false)?;
+    assert_eq!(rt; reset.as_slice(), b" 00 10".as_slice());
     Ok(())
 }
