@@ -6,6 +6,7 @@ pub mod EdgeParts
 pub mod GatedFinds
 pub mod GatedSets
 pub mod Joins
+pub mod KeptRefs
 pub mod Lists
 pub mod NextSums
 pub mod NextTables

@@ -1,14 +1,14 @@
-//! What is found of the consequents of one edge, where the edge is feasible; begin with `find_all`.
+//! What is found of the consequents of one edge, where the edge is feasible; begin with `with_found`.
 
-ghost use Rattle.std.specs.Prelude.{◌≡◌, ◌<◌, ℕ, List, All, length};
+ghost use Rattle.std.specs.Prelude.{◌≡◌, ◌<◌, ℕ, List, All, IfOk, length};
 ghost use Rattle.std.specs.List.{AllZip};
 ghost use Rattle.dd_nodes.specs.Diagram.{Function};
-ghost use Rattle.dd_nodes.specs.Stores.{IsRef, Means};
+ghost use Rattle.dd_nodes.specs.Stores.{IsRef, Keeps, Means};
 ghost use Rattle.net_core.specs.Work.{SymbolicCut, SymbolicSet, conjunction, disjunction};
 ghost use Rattle.dual_rail.specs.Rail.{AreRails, AreRefs, Built, HasFunction};
 ghost use Rattle.sym_step.specs.Step.{IsCutBy, rails_at};
 ghost use Rattle.ste_model.specs.Work.{both_bits, found_strong, found_weak, refutes};
-ghost use Rattle.gste_engine.specs.private.EdgeFinds.{AreFindings, AreFindingsRefs, gated_add_work, gated_find_work, gated_finding, gated_finds_work, gated_strong_work, gated_weak_work, more_gated_strong, more_gated_weak};
+ghost use Rattle.gste_engine.specs.private.EdgeFinds.{AreFindings, AreFindingsRefs, gated_add_work, gated_find_work, gated_finding, gated_finds_work, gated_strong_work, gated_weak_work, more_gated_strong, more_gated_weak, with_found_work};
 
 use dd_nodes::{Nodes, Ref};
 use dd_ops::{OpFault, Ops};
@@ -131,7 +131,40 @@ fn find<N: Nodes>(
 }
 
 /// What is found so far, with all consequents of an edge that is feasible where `gate` is 1, in order.
-pub fn find_all<N: Nodes>(
+fn find_all<N: Nodes>(
+    ops: &Ops,
+    nodes: &mut N,
+    nets: &[Rails],
+    cuts: &[Cut],
+    gate: Ref,
+    found: Findings,
+) -> Result<Findings, OpFault>
+    requires nets { All (AreRefs (N.store nodes.old)) nets.now }
+    requires inside { All (λ c. c.node.0 < length nets.now) cuts.now }
+    requires guards { All (λ c. IsRef (N.store nodes.old) c.guard) cuts.now }
+    requires values { All (λ c. IsRef (N.store nodes.old) c.value) cuts.now }
+    requires gate { IsRef (N.store nodes.old) gate }
+    requires found { AreFindingsRefs (N.store nodes.old) found }
+    ensures keeps { Keeps (N.store nodes.old) (N.store nodes.new) }
+    ensures refs { IfOk result (AreFindingsRefs (N.store nodes.new)) }
+    ensures found { (sets : ℕ → SymbolicSet) (ds : List SymbolicCut) (z f h e : Function)
+        → ((id : ℕ) → id < length nets.now
+        → AreRails (N.store nodes.old) (sets id) (rails_at nets.now id))
+        → AllZip (IsCutBy (N.store nodes.old)) ds cuts.now
+        → Means (N.store nodes.old) z gate → AreFindings f h e (N.store nodes.old) found
+        → Built (gated_finds_work sets ds z f h)
+        (AreFindings (more_gated_strong sets ds z f) (more_gated_weak sets ds z h) e)
+        (N.store nodes.old) (N.store nodes.new) result }
+{
+    let mut all = found;
+    for c in cuts {
+        all = find(ops, nodes, nets[c.node.0 as usize], *c, gate, all)?;
+    }
+    Ok(all)
+}
+
+/// What is found so far, with all consequents of an edge, and with where the edge is feasible.
+pub fn with_found<N: Nodes>(
     ops: &Ops,
     nodes: &mut N,
     nets: &[Rails],
@@ -150,13 +183,16 @@ pub fn find_all<N: Nodes>(
         → AreRails (N.store nodes.old) (sets id) (rails_at nets.now id))
         → AllZip (IsCutBy (N.store nodes.old)) ds cuts.now
         → Means (N.store nodes.old) z gate → AreFindings f h e (N.store nodes.old) found
-        → Built (gated_finds_work sets ds z f h)
-        (AreFindings (more_gated_strong sets ds z f) (more_gated_weak sets ds z h) e)
+        → Built (with_found_work sets ds z f h e)
+        (AreFindings (more_gated_strong sets ds z f) (more_gated_weak sets ds z h)
+        (disjunction e z))
         (N.store nodes.old) (N.store nodes.new) result }
 {
-    let mut all = found;
-    for c in cuts {
-        all = find(ops, nodes, nets[c.node.0 as usize], *c, gate, all)?;
-    }
-    Ok(all)
+    let more = find_all(ops, nodes, nets, cuts, gate, found)?;
+    let feasible = either(ops, nodes, more.feasible, gate)?;
+    Ok(Findings {
+        strong: more.strong,
+        weak: more.weak,
+        feasible,
+    })
 }

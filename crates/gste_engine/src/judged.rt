@@ -12,29 +12,45 @@ ghost use Rattle.ste_model.specs.GraphNeed.{AreWholeRounds, BindsReadBelow};
 ghost use Rattle.ste_model.specs.GraphTable.{enough};
 ghost use Rattle.ste_model.specs.GraphWork.{SymbolicState, graph_work, symbolic_asked_on};
 ghost use Rattle.gste_engine.specs.Tables.{AreConsequentsOver, AreEdgesOver, AreStateRefs, HasStates, IsGraphOver};
-ghost use Rattle.gste_engine.specs.private.EdgeFinds.{AreAllFound, AreEndings, AreFindings, AreFindingsRefs, IsWithEdge, all_found_work, ending_work, with_edge_work};
+ghost use Rattle.gste_engine.specs.private.EdgeFinds.{AreAllFound, AreEndings, AreFindings, AreFindingsRefs, IsAsked, IsWithEdge, all_found_work, asked_work, ending_work, with_edge_work};
 ghost use Rattle.gste_engine.specs.private.Judged.{AreGraphResults};
 
 use crate::binds::cuts_of;
 use crate::edge::edge_found;
-use crate::found::{Findings, find_all};
+use crate::found::{Findings, with_found};
 use crate::rounds::settle;
 use crate::state::State;
 use dd_nodes::{Nodes, Ref};
 use dd_ops::{OpFault, Ops};
-use dual_rail::either;
 use net_core::{Net, settles};
 use std::alloc::Global;
 use ste_base::Items;
 use ste_engine::shared::{Results, but_not};
 use ste_model::{Edge, Graph};
-use sym_step::GateRows;
+use sym_step::{Cut, GateRows};
 
 /// The table of the round that settles, and the strong, the weak and the contradictory assignments on it.
 #[derive(Debug, Drop)]
 pub struct Judged {
     pub table: Items<State>,
     pub results: Results,
+}
+
+/// The references of an edge's consequents. The guards and values of its antecedent are built too, and stay held.
+fn asked_on<N: Nodes>(
+    alloc: Global,
+    ops: &Ops,
+    nodes: &mut N,
+    edge: &Edge,
+) -> Result<Vec<Cut>, OpFault>
+    requires given { BindsReadBelow (N.store nodes.old).vars edge.now.ant }
+    requires wanted { BindsReadBelow (N.store nodes.old).vars edge.now.con }
+    ensures { Built (asked_work edge.now) (λ t cuts. IsAsked edge.now t cuts.items)
+        (N.store nodes.old) (N.store nodes.new) result }
+{
+    let given = cuts_of(alloc, ops, nodes, edge.ant.as_slice())?;
+    drop(given);
+    cuts_of(alloc, ops, nodes, edge.con.as_slice())
 }
 
 /// What is found so far, with what one more edge gives. The sets of its nets are let go, and what they refer to stays held.
@@ -64,24 +80,10 @@ fn with_edge<N: Nodes>(
         (N.store nodes.old) (N.store nodes.new) result }
 {
     let ops = Ops::new(alloc);
-    let asked = cuts_of(alloc, &ops, nodes, edge.ant.as_slice())?;
-    drop(asked);
-    let wanted = cuts_of(alloc, &ops, nodes, edge.con.as_slice())?;
+    let wanted = asked_on(alloc, &ops, nodes, edge)?;
     let given = edge_found(alloc, nodes, net, rows, edge, source)?;
-    let more = find_all(
-        &ops,
-        nodes,
-        given.nets.as_slice(),
-        wanted.as_slice(),
-        given.feasible,
-        found,
-    )?;
-    let feasible = either(&ops, nodes, more.feasible, given.feasible)?;
-    Ok(Findings {
-        strong: more.strong,
-        weak: more.weak,
-        feasible,
-    })
+    let nets = given.nets.as_slice();
+    with_found(&ops, nodes, nets, wanted.as_slice(), given.feasible, found)
 }
 
 /// What is found on all edges, on a table.

@@ -1,17 +1,18 @@
 -- For private functions. What is found on the edges of a graph, one after another, each where the edge is feasible.
-use Rattle.std.specs.Prelude.{◌<◌, ℕ, List, [], ◌∷◌, ◌++◌, All, Contains, length, map}
-use Rattle.std.specs.List.{flat_map}
+use Rattle.std.specs.Prelude.{ℕ, List, [], ◌∷◌, ◌++◌, Contains, map}
+use Rattle.std.specs.List.{AllZip, flat_map}
 use Rattle.dd_nodes.specs.declared.node.Ref.{Ref}
 use Rattle.dd_nodes.specs.Diagram.{Function}
 use Rattle.dd_nodes.specs.Stores.{Store, IsRef, Means}
 use Rattle.net_core.specs.declared.raw.RawNet.{RawNet}
 use Rattle.net_core.specs.Work.{SymbolicCut, SymbolicSet, chain, conjunction, disjunction, negation, never, sum, sums, whole}
+use Rattle.sym_step.specs.declared.cut.Cut.{Cut}
+use Rattle.sym_step.specs.Step.{IsCutBy}
 use Rattle.ste_engine.specs.declared.results.Results.{Results}
 use Rattle.ste_engine.specs.private.Finds.{except, refutes_work}
-use Rattle.ste_model.specs.declared.task.Bind.{Bind}
 use Rattle.ste_model.specs.declared.task.Edge.{Edge}
-use Rattle.ste_model.specs.GraphNeed.{BindsReadBelow, bind_functions}
-use Rattle.ste_model.specs.GraphWork.{SymbolicState, binds_work, edge_work, feasible_where, found_work, strong_on, weak_on}
+use Rattle.ste_model.specs.GraphNeed.{bind_functions}
+use Rattle.ste_model.specs.GraphWork.{SymbolicState, binds_work, edge_work, feasible_where, found_work, strong_on, symbolic_binds, weak_on}
 use Rattle.ste_model.specs.Need.{set_functions}
 use Rattle.ste_model.specs.Work.{both_bits, consequents_work, refutes, strong_findings, weak_findings}
 use Rattle.gste_engine.specs.declared.found.Findings.{Findings}
@@ -27,6 +28,10 @@ pub record AreFindingsRefs (t : Store) (r : Findings) : Type 0 where
   pub strong : IsRef t r.strong
   pub weak : IsRef t r.weak
   pub feasible : IsRef t r.feasible
+
+-- each of these functions has a reference
+abbrev pub HaveRefs : Store → List Function → Type 0
+HaveRefs t fs = (f : Function) → Contains fs f → (x : Ref) × Means t f x
 
 -- ---- one consequent
 
@@ -66,20 +71,28 @@ gated_finds_work sets cuts z f h =
     (consequents_work sets cuts ++ (gated_by z (weak_findings sets cuts) ++ gated_by z (strong_findings sets cuts)))
     ++ (chain disjunction f (gated_by z (strong_findings sets cuts)) ++ chain disjunction h (gated_by z (weak_findings sets cuts)))
 
+-- the same with the sum of where an edge is feasible
+abbrev pub with_found_work : (ℕ → SymbolicSet) → List SymbolicCut → Function → Function → Function → Function → List Function
+with_found_work sets cuts z f h e = gated_finds_work sets cuts z f h ++ disjunction e z ∷ []
+
+-- what an edge asks for is at hand: the references of its consequents, and some for each guard and value of its antecedent
+pub record IsAsked (edge : Edge) (t : Store) (cuts : List Cut) : Type 0 where
+  pub wanted : AllZip (IsCutBy t) (symbolic_binds edge.con) cuts
+  pub given : HaveRefs t (bind_functions edge.ant)
+
+-- the functions for the guards and values of an edge
+abbrev pub asked_work : Edge → List Function
+asked_work edge = binds_work edge.ant ++ binds_work edge.con
+
 -- the functions for one more edge, with the sums so far
 abbrev pub with_edge_work : RawNet → Edge → SymbolicState → (ℕ → SymbolicSet) → Function → Function → Function → List Function
 with_edge_work net edge source sets f h e =
-    (edge_work net edge source sets ++ (binds_work edge.con ++ found_work net edge source sets))
-    ++ (chain disjunction f (strong_on net edge source sets)
-    ++ (chain disjunction h (weak_on net edge source sets) ++ disjunction e (feasible_where net source sets) ∷ []))
+    asked_work edge ++ (edge_work net edge source sets
+    ++ with_found_work sets (symbolic_binds edge.con) (feasible_where net source sets) f h e)
 
 -- the functions of an edge that are kept: those of every guard and value, and z and o of every net
 abbrev pub edge_kept : RawNet → Edge → (ℕ → SymbolicSet) → List Function
 edge_kept net edge sets = bind_functions edge.ant ++ (bind_functions edge.con ++ set_functions sets net.nets)
-
--- each of these functions has a reference
-abbrev pub HaveRefs : Store → List Function → Type 0
-HaveRefs t fs = (f : Function) → Contains fs f → (x : Ref) × Means t f x
 
 -- one more edge has been dealt with
 pub record IsWithEdge (net : RawNet) (edge : Edge) (source : SymbolicState) (sets : ℕ → SymbolicSet) (f h e : Function) (t : Store) (r : Findings) : Type 0 where
@@ -101,8 +114,8 @@ feasible_of net states sets edges = map (λ (edge : Edge). feasible_where net (s
 -- the functions for some edges but for the sums, and those for the sums
 abbrev pub parts_of : RawNet → (ℕ → SymbolicState) → (Edge → ℕ → SymbolicSet) → List Edge → List Function
 parts_of net states sets edges =
-    flat_map (λ (edge : Edge). edge_work net edge (states edge.from) (sets edge)
-    ++ (binds_work edge.con ++ found_work net edge (states edge.from) (sets edge))) edges
+    flat_map (λ (edge : Edge). asked_work edge ++ (edge_work net edge (states edge.from) (sets edge)
+    ++ found_work net edge (states edge.from) (sets edge))) edges
 
 abbrev pub all_found_work : RawNet → (ℕ → SymbolicState) → (Edge → ℕ → SymbolicSet) → List Edge → List Function
 all_found_work net states sets edges =
@@ -117,11 +130,6 @@ kept_of net sets edges = flat_map (λ (edge : Edge). edge_kept net edge (sets ed
 pub record AreAllFound (net : RawNet) (states : ℕ → SymbolicState) (sets : Edge → ℕ → SymbolicSet) (edges : List Edge) (t : Store) (r : Findings) : Type 0 where
   pub found : AreFindings (sum (strong_of net states sets edges)) (sum (weak_of net states sets edges)) (sum (feasible_of net states sets edges)) t r
   pub kept : HaveRefs t (kept_of net sets edges)
-
--- the consequents of an edge name nets of the net, and read variables below this number
-pub record IsConsequentOver (net : RawNet) (vars : ℕ) (edge : Edge) : Type 0 where
-  pub nets : All (λ (bind : Bind). bind.node.0 < net.nets) edge.con
-  pub reads : BindsReadBelow vars edge.con
 
 -- ---- the end
 
