@@ -3,6 +3,7 @@ pub mod Arrivals
 pub mod Comings
 pub mod CutLists
 pub mod EdgeParts
+pub mod EdgeTurns
 pub mod GatedFinds
 pub mod GatedSets
 pub mod Joins

@@ -82,8 +82,14 @@ fn with_edge<N: Nodes>(
     let ops = Ops::new(alloc);
     let wanted = asked_on(alloc, &ops, nodes, edge)?;
     let given = edge_found(alloc, nodes, net, rows, edge, source)?;
-    let nets = given.nets.as_slice();
-    with_found(&ops, nodes, nets, wanted.as_slice(), given.feasible, found)
+    with_found(
+        &ops,
+        nodes,
+        given.nets.as_slice(),
+        wanted.as_slice(),
+        given.feasible,
+        found,
+    )
 }
 
 /// What is found on all edges, on a table.
