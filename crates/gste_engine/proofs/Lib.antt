@@ -6,7 +6,9 @@ pub mod EdgeParts
 pub mod EdgeTurns
 pub mod GatedFinds
 pub mod GatedSets
+pub mod GraphParts
 pub mod Joins
+pub mod Judging
 pub mod KeptRefs
 pub mod Lists
 pub mod NextSums

@@ -171,8 +171,14 @@ pub fn judge<N: Nodes>(
 {
     settles(net);
     let table = settle(alloc, nodes, net, rows, graph)?;
-    let edges = graph.edges.as_slice();
-    let found = all_found(alloc, nodes, net, rows, edges, table.as_slice())?;
+    let found = all_found(
+        alloc,
+        nodes,
+        net,
+        rows,
+        graph.edges.as_slice(),
+        table.as_slice(),
+    )?;
     let ops = Ops::new(alloc);
     let results = ending(&ops, nodes, found)?;
     Ok(Judged { table, results })
