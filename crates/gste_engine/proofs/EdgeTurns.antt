@@ -1,9 +1,9 @@
 -- What is found on the edges of a graph, one edge after another.
-use Rattle.std.proofs.Common.{◌≡◌, ℕ, zero, suc, ◌+◌, ◌<◌, List, [], ◌∷◌, ◌++◌, length, take, get_or, map, refl, sym, ◌∙◌, ap, subst, arith, All, Contains, Result, ⊎_elim}
+use Rattle.std.proofs.Common.{◌≡◌, ℕ, zero, suc, ◌+◌, ◌<◌, List, [], ◌∷◌, ◌++◌, length, take, get_or, map, refl, sym, ◌∙◌, ap, subst, arith, All, Contains, Result}
 use Rattle.std.specs.List.{AllZip, flat_map}
 use Rattle.std.proofs.lemmas.Grind.{flat_map-append}
 use Rattle.std.proofs.lemmas.List.{append-nil, get_or_default, map_more, take_more}
-use Rattle.std.proofs.lemmas.List.Elements.{Contains-append_cases, Contains-append_left, Contains-append_right}
+use Rattle.std.proofs.lemmas.List.Elements.{Contains-append_left, Contains-append_right}
 use Rattle.dd_nodes.specs.Diagram.{Function}
 use Rattle.dd_nodes.specs.Stores.{Store, IsRef, Keeps, Means}
 use Rattle.dd_nodes.proofs.Members.{Contains-none}
@@ -27,7 +27,7 @@ use Rattle.gste_engine.specs.declared.edge.EdgeFound.{EdgeFound}
 use Rattle.gste_engine.specs.declared.found.Findings.{Findings}
 use Rattle.gste_engine.specs.declared.state.State.{State}
 use Rattle.gste_engine.specs.Tables.{AreStateRefs, HasStates, IsEdgeFound, IsState}
-use Rattle.gste_engine.specs.private.EdgeFinds.{AreAllFound, AreFindings, HaveRefs, IsWithEdge, all_found_work, asked_work, edge_kept, feasible_of, gated_finds_work, kept_of, parts_of, strong_of, weak_of, with_edge_work, with_found_work}
+use Rattle.gste_engine.specs.private.EdgeFinds.{AreAllFound, AreFindings, HaveRefs, IsWithEdge, all_found_work, asked_work, edge_kept, feasible_of, kept_of, parts_of, strong_of, weak_of, with_edge_work, with_found_work}
 use Rattle.gste_engine.proofs.AllGiven.{ArePossibleOn, flat_has}
 use Rattle.gste_engine.proofs.KeptRefs.{Refs-held, refs_both}
 use Rattle.gste_engine.proofs.Lists.{zip_weaker}

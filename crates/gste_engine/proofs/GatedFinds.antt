@@ -36,12 +36,6 @@ gated_left s t sum r c gate result a b d e h call =
 pub own_findings : (t : Store) (r : Findings) → AreFindingsRefs t r → AreFindings (function t r.strong) (function t r.weak) (function t r.feasible) t r
 own_findings t r h = record { strong = own t r.strong h.strong; weak = own t r.weak h.weak; feasible = own t r.feasible h.feasible }
 
-pub findings_refs : (f h e : Function) (t : Store) (r : Findings) → AreFindings f h e t r → AreFindingsRefs t r
-findings_refs f h e t r m = record { strong = m.strong.ref; weak = m.weak.ref; feasible = m.feasible.ref }
-
-pub Findings-keep : (f h e : Function) (s t : Store) (r : Findings) → IsGood s → IsGood t → Keeps s t → AreFindings f h e s r → AreFindings f h e t r
-Findings-keep f h e s t r gs gt k m = record { strong = Means-keeps s t f r.strong gs gt k m.strong; weak = Means-keeps s t h r.weak gs gt k m.weak; feasible = Means-keeps s t e r.feasible gs gt k m.feasible }
-
 -- ---- parts of the work
 
 -- all but the two findings and the two sums is among the functions for the consequent

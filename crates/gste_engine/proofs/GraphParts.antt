@@ -1,6 +1,6 @@
 -- A graph: the functions of the rounds, of its edges and of its results are among its work functions; and what is kept.
-use Rattle.std.proofs.Common.{◌≡◌, ℕ, suc, ◌<◌, Bool, true, false, List, [], ◌∷◌, ◌++◌, refl, arith, Contains, inl, inr, ⊎_elim, subst}
-use Rattle.std.specs.Prelude.{◌⊎◌, if◌then◌else◌}
+use Rattle.std.proofs.Common.{◌≡◌, ℕ, suc, Bool, true, false, List, [], ◌∷◌, ◌++◌, refl, arith, Contains, ⊎_elim, subst}
+use Rattle.std.specs.Prelude.{if◌then◌else◌}
 use Rattle.std.specs.List.{flat_map}
 use Rattle.std.proofs.lemmas.List.Elements.{Contains-append_cases, Contains-append_left, Contains-append_right}
 use Rattle.dd_nodes.specs.declared.node.Ref.{Ref}
@@ -19,11 +19,10 @@ use Rattle.ste_model.specs.GraphWork.{SymbolicState, binds_work, edge_work, foun
 use Rattle.ste_model.specs.Need.{set_functions}
 use Rattle.ste_model.specs.Work.{over_times}
 use Rattle.dual_rail.proofs.Turns.{within_more}
-use Rattle.dual_rail.proofs.Works.{Within, behind, here}
-use Rattle.gste_engine.specs.declared.found.Findings.{Findings}
+use Rattle.dual_rail.proofs.Works.{Within, behind}
 use Rattle.gste_engine.specs.Tables.{antecedents_work, rounds_work}
-use Rattle.gste_engine.specs.private.EdgeFinds.{AreEndings, HaveRefs, all_found_work, asked_work, edge_kept, ending_work, feasible_of, kept_of, strong_of, weak_of}
-use Rattle.gste_engine.specs.private.Rounds.{edges_work, one_round_work}
+use Rattle.gste_engine.specs.private.EdgeFinds.{HaveRefs, all_found_work, asked_work, edge_kept, ending_work, feasible_of, kept_of, strong_of, weak_of}
+use Rattle.gste_engine.specs.private.Rounds.{edges_work}
 use Rattle.gste_engine.proofs.RoundParts.{edges_in, flat_parts, round_in}
 
 -- what each gives is among what each gives otherwise

@@ -1,5 +1,5 @@
 -- From the table of the round that settles to what is found on it.
-use Rattle.std.proofs.Common.{◌≡◌, ℕ, List, length, refl, sym, subst, All, Result}
+use Rattle.std.proofs.Common.{ℕ, List, length, refl, sym, subst, All, Result}
 use Rattle.dd_nodes.specs.Stores.{Store, Keeps}
 use Rattle.dd_nodes.proofs.Stores.{IsGood}
 use Rattle.dd_ops.specs.declared.fault.OpFault.{OpFault}

@@ -75,7 +75,8 @@ fn with_edge<N: Nodes>(
         → AllZip (AreRails (N.store nodes.old)) ls source.now.latches
         → ArePossibleEach (N.store nodes.old).vars net.now.raw ls (symbolic_asked_on edge.now) sets
         → AreFindings f h e (N.store nodes.old) found
-        → Built (with_edge_work net.now.raw edge.now (record { reached = r; latches = ls }) sets f h e)
+        → Built (with_edge_work net.now.raw edge.now
+        (record { reached = r; latches = ls }) sets f h e)
         (IsWithEdge net.now.raw edge.now (record { reached = r; latches = ls }) sets f h e)
         (N.store nodes.old) (N.store nodes.new) result }
 {
@@ -133,7 +134,8 @@ fn all_found<N: Nodes>(
 fn ending<N: Nodes>(ops: &Ops, nodes: &mut N, found: Findings) -> Result<Results, OpFault>
     requires found { AreFindingsRefs (N.store nodes.old) found }
     ensures { (f h e : Function) → AreFindings f h e (N.store nodes.old) found
-        → Built (ending_work f h e) (AreEndings f h e) (N.store nodes.old) (N.store nodes.new) result }
+        → Built (ending_work f h e) (AreEndings f h e)
+        (N.store nodes.old) (N.store nodes.new) result }
 {
     let weak = but_not(ops, nodes, found.weak, found.strong)?;
     let contradictory = ops.not(nodes, found.feasible)?;

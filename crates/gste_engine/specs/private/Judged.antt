@@ -1,5 +1,5 @@
 -- For private functions. The table of the round that settles, and what is found on it, by references.
-use Rattle.std.specs.Prelude.{◌≡◌, ◌≢◌, ◌⊎◌, ℕ, Bool, List, [], Contains, Option, None, Some, length}
+use Rattle.std.specs.Prelude.{ℕ, Bool, List, Contains, Option, length}
 use Rattle.dd_nodes.specs.declared.node.Ref.{Ref}
 use Rattle.dd_nodes.specs.Diagram.{Function}
 use Rattle.dd_nodes.specs.Stores.{Store, Means, function}

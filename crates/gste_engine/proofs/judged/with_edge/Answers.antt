@@ -1,7 +1,7 @@
 use Rattle.std.proofs.Common.{◌<◌, ◌≡◌, List, length, sym, ap, ◌∙◌, subst, All, Ok, Err, Vec, Global}
 use Rattle.std.specs.List.{AllZip}
 use Rattle.dd_nodes.specs.Diagram.{Function}
-use Rattle.dd_nodes.specs.Stores.{Store, IsRef}
+use Rattle.dd_nodes.specs.Stores.{Store}
 use Rattle.dd_nodes.proofs.Stores.{Keeps-trans, Means-keeps}
 use Rattle.dd_nodes.proofs.Walks.{IsFrom-grows}
 use Rattle.net_core.specs.declared.raw.RawNet.{RawNet}
