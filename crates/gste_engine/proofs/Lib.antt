@@ -3,8 +3,13 @@ pub mod Arrivals
 pub mod Comings
 pub mod CutLists
 pub mod EdgeParts
+pub mod EdgeTurns
+pub mod GatedFinds
 pub mod GatedSets
+pub mod GraphParts
 pub mod Joins
+pub mod Judging
+pub mod KeptRefs
 pub mod Lists
 pub mod NextSums
 pub mod NextTables

@@ -39,7 +39,7 @@ module _ (net : RawNet) (graph : Graph) (states : ℕ → SymbolicState) (sets :
   arrivals_in f h = Contains-append_right (edges_work net states sets graph.edges) (arrivals_work net graph (given_of net states sets)) f h
 
 -- lists of two parts each
-flat_parts : {X : Type 0} (A B : X → List Function) (xs : List X) (f : Function) → Contains (flat_map (λ x. A x ++ B x) xs) f → Contains (flat_map A xs) f ⊎ Contains (flat_map B xs) f
+pub flat_parts : {X : Type 0} (A B : X → List Function) (xs : List X) (f : Function) → Contains (flat_map (λ x. A x ++ B x) xs) f → Contains (flat_map A xs) f ⊎ Contains (flat_map B xs) f
 flat_parts A B [] f h = absurd (Contains-none f h)
 flat_parts A B (x ∷ xs) f h = ⊎_elim
     (λ (here : Contains (A x ++ B x) f). ⊎_elim

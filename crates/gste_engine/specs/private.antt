@@ -1,3 +1,4 @@
+pub mod EdgeFinds
 pub mod Given
 pub mod Judged
 pub mod Rounds

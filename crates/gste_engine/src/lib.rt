@@ -4,7 +4,9 @@
 
 mod binds;
 pub mod edge;
+mod found;
 mod gate;
+mod judged;
 pub mod rounds;
 mod same;
 pub mod state;
