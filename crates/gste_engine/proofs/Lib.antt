@@ -2,7 +2,9 @@ pub mod AllGiven
 pub mod Arrivals
 pub mod Comings
 pub mod CutLists
+pub mod EdgeFails
 pub mod EdgeParts
+pub mod FixedSteps
 pub mod GatedSets
 pub mod Joins
 pub mod Lists

@@ -2,3 +2,4 @@ pub mod Given
 pub mod Judged
 pub mod Rounds
 pub mod Sums
+pub mod Taken

@@ -9,6 +9,7 @@ pub mod rounds;
 mod same;
 pub mod state;
 mod sums;
+mod taken;
 
 pub use edge::{EdgeFound, edge_found};
 pub use rounds::settle;
