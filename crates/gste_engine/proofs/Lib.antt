@@ -3,6 +3,7 @@ pub mod Arrivals
 pub mod Comings
 pub mod CutLists
 pub mod EdgeFails
+pub mod EdgeHops
 pub mod EdgeParts
 pub mod FixedSteps
 pub mod GatedSets

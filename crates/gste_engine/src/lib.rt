@@ -5,6 +5,7 @@
 mod binds;
 pub mod edge;
 mod gate;
+mod hops;
 pub mod rounds;
 mod same;
 pub mod state;
