@@ -75,8 +75,9 @@ fn are_binds_free(net: &Net, binds: &[Bind]) -> bool
     true
 }
 
-/// Whether the antecedents of all edges ask of inputs and free nets.
-fn are_edges_free(net: &Net, edges: &[Edge]) -> bool
+/// Whether the antecedents of all edges ask of inputs and free nets, so that a run can be made to meet them along a path. It
+/// takes no memory.
+pub fn are_edges_free(net: &Net, edges: &[Edge]) -> bool
     requires { All (λ edge. All (λ bind. bind.node.0 < net.now.raw.nets) edge.ant) edges.now }
     ensures { IsTrue result
         ↔ All (λ edge. All (λ bind. IsUndriven net.now.raw bind.node.0) edge.ant) edges.now }
