@@ -5,8 +5,10 @@ pub mod CutLists
 pub mod EdgeFails
 pub mod EdgeHops
 pub mod EdgeParts
+pub mod FailureShows
 pub mod FixedSteps
 pub mod GatedSets
+pub mod GraphPlaces
 pub mod Joins
 pub mod Lists
 pub mod NextSums

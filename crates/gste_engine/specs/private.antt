@@ -1,3 +1,4 @@
+pub mod Due
 pub mod Given
 pub mod Judged
 pub mod Rounds

@@ -4,11 +4,13 @@
 
 mod binds;
 pub mod edge;
+mod failing;
 mod gate;
 mod hops;
 pub mod rounds;
 mod same;
 pub mod state;
+mod shown;
 mod sums;
 mod taken;
 
