@@ -7,6 +7,7 @@ pub mod edge;
 mod failing;
 mod gate;
 mod hops;
+mod reports;
 pub mod rounds;
 mod same;
 pub mod state;
