@@ -2,7 +2,7 @@
 
 ghost use Rattle.std.specs.Prelude.{◌≡◌, ◌≢◌, ◌<◌, ◌+◌, ◌↔◌, length, set, All, IfOk, IsTrue, Some, None, false, slice_get};
 ghost use Rattle.graph_path.specs.Routes.{LeadToVertices};
-ghost use Rattle.graph_path.specs.private.Distances.{AreDistances, AreDistancesBelow, MayBegin, count_unknown};
+ghost use Rattle.graph_path.specs.private.Distances.{AreDistances, AreDistancesBelow, AreNear, MayBegin, count_unknown};
 
 use crate::hop::Hop;
 use std::alloc::{AllocError, Global};
@@ -72,12 +72,13 @@ fn unknown(alloc: Global, vertices: u32) -> Result<Vec<Option<u32>>, AllocError>
     Ok(far)
 }
 
-/// For each vertex the fewest hops behind the first of a route from it, where there is one. Level after level, backwards from
-/// the hops that fail.
+/// For each vertex the fewest hops behind the first of a route from it, where there is one: fewer than there are vertices.
+/// Level after level, backwards from the hops that fail.
 pub fn distances(alloc: Global, vertices: u32, hops: &[Hop]) -> Result<Vec<Option<u32>>, AllocError>
     requires ends { LeadToVertices vertices hops.now }
     ensures long { IfOk result (λ far. length far.items ≡ vertices) }
     ensures distances { IfOk result (λ far. AreDistances hops.now far.items) }
+    ensures near { IfOk result (λ far. AreNear vertices far.items) }
 {
     let mut far = unknown(alloc, vertices)?;
     let mut level = 0;

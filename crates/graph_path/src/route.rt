@@ -2,7 +2,7 @@
 
 ghost use Rattle.std.specs.Prelude.{◌≡◌, ◌≤◌, ℕ, length, IfOk, IfSome, None};
 ghost use Rattle.graph_path.specs.Routes.{IsPathOf, LeadToVertices};
-ghost use Rattle.graph_path.specs.private.Distances.{AreDistances, IsBeginning, IsFirstBeginning};
+ghost use Rattle.graph_path.specs.private.Distances.{AreDistances, AreNear, IsBeginning, IsFirstBeginning};
 
 use crate::distances::{distances, may_begin};
 use crate::hop::Hop;
@@ -33,7 +33,10 @@ fn least_route(
     requires ends { LeadToVertices (length far.now) hops.now }
     requires few { length hops.now ≤ 4294967296 }
     requires distances { AreDistances hops.now far.now }
-    ensures { IfOk result (λ path. IsPathOf hops.now path) }
+    requires near { AreNear (length far.now) far.now }
+    ensures path { IfOk result (λ path. IsPathOf hops.now path) }
+    ensures short { IfOk result (λ path.
+        IfSome path (λ numbers. length numbers ≤ length far.now)) }
 {
     if far.is_empty() {
         return Ok(None);
@@ -58,14 +61,15 @@ fn least_route(
 }
 
 /// The path that a failure shows, by the numbers of its edges: along feasible hops from vertex 0 to one that fails, with the
-/// fewest hops, and among those the least list of numbers. `None` exactly where there is no such path. There is a hop for
-/// each edge, in order. The only error is want of memory.
+/// fewest hops, and among those the least list of numbers. `None` exactly where there is no such path. It has no more hops
+/// than there are vertices. There is a hop for each edge, in order. The only error is want of memory.
 ///
 /// It takes a turn for each level and hop, at most `vertices * hops.len()` of them, and as many for the path.
 pub fn path_of(alloc: Global, vertices: u32, hops: &[Hop]) -> Result<Option<Items<u32>>, AllocError>
     requires ends { LeadToVertices vertices hops.now }
     requires few { length hops.now ≤ 4294967296 }
-    ensures { IfOk result (λ path. IsPathOf hops.now path) }
+    ensures path { IfOk result (λ path. IsPathOf hops.now path) }
+    ensures short { IfOk result (λ path. IfSome path (λ numbers. length numbers ≤ vertices)) }
 {
     let far = distances(alloc, vertices, hops)?;
     least_route(alloc, hops, far.as_slice())

@@ -2,11 +2,16 @@ pub mod AllGiven
 pub mod Arrivals
 pub mod Comings
 pub mod CutLists
+pub mod EdgeFails
+pub mod EdgeHops
 pub mod EdgeParts
 pub mod EdgeTurns
 pub mod GatedFinds
 pub mod GatedSets
 pub mod GraphParts
+pub mod FailureShows
+pub mod FixedSteps
+pub mod GraphPlaces
 pub mod Joins
 pub mod Judging
 pub mod KeptRefs

@@ -1,5 +1,7 @@
 pub mod EdgeFinds
+pub mod Due
 pub mod Given
 pub mod Judged
 pub mod Rounds
 pub mod Sums
+pub mod Taken

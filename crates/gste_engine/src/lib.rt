@@ -4,13 +4,18 @@
 
 mod binds;
 pub mod edge;
+mod failing;
 mod found;
 mod gate;
+mod hops;
 mod judged;
+mod reports;
 pub mod rounds;
 mod same;
 pub mod state;
+mod shown;
 mod sums;
+mod taken;
 
 pub use edge::{EdgeFound, edge_found};
 pub use rounds::settle;

@@ -18,6 +18,10 @@ pub record AreDistances (hops : List Hop) (far : List (Option ℕ)) : Type 0 whe
   pub some : (v k : ℕ) → slice_get far v ≡ Some (Some k) → IsDistance hops v k
   pub none : (v : ℕ) → slice_get far v ≡ Some None → (others : List ℕ) → ¬ IsHopRoute hops v others
 
+-- each distance is below this number
+abbrev pub AreNear : ℕ → List (Option ℕ) → Type 0
+AreNear bound far = (v k : ℕ) → slice_get far v ≡ Some (Some k) → k < bound
+
 -- how many have no distance
 abbrev pub count_unknown : List (Option ℕ) → ℕ
 count_unknown [] = 0

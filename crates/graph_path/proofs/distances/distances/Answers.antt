@@ -1,5 +1,5 @@
-use Rattle.std.proofs.Common.{◌∙◌, ℕ, List, refl, sym, subst, arith}
-use Rattle.std.specs.Prelude.{Option}
+use Rattle.std.proofs.Common.{◌∙◌, ℕ, List, refl, sym, ap, subst, arith}
+use Rattle.std.specs.Prelude.{Option, slice_get}
 use Rattle.graph_path.specs.Routes.{LeadToVertices}
 use Rattle.graph_path.specs.private.Distances.{AreDistancesBelow}
 use Rattle.graph_path.proofs.Levels.{unknown_below, ends_known}
@@ -39,3 +39,10 @@ returns-clause-distances c =
     ends_known c.args.hops.now c.mark_level.new.far.items c.loop-level.level
     (subst (λ (n : ℕ). LeadToVertices n c.args.hops.now) (sym (e.long ∙ c.loop-level.invariant.long)) c.requires.ends)
     (subst (λ (f : List (Option ℕ)). AreDistancesBelow c.args.hops.now f c.loop-level.level) (sym same) c.loop-level.invariant.below) e.below
+
+pub returns-clause-near : goal.returns-clause-near
+returns-clause-near c = λ v k at.
+    let same = c.loop-level-test.ensures.same refl in
+    let l = (c.loop-level.invariant.below.some v k (ap (λ (f : List (Option ℕ)). slice_get f v) (sym same) ∙ at)).0 in
+    let i = c.loop-level.invariant.count in
+    omega (arith, l, i)

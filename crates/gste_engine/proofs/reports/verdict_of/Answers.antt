@@ -1,0 +1,33 @@
+use Rattle.std.proofs.Common.{◌≡◌, refl, true, false}
+use Rattle.dd_nodes.specs.Stores.{Store}
+use Rattle.ste_model.specs.GraphFound.{IsGraphContradictory, IsGraphStrong, IsGraphWeak}
+use Rattle.ste_engine.proofs.Verdicts.{some_is, none_is, each_is, not_each}
+use Rattle.gste_engine.proofs.reports.verdict_of.Goals as goal
+
+pub returns-then-not-is_false : goal.returns-then-not-is_false
+returns-then-not-is_false g c = λ net graph r.
+    let t : Store = g.N.Nodes.store c.args.nodes.now in
+    some_is t c.args.r.strong (IsGraphStrong net graph) r.strong (λ all. let e : false ≡ true = c.if-not-is_false.ensures.1 all in cc e)
+
+pub returns-then-not-is_false-2 : goal.returns-then-not-is_false-2
+returns-then-not-is_false-2 g c = λ net graph r.
+    let t : Store = g.N.Nodes.store c.args.nodes.now in (
+      none_is t c.args.r.strong (IsGraphStrong net graph) r.strong (c.if-not-is_false.ensures.0 refl),
+      some_is t c.args.r.weak (IsGraphWeak net graph) r.weak (λ all. let e : false ≡ true = c.if-not-is_false-2.ensures.1 all in cc e),
+    )
+
+pub returns-then-is_true : goal.returns-then-is_true
+returns-then-is_true g c = λ net graph r.
+    let t : Store = g.N.Nodes.store c.args.nodes.now in (
+      none_is t c.args.r.strong (IsGraphStrong net graph) r.strong (c.if-not-is_false.ensures.0 refl),
+      none_is t c.args.r.weak (IsGraphWeak net graph) r.weak (c.if-not-is_false-2.ensures.0 refl),
+      each_is t c.args.r.contradictory (IsGraphContradictory net graph) r.contradictory (c.if-is_true.ensures.0 refl),
+    )
+
+pub returns-else-is_true : goal.returns-else-is_true
+returns-else-is_true g c = λ net graph r.
+    let t : Store = g.N.Nodes.store c.args.nodes.now in (
+      none_is t c.args.r.strong (IsGraphStrong net graph) r.strong (c.if-not-is_false.ensures.0 refl),
+      none_is t c.args.r.weak (IsGraphWeak net graph) r.weak (c.if-not-is_false-2.ensures.0 refl),
+      not_each t c.args.r.contradictory (IsGraphContradictory net graph) r.contradictory (λ all. let e : false ≡ true = c.if-is_true.ensures.1 all in cc e),
+    )

@@ -1,0 +1,166 @@
+//! One edge under one assignment, by constants; begin with `taken_on`.
+
+ghost use Rattle.std.specs.Prelude.{◌≡◌, ◌<◌, ℕ, All, IfOk, length, map};
+ghost use Rattle.dd_nodes.specs.Stores.{function};
+ghost use Rattle.dual_rail.specs.Rail.{AreRefs, set_of};
+ghost use Rattle.sym_step.specs.Step.{rows_of};
+ghost use Rattle.ste_engine.specs.private.Places.{MakesNothing};
+ghost use Rattle.ste_model.specs.GraphWork.{SymbolicState};
+ghost use Rattle.gste_engine.specs.Tables.{AreStateRefs, IsState};
+ghost use Rattle.gste_engine.specs.private.Taken.{IsStepOn, IsTaken, fixed_bind, fixed_rails, table_at};
+
+use crate::state::State;
+use bool_expr::value;
+use dd_nodes::{Nodes, Ref};
+use dd_ops::{OpFault, Ops};
+use dd_query::eval;
+use dual_rail::Rails;
+use net_core::{Net, settles};
+use std::alloc::{AllocError, Global};
+use ste_base::NodeId;
+use ste_engine::shared::{Failure, constant, first_failing};
+use ste_model::{Bind, Edge};
+use sym_step::{Cut, GateRows, Step, step};
+
+/// What is known of an edge under an assignment: whether it is feasible, and the net of its first consequent that fails.
+#[derive(Clone, Copy, Debug, PartialEq, Eq, Drop)]
+pub struct Taken {
+    pub feasible: bool,
+    pub first: Option<NodeId>,
+}
+
+/// The constants of a set under an assignment.
+fn fixed_rails<N: Nodes>(nodes: &mut N, r: Rails, bits: &[bool]) -> Rails
+    requires held { AreRefs (N.store nodes.old) r }
+    requires long { length bits.now ≡ (N.store nodes.old).vars }
+    ensures fixed { result ≡ fixed_rails (N.store nodes.old) bits.now r }
+    ensures store { N.store nodes.new ≡ N.store nodes.old }
+{
+    let can0 = constant(eval(nodes, r.can0, bits));
+    let can1 = constant(eval(nodes, r.can1, bits));
+    Rails { can0, can1 }
+}
+
+/// The same of each set, in order.
+fn fixed_sets<N: Nodes>(
+    alloc: Global,
+    nodes: &mut N,
+    sets: &[Rails],
+    bits: &[bool],
+) -> Result<Vec<Rails>, AllocError>
+    requires held { All (AreRefs (N.store nodes.old)) sets.now }
+    requires long { length bits.now ≡ (N.store nodes.old).vars }
+    ensures fixed { IfOk result (λ all.
+        all.items ≡ map (fixed_rails (N.store nodes.old) bits.now) sets.now) }
+    ensures store { N.store nodes.new ≡ N.store nodes.old }
+{
+    let mut all = Vec::new(alloc);
+    for k in 0..sets.len() {
+        let one = fixed_rails(nodes, sets[k], bits);
+        all.push(one)?;
+    }
+    Ok(all)
+}
+
+/// What a binding asks under an assignment, by constants.
+fn fixed_bind(bind: &Bind, bits: &[bool]) -> Cut
+    ensures { result ≡ fixed_bind bits.now bind.now }
+{
+    Cut {
+        node: bind.node,
+        guard: constant(value(&bind.guard, bits)),
+        value: constant(value(&bind.value, bits)),
+    }
+}
+
+/// The same of all bindings, in order.
+fn fixed_binds(alloc: Global, binds: &[Bind], bits: &[bool]) -> Result<Vec<Cut>, AllocError>
+    ensures { IfOk result (λ cuts. cuts.items ≡ map (fixed_bind bits.now) binds.now) }
+{
+    let mut cuts = Vec::new(alloc);
+    for bind in binds {
+        cuts.push(fixed_bind(bind, bits))?;
+    }
+    Ok(cuts)
+}
+
+/// The sets of an edge under an assignment, from the state of its source. All is constant, so no node is made.
+fn stepped<N: Nodes>(
+    alloc: Global,
+    nodes: &mut N,
+    net: &Net,
+    rows: &GateRows,
+    edge: &Edge,
+    source: &State,
+    bits: &[bool],
+) -> Result<Step, AllocError>
+    requires rows { rows.now.covers ≡ map rows_of net.now.raw.covers }
+    requires nets { All (λ bind. bind.node.0 < net.now.raw.nets) edge.now.ant }
+    requires source { AreStateRefs (N.store nodes.old) net.now.raw source.now }
+    requires long { length bits.now ≡ (N.store nodes.old).vars }
+    ensures step { IfOk result (λ made. IsStepOn net.now.raw bits.now
+        (map (set_of (N.store nodes.old) bits.now) source.now.latches) edge.now
+        (N.store nodes.new) made) }
+    ensures same { MakesNothing (N.store nodes.old) (N.store nodes.new) }
+{
+    let latches = fixed_sets(alloc, nodes, source.latches.as_slice(), bits)?;
+    let cuts = fixed_binds(alloc, edge.ant.as_slice(), bits)?;
+    let ops = Ops::new(alloc);
+    match step(
+        alloc,
+        &ops,
+        nodes,
+        net,
+        rows,
+        latches.as_slice(),
+        cuts.as_slice(),
+    ) {
+        Ok(made) => Ok(made),
+        Err(OpFault::OutOfMemory) => Err(AllocError),
+        // Nothing has to be made, so no step is wanted.
+        Err(OpFault::StepsOut) => unreachable!(),
+    }
+}
+
+/// What is known of an edge under an assignment, from the state of its source: whether it is feasible, and the net of its
+/// first consequent that fails so. The edge is done once more, with constants in the place of guards, values and sets, so
+/// that no node is made. The only error is want of memory.
+pub fn taken_on<N: Nodes>(
+    alloc: Global,
+    nodes: &mut N,
+    net: &Net,
+    rows: &GateRows,
+    edge: &Edge,
+    source: &State,
+    bits: &[bool],
+    failure: Failure,
+) -> Result<Taken, AllocError>
+    requires rows { rows.now.covers ≡ map rows_of net.now.raw.covers }
+    requires ant { All (λ bind. bind.node.0 < net.now.raw.nets) edge.now.ant }
+    requires con { All (λ bind. bind.node.0 < net.now.raw.nets) edge.now.con }
+    requires source { AreStateRefs (N.store nodes.old) net.now.raw source.now }
+    requires long { length bits.now ≡ (N.store nodes.old).vars }
+    ensures taken { IfOk result (λ told. (states : ℕ → SymbolicState)
+        → IsState (N.store nodes.old) (states edge.now.from) source.now
+        → IsTaken failure net.now.raw bits.now (table_at bits.now states) edge.now told) }
+    ensures same { MakesNothing (N.store nodes.old) (N.store nodes.new) }
+{
+    settles(net);
+    let nothing = Taken {
+        feasible: false,
+        first: None,
+    };
+    if !eval(nodes, source.reached, bits) {
+        return Ok(nothing);
+    }
+    let made = stepped(alloc, nodes, net, rows, edge, source, bits)?;
+    if made.contradictory == Ref::TRUE {
+        return Ok(nothing);
+    }
+    let wanted = fixed_binds(alloc, edge.con.as_slice(), bits)?;
+    let first = first_failing(failure, made.nets.as_slice(), wanted.as_slice());
+    Ok(Taken {
+        feasible: true,
+        first,
+    })
+}
