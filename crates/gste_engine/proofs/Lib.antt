@@ -18,6 +18,7 @@ pub mod KeptRefs
 pub mod Lists
 pub mod NextSums
 pub mod NextTables
+pub mod Reporting
 pub mod RoundParts
 pub mod Sets
 pub mod StateRefs

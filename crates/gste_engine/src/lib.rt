@@ -1,9 +1,10 @@
-//! The symbolic engine for assertion graphs, as far as it goes: one edge on a table, and the rounds that come to the least
-//! closed table, for all assignments at once. Begin with `settle` and `edge_found`.
+//! The symbolic engine for assertion graphs: the report of a graph over all assignments at once, on decision diagrams; rounds
+//! come to the least closed table, and on it the consequents are looked at. Begin with `check_graph`.
 #![tactic(auto)]
 
 mod binds;
 pub mod edge;
+pub mod engine;
 mod failing;
 mod found;
 mod gate;
@@ -18,5 +19,6 @@ mod sums;
 mod taken;
 
 pub use edge::{EdgeFound, edge_found};
+pub use engine::check_graph;
 pub use rounds::settle;
 pub use state::State;
