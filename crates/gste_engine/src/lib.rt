@@ -10,8 +10,8 @@ mod hops;
 mod reports;
 pub mod rounds;
 mod same;
-pub mod state;
 mod shown;
+pub mod state;
 mod sums;
 mod taken;
 

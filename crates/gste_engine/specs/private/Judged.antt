@@ -1,5 +1,5 @@
 -- For private functions. The table of the round that settles, and what is found on it, by references.
-use Rattle.std.specs.Prelude.{◌≡◌, ◌≢◌, ◌⊎◌, ℕ, Bool, List, [], Contains, Option, None, Some, length}
+use Rattle.std.specs.Prelude.{ℕ, Bool, List, Contains, Option, length}
 use Rattle.dd_nodes.specs.declared.node.Ref.{Ref}
 use Rattle.dd_nodes.specs.Diagram.{Function}
 use Rattle.dd_nodes.specs.Stores.{Store, Means, function}
@@ -25,8 +25,8 @@ use Rattle.gste_engine.specs.Tables.{HasStates}
 
 -- The references are those of this table, and of the results on it, where these are the sets of each edge; and each kept
 -- function has a reference.
-pub record AreGraphResults (net : RawNet) (graph : Graph) (table : ℕ → SymbolicState) (sets : Edge → ℕ → SymbolicSet) (t : Store) (states : List State) (r : Results) : Type 0 where
-  pub states : HasStates table (length graph.vertices) t states
+pub record AreGraphResults (net : RawNet) (graph : Graph) (table : ℕ → SymbolicState) (sets : Edge → ℕ → SymbolicSet) (t : Store) (vertices : List State) (r : Results) : Type 0 where
+  pub states : HasStates table (length graph.vertices) t vertices
   pub strong : Means t (graph_strong_where net graph table sets) r.strong
   pub weak : Means t (graph_weak_where net graph table sets) r.weak
   pub contradictory : Means t (graph_contradictory_where net graph table sets) r.contradictory
