@@ -1,6 +1,6 @@
 -- What a report says of its tasks: what passes holds, and each run breaks its task, in the hierarchy as it was written.
-use Rattle.std.proofs.Common.{◌≡◌, ◌≤◌, ◌<◌, ℕ, zero, suc, Bool, List, [], ◌∷◌, length, get_or, Option, None, Some, refl, ap, sym, ◌∙◌, subst, inl, inr, arith}
-use Rattle.std.specs.Prelude.{◌⊎◌, All, IfSome, IsTrue, slice_get}
+use Rattle.std.proofs.Common.{◌≡◌, ◌<◌, ℕ, zero, suc, Bool, List, [], ◌∷◌, length, get_or, Option, None, Some, ap, sym, ◌∙◌, subst, inl, inr, arith}
+use Rattle.std.specs.Prelude.{◌⊎◌, All, slice_get}
 use Rattle.std.specs.List.{AllZip}
 use Rattle.std.proofs.lemmas.List.Elements.{All-contains}
 use Rattle.blif_syntax.specs.declared.models.Model.{Model}
@@ -12,11 +12,11 @@ use Rattle.flat_net.specs.Corresponds.{flat_bits, signal_bits}
 use Rattle.flat_net.specs.Flat.{IsFlat}
 use Rattle.flat_net.proofs.OneToOne.{corresponds}
 use Rattle.flat_net.proofs.Parting.{shallow}
-use Rattle.net_core.specs.Run.{Cut, IsSettled}
+use Rattle.net_core.specs.Run.{IsSettled}
 use Rattle.net_core.specs.declared.raw.RawNet.{RawNet}
 use Rattle.ste_base.specs.declared.id.NodeId.{NodeId}
 use Rattle.ste_model.specs.Asked.{cuts_at, depth}
-use Rattle.ste_model.specs.Found.{FailsStrongly, IsStrong, IsWeak}
+use Rattle.ste_model.specs.Found.{FailsStrongly, IsStrong}
 use Rattle.ste_model.specs.Holds.{Holds, RunMeets}
 use Rattle.ste_model.specs.Edges.{AreNumbers, IsPathFrom, bind_cuts}
 use Rattle.ste_model.specs.GraphFound.{IsGraphStrong}

@@ -1,6 +1,6 @@
 -- The expressions and quintuples that are read have their variables declared.
-use Rattle.std.proofs.Common.{◌≡◌, ℕ, ◌≤◌, ◌<◌, List, [], ◌∷◌, ◌++◌, length, map, Bool, true, false, Option, None, Some, Ok, refl, ap, sym, ◌∙◌, subst, arith, lt-ltb}
-use Rattle.std.specs.Prelude.{⊤, ◌&&◌, ◌||◌, All, IsTrue, if◌then◌else◌, is_some, nat_lt, unwrap_or}
+use Rattle.std.proofs.Common.{◌≡◌, ℕ, ◌≤◌, ◌<◌, List, [], ◌∷◌, ◌++◌, length, map, Bool, true, false, Option, None, Some, refl, ap, sym, ◌∙◌, subst, arith, lt-ltb}
+use Rattle.std.specs.Prelude.{◌&&◌, ◌||◌, IsTrue, if◌then◌else◌, is_some, nat_lt, unwrap_or}
 use Rattle.std.specs.List.{list_all}
 use Rattle.std.proofs.lemmas.Bool.{and_from, and_parts}
 use Rattle.std.proofs.lemmas.List.{length-append}
@@ -14,9 +14,6 @@ use Rattle.bool_expr.specs.Read.{first_unknown, number_in, place_by}
 use Rattle.bool_expr.specs.Tokens.{Token, closing, sign}
 use Rattle.bool_expr.specs.Tree.{Tree, Trees, all_of, bit, chain, more, none, opposite, place, tree_of, tree_step, under}
 use Rattle.bool_expr.proofs.Places.{within_names}
-use Rattle.blif_syntax.specs.declared.models.Model.{Model}
-use Rattle.hierarchy.specs.Names.{net_named}
-use Rattle.hierarchy.specs.Nets.{nets}
 use Rattle.assert_syntax.specs.Parses.{Parse, is_deep, tree_over}
 use Rattle.assert_syntax.specs.Places.{Context, clause_fault, context_of, fault_or, first_fault, form_fault, line_fault, may_stand, unknown_fault, vars_behind}
 use Rattle.assert_syntax.specs.Spelled as said
@@ -26,24 +23,14 @@ use Rattle.assert_syntax.specs.declared.form.Form.TheVariants as form
 use Rattle.assert_syntax.specs.declared.form.LineFault.{LineFault}
 use Rattle.assert_syntax.specs.declared.form.LineFault.TheVariants.{Bad, Deep}
 use Rattle.assert_syntax.specs.declared.form.Side.{Side}
-use Rattle.assert_syntax.specs.declared.form.Side.TheVariants.{Antecedent, Consequent}
 use Rattle.assert_syntax.specs.declared.form.Span.{Span}
 use Rattle.assert_syntax.specs.declared.tasks.RawQuint.{RawQuint}
-use Rattle.assert_syntax.specs.declared.tasks.RawTask.{RawTask}
-use Rattle.assert_syntax.specs.declared.tasks.RawTask.TheVariants as raw
-use Rattle.assert_syntax.specs.declared.tasks.RawTasks.{RawTasks}
 use Rattle.assert_syntax.proofs.Named.{or_else, unknown_both}
-use Rattle.assert_syntax.proofs.Whole.{a_parse}
 use Rattle.ste_model.specs.Expressions.{reads, reads_step}
 use Rattle.ste_model.specs.Need.{ReadBelow}
 use Rattle.ste_model.specs.Trees as bound
 use Rattle.ste_model.specs.declared.task.Quint.{Quint}
-use Rattle.ste_model.specs.declared.task.Task.{Task}
-use Rattle.ste_model.specs.declared.task.Task.TheVariants.{Ste, Gste}
-use Rattle.ste_model.specs.declared.task.Tasks.{Tasks}
-use Rattle.task_binding.specs.Answer.{IsAnswer}
-use Rattle.task_binding.specs.Bound.{net_by, quint_bound, task_bound}
-use Rattle.ste_program.specs.TaskFile.{AreTasks, task_lines}
+use Rattle.task_binding.specs.Bound.{quint_bound}
 
 -- each variable of a tree is below this number
 abbrev mutual

@@ -1,7 +1,7 @@
 -- How a run ends, over plain variables: what a status says, and what follows for all of them.
-use Rattle.std.proofs.Common.{◌≡◌, ◌≤◌, ℕ, zero, suc, Bool, true, false, cond, List, [], ◌∷◌, length, Option, None, Some, refl, ap, sym, ◌∙◌, subst, take, inl, inr, arith}
-use Rattle.std.specs.Prelude.{◌≢◌, ◌⊎◌, slice_get}
-use Rattle.command_line.specs.Command.{Action, Command, bench, check, info, sim}
+use Rattle.std.proofs.Common.{◌≡◌, ◌≤◌, ℕ, Bool, true, false, cond, List, Option, None, Some, refl, ap, sym, ◌∙◌, subst, take, inl, inr, arith}
+use Rattle.std.specs.Prelude.{◌≢◌, ◌⊎◌}
+use Rattle.command_line.specs.Command.{Command}
 use Rattle.ste_io.specs.Outside.{FilesState, SinkState, Store, took, with_names}
 use Rattle.ste_program.specs.Answer.{AskedSome, BrokeOff, IsDecided, NoneRose, Reported, WantedMemory, WasFaulted, WasRefused, WentOut, WhyNoReport, status_of}
 use Rattle.ste_program.specs.Command.{files_of, files_up_to, net_file, second_file}

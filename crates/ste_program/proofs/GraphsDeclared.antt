@@ -1,6 +1,6 @@
 -- The edges of graphs that are read lie between their vertices, and have their variables declared.
-use Rattle.std.proofs.Common.{◌≡◌, ℕ, suc, ◌+◌, ◌≤◌, ◌<◌, List, [], ◌∷◌, ◌++◌, length, map, Bool, true, false, Option, None, Some, refl, ap, sym, ◌∙◌, subst, arith, lt-ltb}
-use Rattle.std.specs.Prelude.{◌&&◌, ◌||◌, All, IsTrue, bytes_eq, if◌then◌else◌, nat_le, nat_lt, unwrap_or}
+use Rattle.std.proofs.Common.{◌≡◌, ℕ, ◌≤◌, ◌<◌, List, [], ◌∷◌, ◌++◌, length, map, Bool, true, false, None, Some, refl, ap, sym, ◌∙◌, subst, arith, lt-ltb}
+use Rattle.std.specs.Prelude.{◌&&◌, ◌||◌, All, IsTrue, bytes_eq, if◌then◌else◌, nat_lt, unwrap_or}
 use Rattle.std.specs.List.{list_all, list_any, position_or_len}
 use Rattle.std.proofs.lemmas.List.Folds.{Any-from_list_any}
 use Rattle.std.proofs.lemmas.List.Sums.{fails_before_first}
@@ -9,15 +9,14 @@ use Rattle.std.proofs.lemmas.Bool.{and_from, and_parts}
 use Rattle.std.proofs.lemmas.List.{length-append}
 use Rattle.std.proofs.lemmas.List.Elements.{All-cons}
 use Rattle.std.proofs.lemmas.Slice.Eq.{bytes_eq-Decides}
-use Rattle.bool_expr.specs.Tree.{Tree, tree_of}
+use Rattle.bool_expr.specs.Tree.{tree_of}
 use Rattle.assert_syntax.specs.Parses.{Parse}
-use Rattle.assert_syntax.specs.Places.{Context, context_of, edges_behind, first_fault, form_fault, graph_fault, line_fault, may_stand, vars_behind, vertices_behind}
+use Rattle.assert_syntax.specs.Places.{Context, context_of, first_fault, form_fault, line_fault, may_stand, vars_behind, vertices_behind}
 use Rattle.assert_syntax.specs.Spelled as said
 use Rattle.assert_syntax.specs.declared.form.Entry.{Entry}
 use Rattle.assert_syntax.specs.declared.form.Form.{Form}
 use Rattle.assert_syntax.specs.declared.form.Form.TheVariants as form
-use Rattle.assert_syntax.specs.declared.form.LineFault.{LineFault}
-use Rattle.assert_syntax.specs.declared.form.LineFault.TheVariants.{Bad, Many}
+use Rattle.assert_syntax.specs.declared.form.LineFault.TheVariants.{Bad}
 use Rattle.assert_syntax.specs.declared.form.Side.{Side}
 use Rattle.assert_syntax.specs.declared.form.Side.TheVariants.{Antecedent, Consequent}
 use Rattle.assert_syntax.specs.declared.tasks.RawBind.{RawBind}
@@ -27,7 +26,6 @@ use Rattle.ste_model.specs.GraphNeed.{BindsReadBelow}
 use Rattle.ste_model.specs.Trees as bound
 use Rattle.ste_model.specs.declared.task.Bind.{Bind}
 use Rattle.ste_model.specs.declared.task.Edge.{Edge}
-use Rattle.ste_model.specs.declared.task.Graph.{Graph}
 use Rattle.task_binding.specs.Bound.{bind_bound, edge_bound}
 use Rattle.ste_program.proofs.Declared.{clause_reads, else_none, no_fault_or, reads_tree, tree_read}
 
@@ -118,11 +116,11 @@ number_within vertices word there =
     let low : place < length vertices = elim (dec_lt place (length vertices)) [
       | yes l ↦ l
       | no f ↦
-        let early : any.0 < place = (let l = any.2 in omega (arith, f, l)) in
-        let fails = fails_before_first (bytes_eq word) vertices any.0 any.1 early in
-        let finds : bytes_eq word any.1 ≡ true = any.4 in
-        let clash : false ≡ true = sym fails ∙ ap (bytes_eq word) any.3 ∙ finds in
-        absurd (cc clash)
+          let early : any.0 < place = (let l = any.2 in omega (arith, f, l)) in
+          let fails = fails_before_first (bytes_eq word) vertices any.0 any.1 early in
+          let finds : bytes_eq word any.1 ≡ true = any.4 in
+          let clash : false ≡ true = sym fails ∙ ap (bytes_eq word) any.3 ∙ finds in
+          absurd (cc clash)
     ] in
     let is : said.vertex_number vertices word ≡ place = ap (λ (b : Bool). unwrap_or (if b then Some place else None) (length vertices)) (lt-ltb place (length vertices) low) in
     omega (arith, is, low)

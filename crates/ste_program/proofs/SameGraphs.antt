@@ -1,5 +1,5 @@
 -- Flat nets of one hierarchy and graphs that say the same have the same reports.
-use Rattle.std.proofs.Common.{◌≡◌, ◌<◌, ◌≤◌, ℕ, zero, suc, Bool, List, [], ◌∷◌, length, map, Option, None, Some, refl, ap, sym, ◌∙◌, subst, inl, inr, arith}
+use Rattle.std.proofs.Common.{◌≡◌, ◌<◌, ℕ, zero, suc, Bool, List, [], ◌∷◌, length, map, Some, refl, ap, sym, ◌∙◌, subst, inl, inr, arith}
 use Rattle.std.specs.Prelude.{◌||◌, All, Any, Contains, IsTrue, nat_eq, slice_get}
 use Rattle.std.specs.List.{AllZip, list_any}
 use Rattle.std.proofs.lemmas.List.Elements.{All-cons}
@@ -10,7 +10,7 @@ use Rattle.bool_expr.proofs.Values.{one_tree_has_one_value}
 use Rattle.net_core.specs.declared.bit_set.BitSet.{BitSet}
 use Rattle.net_core.specs.declared.raw.Latch.{Latch}
 use Rattle.net_core.specs.declared.raw.RawNet.{RawNet}
-use Rattle.net_core.specs.Possible.{ArePossible, Asked}
+use Rattle.net_core.specs.Possible.{ArePossible}
 use Rattle.net_core.specs.Run.{Cut, IsUndriven, MayStart}
 use Rattle.net_core.specs.Sets.{first_set, first_sets, next_sets}
 use Rattle.ste_model.specs.declared.report.Report.{Report}
@@ -18,11 +18,10 @@ use Rattle.ste_model.specs.declared.task.Bind.{Bind}
 use Rattle.ste_model.specs.declared.task.Edge.{Edge}
 use Rattle.ste_model.specs.declared.task.Graph.{Graph}
 use Rattle.ste_model.specs.declared.task.Task.TheVariants.{Gste}
-use Rattle.ste_model.specs.declared.verdict.Verdict.{Verdict}
 use Rattle.ste_model.specs.Edges.{AreNumbers, IsPathFrom, asked_on, bind_at, bind_cuts}
 use Rattle.ste_model.specs.Found.{FailsStrongly, FailsWeakly}
-use Rattle.ste_model.specs.GraphFound.{FailsOn, IsGraphContradictory, IsGraphFound, IsGraphStrong, IsGraphVerdict, IsGraphWeak}
-use Rattle.ste_model.specs.GraphReport.{GraphPrints, GraphShows, IsGraphDue, IsGraphPlace, IsGraphReportOf, IsGraphShown, IsPrintedOnPath}
+use Rattle.ste_model.specs.GraphFound.{FailsOn, IsGraphContradictory, IsGraphFound, IsGraphStrong, IsGraphWeak}
+use Rattle.ste_model.specs.GraphReport.{GraphPrints, GraphShows, IsGraphPlace, IsGraphReportOf, IsGraphShown, IsPrintedOnPath}
 use Rattle.ste_model.specs.GraphShown.{IsCandidate, IsPrintedAlong, IsShownPath}
 use Rattle.ste_model.specs.GraphTable.{IsFeasible, IsLeastClosed, IsReachedWith, Takes, VertexState}
 use Rattle.ste_model.specs.Holds.{IsTaskRun}
@@ -174,9 +173,9 @@ takes_moved net other one twin bits now next same back says h = record {
   start = subst (λ (sets : List BitSet). IsReachedWith sets (next 0)) (first_same net other one.reset twin.reset same says.reset) h.start;
   edges = all_moved (λ edge. (sets : ℕ → BitSet) → IsFeasible net bits now edge sets → IsReachedWith (next_sets net sets) (next edge.to)) (λ edge. (sets : ℕ → BitSet) → IsFeasible other bits now edge sets → IsReachedWith (next_sets other sets) (next edge.to))
       (λ p q edge given sets feasible.
-          subst (λ (v : ℕ). IsReachedWith (next_sets other sets) (next v)) edge.to
-          (subst (λ (ss : List BitSet). IsReachedWith ss (next p.to)) (next_same net other sets same)
-          (given sets (feasible_moved other net back same bits now sets q p (edge_back p q edge) feasible))))
+      subst (λ (v : ℕ). IsReachedWith (next_sets other sets) (next v)) edge.to
+      (subst (λ (ss : List BitSet). IsReachedWith ss (next p.to)) (next_same net other sets same)
+      (given sets (feasible_moved other net back same bits now sets q p (edge_back p q edge) feasible))))
       one.edges twin.edges says.edges h.edges;
 }
 
@@ -201,7 +200,7 @@ module _ (net other : RawNet) (one twin : Graph) (same : AreSame net other) (bac
     h.0,
     least_closed_moved net other one twin bits h.0 same back says h.1,
     all_moved (λ edge. (sets : ℕ → BitSet) → ¬ IsFeasible net bits h.0 edge sets) (λ edge. (sets : ℕ → BitSet) → ¬ IsFeasible other bits h.0 edge sets)
-    (λ p q edge none sets feasible. none sets (feasible_moved other net back same bits h.0 sets q p (edge_back p q edge) feasible)) one.edges twin.edges says.edges h.2,
+        (λ p q edge none sets feasible. none sets (feasible_moved other net back same bits h.0 sets q p (edge_back p q edge) feasible)) one.edges twin.edges says.edges h.2,
   )
 
 weak_moved : (net other : RawNet) (one twin : Graph) → AreSame net other → AreSame other net → GraphSaysSame one twin → (bits : List Bool) → IsGraphWeak net one bits → IsGraphWeak other twin bits

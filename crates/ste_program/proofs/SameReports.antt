@@ -1,6 +1,6 @@
 -- Flat nets of one hierarchy and tasks that say the same have the same reports.
-use Rattle.std.proofs.Common.{◌≡◌, ◌<◌, ◌≤◌, ℕ, zero, suc, Bool, List, [], ◌∷◌, ◌++◌, length, map, Option, None, refl, ap, sym, ◌∙◌, subst, inl, inr, arith}
-use Rattle.std.specs.Prelude.{◌⊎◌, ◌||◌, ◌↔◌, All, Any, if◌then◌else◌, codes, nat_eq, slice_get, zip, Some}
+use Rattle.std.proofs.Common.{◌≡◌, ◌<◌, ◌≤◌, ℕ, suc, Bool, List, [], ◌∷◌, ◌++◌, length, map, Option, None, refl, ap, sym, ◌∙◌, subst, inl, inr, arith}
+use Rattle.std.specs.Prelude.{◌||◌, All, Any, if◌then◌else◌, codes, nat_eq, slice_get, zip, Some}
 use Rattle.std.specs.List.{AllZip, enumerate_from, flat_map, list_all, list_any}
 use Rattle.std.proofs.lemmas.List.Elements.{All-cons}
 use Rattle.ste_base.specs.declared.id.NodeId.{NodeId}
@@ -11,7 +11,6 @@ use Rattle.net_core.specs.declared.raw.RawNet.{RawNet}
 use Rattle.net_core.specs.Flat.{IsInRange}
 use Rattle.net_core.specs.Run.{Cut, IsSettled, IsUndriven, MayStart}
 use Rattle.flat_net.specs.Flat.{IsFlat}
-use Rattle.ste_model.specs.declared.cubes.CubeList.{CubeList}
 use Rattle.ste_model.specs.declared.report.Report.{Report}
 use Rattle.ste_model.specs.declared.run.Run.{Run}
 use Rattle.ste_model.specs.declared.task.Assertion.{Assertion}
@@ -21,16 +20,14 @@ use Rattle.ste_model.specs.declared.task.Task.{Task}
 use Rattle.ste_model.specs.declared.task.Task.TheVariants.{Ste, Gste}
 use Rattle.ste_model.specs.declared.task.Tasks.{Tasks}
 use Rattle.ste_model.specs.declared.verdict.Verdict.{Verdict}
-use Rattle.ste_model.specs.declared.verdict.Verdict.TheVariants.{Budget, Strong, Weak}
+use Rattle.ste_model.specs.declared.verdict.Verdict.TheVariants.{Budget}
 use Rattle.ste_model.specs.Asked.{cuts_at, depth}
-use Rattle.ste_model.specs.Cubes.{AssignmentSet}
 use Rattle.ste_model.specs.Found.{FailsStrongly, FailsWeakly, IsContradictory, IsStrong, IsVerdictOf, IsWeak}
 use Rattle.ste_model.specs.GraphFound.{IsGraphVerdict}
 use Rattle.ste_model.specs.Holds.{IsTaskRun}
-use Rattle.ste_model.specs.Least.{IsLeast}
-use Rattle.ste_model.specs.Report.{AreCubes, IsDue, IsFailingPlace, IsPrintedUnder, IsReportOf, IsShown, Prints, Shows, budget_report}
+use Rattle.ste_model.specs.Report.{IsDue, IsFailingPlace, IsPrintedUnder, IsReportOf, IsShown, Prints, Shows, budget_report}
 use Rattle.ste_model.specs.Runs.{HasRows, run_of}
-use Rattle.ste_model.specs.Shown.{IsBindable, IsFilled, IsFirst, IsLatchOutput, IsPrinted, IsQuintBindable}
+use Rattle.ste_model.specs.Shown.{IsFilled, IsFirst, IsLatchOutput, IsPrinted, IsQuintBindable}
 use Rattle.ste_model.specs.Trees.{QuintTree, quint_tree, task_tree}
 use Rattle.ste_model.proofs.GraphReports.{one_graph_report_of}
 use Rattle.ste_model.proofs.Reports.{one_report_of}

@@ -1,22 +1,19 @@
 -- Flat nets of one hierarchy have the same possible sets, and tasks that say the same ask the same: so the same is found of them.
-use Rattle.std.proofs.Common.{◌≡◌, ◌<◌, ℕ, zero, suc, Bool, List, [], ◌∷◌, ◌++◌, length, map, get_or, refl, ap, sym, ◌∙◌, subst, max, fold, inl, inr}
+use Rattle.std.proofs.Common.{◌≡◌, ◌<◌, ℕ, zero, suc, Bool, List, [], ◌∷◌, length, map, get_or, refl, ap, sym, ◌∙◌, subst, max, fold}
 use Rattle.std.specs.Prelude.{Any, ◌&&◌, nat_le, nat_lt}
 use Rattle.std.specs.List.{AllZip}
 use Rattle.ste_base.specs.declared.id.NodeId.{NodeId}
 use Rattle.bool_expr.specs.Value.{value_of}
 use Rattle.bool_expr.proofs.Values.{one_tree_has_one_value}
-use Rattle.blif_syntax.specs.declared.models.Model.{Model}
 use Rattle.net_core.specs.declared.bit_set.BitSet.{BitSet}
 use Rattle.net_core.specs.declared.raw.Latch.{Latch}
 use Rattle.net_core.specs.declared.raw.RawNet.{RawNet}
 use Rattle.net_core.specs.Run.{Cut, gate_bit}
 use Rattle.net_core.specs.Sets.{IsIn, first_set}
 use Rattle.net_core.specs.Possible.{ArePossible, Asked, IsInSource, MayGive}
-use Rattle.flat_net.specs.Flat.{IsFlat}
 use Rattle.ste_model.specs.declared.task.Assertion.{Assertion}
 use Rattle.ste_model.specs.declared.task.Quint.{Quint}
-use Rattle.ste_model.specs.declared.task.Task.{Task}
-use Rattle.ste_model.specs.declared.task.Task.TheVariants.{Ste, Gste}
+use Rattle.ste_model.specs.declared.task.Task.TheVariants.{Ste}
 use Rattle.ste_model.specs.declared.verdict.Verdict.{Verdict}
 use Rattle.ste_model.specs.declared.verdict.Verdict.TheVariants.{Pass, Weak, Strong, Vacuous, Budget}
 use Rattle.ste_model.specs.Asked.{asked_at, cuts_at, depth, latest, quint_at}

@@ -1,9 +1,7 @@
 -- Tasks, their verdicts and their nets, as the loops over them see them.
-use Rattle.std.proofs.Common.{◌≡◌, ◌≤◌, ◌<◌, ℕ, zero, suc, ◌+◌, ◌*◌, List, [], ◌∷◌, ◌++◌, length, map, take, get_or, Bool, true, false, Option, None, Some, Result, Ok, Err, refl, ap, sym, ◌∙◌, subst, arith, add-one, append-nil, inl, inr}
-use Rattle.std.specs.Prelude.{◌≢◌, ◌&&◌, All, IfOk, IsSome, IsTrue, unwrap_or, zip}
-use Rattle.std.specs.List.{AllZip, flat_map, list_all}
-use Rattle.std.proofs.lemmas.Bool.{and_parts}
-use Rattle.std.proofs.lemmas.Grind.{flat_map-append}
+use Rattle.std.proofs.Common.{◌≡◌, ◌≤◌, ◌<◌, ℕ, zero, suc, ◌+◌, ◌*◌, List, [], ◌∷◌, ◌++◌, length, map, take, get_or, Bool, false, Option, None, Some, Result, Ok, Err, refl, ap, sym, ◌∙◌, subst, arith, add-one, inl, inr}
+use Rattle.std.specs.Prelude.{◌≢◌, ◌&&◌, All, IfOk, IsSome, IsTrue, unwrap_or}
+use Rattle.std.specs.List.{AllZip, flat_map}
 use Rattle.std.proofs.lemmas.List.Elements.{All-cons}
 use Rattle.std.proofs.lemmas.List.{length-map, take_all}
 use Rattle.std.proofs.Math.Seq.{take-suc}
@@ -214,8 +212,7 @@ edges_in models vars vertices (r ∷ raws) (q ∷ edges) all e declared =
     let here = all_left (λ (m : Mention). IsSome (net_named models m.node)) (edge_mentions r) (flat_map edge_mentions raws) all in
     let there = all_right (λ (m : Mention). IsSome (net_named models m.node)) (edge_mentions r) (flat_map edge_mentions raws) all in
     let fit : IsEdgeDeclared vars vertices q = declared 0 q (omega arith) in
-    All-cons (IsEdgeFit (length (nets models)) vars) q edges
-    (
+    All-cons (IsEdgeFit (length (nets models)) vars) q edges (
       binds_in models r.ant q.ant (all_left (λ (m : Mention). IsSome (net_named models m.node)) (map bind_mention r.ant) (map bind_mention r.con) here) (ap (λ (t : tree.EdgeTree). t.ant) first),
       binds_in models r.con q.con (all_right (λ (m : Mention). IsSome (net_named models m.node)) (map bind_mention r.ant) (map bind_mention r.con) here) (ap (λ (t : tree.EdgeTree). t.con) first),
       fit.ant,

@@ -1,9 +1,8 @@
 -- What is read has its variables declared, and its graphs are fit to be checked.
-use Rattle.std.proofs.Common.{◌≡◌, ℕ, ◌+◌, ◌≤◌, ◌<◌, List, [], ◌∷◌, length, map, Bool, true, false, Option, None, Ok, refl, ap, sym, ◌∙◌, subst, arith, lt-ltb}
-use Rattle.std.specs.Prelude.{◌&&◌, All, nat_le, nat_lt}
+use Rattle.std.proofs.Common.{◌≡◌, ℕ, ◌≤◌, ◌<◌, List, [], ◌∷◌, length, map, Bool, true, None, Ok, refl, ap, sym, ◌∙◌, subst, arith, lt-ltb}
+use Rattle.std.specs.Prelude.{◌&&◌, All, nat_lt}
 use Rattle.std.specs.List.{list_all}
 use Rattle.std.proofs.lemmas.Bool.{and_from, and_parts}
-use Rattle.std.proofs.lemmas.List.{length-map}
 use Rattle.std.proofs.lemmas.List.Elements.{All-cons}
 use Rattle.blif_syntax.specs.declared.models.Model.{Model}
 use Rattle.hierarchy.specs.Names.{net_named}

@@ -1,7 +1,6 @@
 -- The stages of a command's texts: each gives one refusal at most, and what is known silences it.
-use Rattle.std.proofs.Common.{◌≡◌, ℕ, List, [], ◌∷◌, length, map, Option, Result, Ok, Err, Bool, true, false, refl, ap, sym, ◌∙◌, inl, inr, subst}
-use Rattle.std.specs.Prelude.{◌&&◌, MatchResult}
-use Rattle.std.specs.List.{list_all}
+use Rattle.std.proofs.Common.{◌≡◌, ℕ, List, [], ◌∷◌, length, Option, Result, Ok, Err, Bool, true, false, refl, ap, sym, ◌∙◌, inl, inr, subst}
+use Rattle.std.specs.Prelude.{MatchResult}
 use Rattle.std.proofs.lemmas.List.{length-map}
 use Rattle.blif_lines.specs.Lines.{lines_of}
 use Rattle.blif_syntax.specs.declared.fault.BlifFault.{BlifFault}
@@ -17,10 +16,8 @@ use Rattle.hierarchy.specs.declared.fault.NetFault.{NetFault}
 use Rattle.net_core.specs.Run.{IsSettled}
 use Rattle.net_core.specs.declared.raw.RawNet.{RawNet}
 use Rattle.flat_net.specs.Flat.{IsFlat}
-use Rattle.assert_syntax.specs.Spelled.{TaskTree, assertion, graph, task_tree}
+use Rattle.assert_syntax.specs.Spelled.{task_tree}
 use Rattle.assert_syntax.specs.declared.fault.TaskFault.{TaskFault}
-use Rattle.assert_syntax.specs.declared.tasks.RawTask.{RawTask}
-use Rattle.assert_syntax.specs.declared.tasks.RawTask.TheVariants.{Ste, Gste}
 use Rattle.assert_syntax.specs.declared.tasks.RawTasks.{RawTasks}
 use Rattle.ste_model.specs.declared.task.Tasks.{Tasks}
 use Rattle.task_binding.specs.Answer.{IsAnswer}

@@ -11,7 +11,7 @@ use Rattle.ste_model.specs.declared.task.Task.{Task}
 use Rattle.ste_model.specs.declared.task.Task.TheVariants.{Ste, Gste}
 use Rattle.ste_model.specs.declared.task.Tasks.{Tasks}
 use Rattle.ste_model.specs.declared.verdict.Verdict.{Verdict}
-use Rattle.ste_model.specs.declared.verdict.Verdict.TheVariants.{Pass, Weak, Strong, Vacuous, Budget}
+use Rattle.ste_model.specs.declared.verdict.Verdict.TheVariants.{Pass}
 use Rattle.ste_model.specs.GraphNeed.{IsGraphNeed}
 use Rattle.ste_model.specs.GraphReport.{IsGraphReportOf}
 use Rattle.ste_model.specs.Need.{IsNeed}

@@ -1,6 +1,6 @@
 -- Meaning, and two laws. The order of refusals: stages, of which each gives a refusal or nothing; the first that gives
 -- one decides. Source: this project's own choice.
-use Rattle.std.specs.Prelude.{◌≡◌, ◌≢◌, ◌<◌, ◌⊎◌, ◌∷◌, [], ⊤, ℕ, Bool, List, length, true, false, Option, Some, None, Err, IsSomeAnd}
+use Rattle.std.specs.Prelude.{◌≡◌, ◌≢◌, ◌<◌, ◌⊎◌, ◌∷◌, [], ⊤, ℕ, Bool, List, length, true, Option, Some, None, Err, IsSomeAnd}
 use Rattle.blif_lines.specs.Lines.{lines_of}
 use Rattle.blif_syntax.specs.declared.fault.BlifFault.{BlifFault}
 use Rattle.blif_syntax.specs.declared.models.Model.{Model}

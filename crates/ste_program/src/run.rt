@@ -140,12 +140,12 @@ pub fn run<F: Files, O: Sink, E: Sink>(
         (F.state files.old) (F.state files.new) (O.state out.old) (O.state out.new)
         (E.state err.old) (E.state err.new) }
 
-    // Where a report says pass, or contradictory antecedent, the assertion holds: for every assignment, each two-valued
-    // run that meets the antecedent meets the consequent.
+    // Where a report says pass, or contradictory antecedent, the task holds: for every assignment, each two-valued run that
+    // meets the antecedent meets the consequent, of a graph along every finite path.
     ensures pass_holds { PassHolds (command_of words.now) (F.state files.old) }
 
-    // Each run that a report tells is a two-valued run, meets the antecedent of its assertion and breaks the consequent,
-    // under the least assignment that is told.
+    // Each run that a report tells is a two-valued run, meets the antecedent of its task and breaks the consequent, under
+    // the least assignment that is told, of a graph along the path that is told.
     ensures runs_break { RunsBreak (command_of words.now) (F.state files.old) }
 
     // Status 2: the first refusal was told, and nothing is on the output.

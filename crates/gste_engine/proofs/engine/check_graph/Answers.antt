@@ -193,4 +193,3 @@ returns-in-Err-StepsOut-clause-budget g c =
           (λ tables sets whole. Spends-out (graph_work net graph tables sets) s t _ (Unit {0}) (λ u. is) (h tables sets whole).spends);
     } in
     IfOk-weaker c.budget_report.result (λ (report : Report). report ≡ budget_report graph.name) (λ (report : Report). report.verdict ≡ Budget → (report ≡ budget_report graph.name) × IsGraphBudget net graph s t) (λ report is out. (is, spent)) c.budget_report.ensures
-

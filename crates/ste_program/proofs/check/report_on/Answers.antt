@@ -1,4 +1,4 @@
-use Rattle.std.proofs.Common.{◌≡◌, ◌<◌, ℕ, List, All, length, sym, subst, ap, ◌∙◌}
+use Rattle.std.proofs.Common.{ℕ, List, All, length, sym, subst, ap, ◌∙◌}
 use Rattle.std.specs.List.{AllZip, list_all}
 use Rattle.ste_model.specs.declared.report.Report.{Report}
 use Rattle.ste_model.specs.declared.task.Task.{Task}
@@ -8,6 +8,12 @@ use Rattle.ste_program.specs.Check.{IsToldOf, is_pass}
 use Rattle.ste_program.specs.private.Made.{IsCheckable}
 use Rattle.ste_program.proofs.Fits.{Fits, all_fit, fails_fit, rows_fit}
 use Rattle.ste_program.proofs.check.report_on.Goals as goal
+
+pub reports_of-requires-clause-checkable : goal.reports_of-requires-clause-checkable
+reports_of-requires-clause-checkable c =
+    let made = c.args.prepared.now in
+    subst (λ (ts : List Task). All (IsCheckable made.flat.net.raw.nets c.len-vars.result) ts) (sym c.as_slice.ensures)
+    (subst (λ (n : ℕ). All (IsCheckable made.flat.net.raw.nets n) made.tasks.tasks) (sym c.len-vars.ensures) made.checkable)
 
 pub render-requires-clause-fails : goal.render-requires-clause-fails
 render-requires-clause-fails c =
