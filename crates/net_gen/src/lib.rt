@@ -10,3 +10,5 @@ pub use texts::pipeline;
 
 #[cfg(test)]
 mod tests;
+#[cfg(test)]
+mod written;

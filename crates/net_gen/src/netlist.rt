@@ -6,13 +6,8 @@ ghost use Rattle.net_gen.specs.Pipeline.{bit_lines, for_below, inverse_of, net_o
 use crate::pieces::{put_inverse, put_net};
 use std::alloc::{AllocError, Global};
 
-/// Puts the name of a net behind a text, behind a space.
-fn put_next_net(
-    alloc: Global,
-    text: &mut Vec<u8>,
-    stage: u32,
-    bit: u32,
-) -> Result<(), AllocError>
+/// Puts a space and the name of the net of a bit after a stage behind a text.
+fn put_next_net(alloc: Global, text: &mut Vec<u8>, stage: u32, bit: u32) -> Result<(), AllocError>
     ensures { IfOk result (λ _. text.new.items
         ≡ text.old.items ++ (codes " " ++ net_of stage bit)) }
 {
@@ -20,7 +15,7 @@ fn put_next_net(
     put_net(alloc, text, stage, bit)
 }
 
-/// Puts the names of the eight nets behind a stage behind a text.
+/// Puts the names of the eight nets after a stage behind a text, each behind a space.
 fn put_nets(alloc: Global, text: &mut Vec<u8>, stage: u32) -> Result<(), AllocError>
     ensures { IfOk result (λ _. text.new.items
         ≡ text.old.items ++ for_below 8 (λ bit. codes " " ++ net_of stage bit)) }
@@ -31,7 +26,7 @@ fn put_nets(alloc: Global, text: &mut Vec<u8>, stage: u32) -> Result<(), AllocEr
     Ok(())
 }
 
-/// Puts a line of a word and the eight nets behind a stage behind a text.
+/// Puts a line of a word and the eight nets after a stage behind a text.
 fn put_nets_line(
     alloc: Global,
     text: &mut Vec<u8>,
@@ -46,7 +41,7 @@ fn put_nets_line(
     Ok(())
 }
 
-/// Puts the gate of a bit behind a text, for the stage behind this one.
+/// Puts the gate behind a text that inverts a bit after a stage, as the next stage has it.
 fn put_gate(alloc: Global, text: &mut Vec<u8>, stage: u32, bit: u32) -> Result<(), AllocError>
     requires { stage < 1000 }
     ensures { IfOk result (λ _. text.new.items ≡ text.old.items
@@ -61,7 +56,7 @@ fn put_gate(alloc: Global, text: &mut Vec<u8>, stage: u32, bit: u32) -> Result<(
     Ok(())
 }
 
-/// Puts the latch of a bit behind a text, for this stage.
+/// Puts the latch of a bit in a stage behind a text. Its first value may be 0 or 1.
 fn put_latch(alloc: Global, text: &mut Vec<u8>, stage: u32, bit: u32) -> Result<(), AllocError>
     ensures { IfOk result (λ _. text.new.items ≡ text.old.items
         ++ (codes ".latch " ++ (inverse_of stage bit
@@ -75,7 +70,7 @@ fn put_latch(alloc: Global, text: &mut Vec<u8>, stage: u32, bit: u32) -> Result<
     Ok(())
 }
 
-/// Puts the gate and the latch of a bit behind a text, for the stage behind this one.
+/// Puts the gate and the latch of a bit behind a text, those of the stage after this one.
 fn put_bit(alloc: Global, text: &mut Vec<u8>, stage: u32, bit: u32) -> Result<(), AllocError>
     requires { stage < 1000 }
     ensures { IfOk result (λ _. text.new.items ≡ text.old.items ++ bit_lines stage bit) }
@@ -84,7 +79,7 @@ fn put_bit(alloc: Global, text: &mut Vec<u8>, stage: u32, bit: u32) -> Result<()
     put_latch(alloc, text, stage + 1, bit)
 }
 
-/// Puts the gates and latches of all eight bits behind a text, for the stage behind this one.
+/// Puts the gates and latches of all eight bits behind a text, those of the stage after this one.
 fn put_stage(alloc: Global, text: &mut Vec<u8>, stage: u32) -> Result<(), AllocError>
     requires { stage < 1000 }
     ensures { IfOk result (λ _. text.new.items ≡ text.old.items ++ stage_lines stage) }

@@ -15,13 +15,8 @@ pub fn put_number(alloc: Global, text: &mut Vec<u8>, number: u32) -> Result<(), 
     Ok(())
 }
 
-/// Puts the name of the net of a bit behind a stage behind a text.
-pub fn put_net(
-    alloc: Global,
-    text: &mut Vec<u8>,
-    stage: u32,
-    bit: u32,
-) -> Result<(), AllocError>
+/// Puts the name of a net behind a text: that of a bit after a stage. After stage 0 are the inputs.
+pub fn put_net(alloc: Global, text: &mut Vec<u8>, stage: u32, bit: u32) -> Result<(), AllocError>
     ensures { IfOk result (λ _. text.new.items ≡ text.old.items ++ net_of stage bit) }
 {
     text.push(b's')?;
@@ -30,7 +25,7 @@ pub fn put_net(
     put_number(alloc, text, bit)
 }
 
-/// Puts the name of the inverse of a bit before the latch of a stage behind a text.
+/// Puts the name of a net behind a text: that of the inverse of a bit, before the latch of a stage.
 pub fn put_inverse(
     alloc: Global,
     text: &mut Vec<u8>,

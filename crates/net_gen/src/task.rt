@@ -7,7 +7,7 @@ ghost use Rattle.net_gen.specs.Pipeline.{ant_line, con_line, for_below, pipeline
 use crate::pieces::{put_net, put_number};
 use std::alloc::{AllocError, Global};
 
-/// Puts the line behind a text by which a bit goes in.
+/// Puts the line of a bit that goes in behind a text.
 fn put_ant(alloc: Global, text: &mut Vec<u8>, bit: u32) -> Result<(), AllocError>
     ensures { IfOk result (λ _. text.new.items ≡ text.old.items ++ ant_line bit) }
 {
@@ -19,7 +19,7 @@ fn put_ant(alloc: Global, text: &mut Vec<u8>, bit: u32) -> Result<(), AllocError
     Ok(())
 }
 
-/// Puts the lines behind a text by which the eight bits go in.
+/// Puts the lines of the eight bits that go in behind a text.
 fn put_ants(alloc: Global, text: &mut Vec<u8>) -> Result<(), AllocError>
     ensures { IfOk result (λ _. text.new.items ≡ text.old.items ++ for_below 8 ant_line) }
 {
@@ -29,7 +29,7 @@ fn put_ants(alloc: Global, text: &mut Vec<u8>) -> Result<(), AllocError>
     Ok(())
 }
 
-/// Puts a bit behind a text, with a sign before it where so many stages invert it.
+/// Puts the value of a bit behind a text, behind `!` where so many stages invert it.
 fn put_value(alloc: Global, text: &mut Vec<u8>, n: u32, bit: u32) -> Result<(), AllocError>
     ensures { IfOk result (λ _. text.new.items ≡ text.old.items
         ++ ((if n % 2 == 1 then codes "!" else []) ++ (codes "b" ++ decimal bit))) }
@@ -41,11 +41,12 @@ fn put_value(alloc: Global, text: &mut Vec<u8>, n: u32, bit: u32) -> Result<(), 
     put_number(alloc, text, bit)
 }
 
-/// Puts the end of a line behind a text: that it speaks of one time alone.
+/// Puts the end of a line that speaks of one time alone behind a text.
 fn put_time(alloc: Global, text: &mut Vec<u8>, time: u32) -> Result<(), AllocError>
     requires { time ≤ 1000 }
     ensures { IfOk result (λ _. text.new.items ≡ text.old.items
-        ++ (codes " from " ++ (decimal time ++ (codes " to " ++ (decimal (time + 1) ++ codes "\n"))))) }
+        ++ (codes " from " ++ (decimal time
+        ++ (codes " to " ++ (decimal (time + 1) ++ codes "\n"))))) }
 {
     text.extend_from_slice(b" from ")?;
     put_number(alloc, text, time)?;
@@ -55,7 +56,7 @@ fn put_time(alloc: Global, text: &mut Vec<u8>, time: u32) -> Result<(), AllocErr
     Ok(())
 }
 
-/// Puts the line behind a text by which a bit comes out behind so many stages.
+/// Puts the line of a bit that comes out of so many stages behind a text.
 fn put_con(alloc: Global, text: &mut Vec<u8>, n: u32, bit: u32) -> Result<(), AllocError>
     requires { n ≤ 1000 }
     ensures { IfOk result (λ _. text.new.items ≡ text.old.items ++ con_line n bit) }
@@ -67,7 +68,7 @@ fn put_con(alloc: Global, text: &mut Vec<u8>, n: u32, bit: u32) -> Result<(), Al
     put_time(alloc, text, n)
 }
 
-/// Puts the lines behind a text by which the eight bits come out behind so many stages.
+/// Puts the lines of the eight bits that come out of so many stages behind a text.
 fn put_cons(alloc: Global, text: &mut Vec<u8>, n: u32) -> Result<(), AllocError>
     requires { n ≤ 1000 }
     ensures { IfOk result (λ _. text.new.items ≡ text.old.items ++ for_below 8 (con_line n)) }
