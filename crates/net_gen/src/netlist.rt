@@ -41,7 +41,7 @@ fn put_nets_line(
     Ok(())
 }
 
-/// Puts the gate behind a text that inverts a bit after a stage, as the next stage has it.
+/// Puts the gate behind a text that inverts a bit after a stage, for the latch of the next stage.
 fn put_gate(alloc: Global, text: &mut Vec<u8>, stage: u32, bit: u32) -> Result<(), AllocError>
     requires { stage < 1000 }
     ensures { IfOk result (λ _. text.new.items ≡ text.old.items
