@@ -1,6 +1,6 @@
 -- Meaning. The texts of a pipeline of eight bits and so many stages: its netlist, in which each stage inverts each bit and holds it for
 -- one time step, and the task that what goes in comes out. Source: this project's own choice.
-use Rattle.std.specs.Prelude.{◌++◌, ◌==◌, ◌%◌, ℕ, zero, suc, Bool, if◌then◌else◌, List, [], codes}
+use Rattle.std.specs.Prelude.{◌++◌, ◌==◌, ◌%◌, ℕ, zero, suc, if◌then◌else◌, List, [], codes}
 use Rattle.std.specs.Fmt.{decimal}
 
 -- what is written for each number below n, in order
