@@ -1,16 +1,15 @@
 -- The numbers of a command that words ask for are in their ranges.
-use Rattle.std.proofs.Common.{◌≡◌, ◌≤◌, ◌+◌, ◌-◌, ◌*◌, ℕ, List, [], ◌∷◌, Bool, true, false, Option, None, Some, cond, refl, arith, subst, sym, ◌∙◌}
-use Rattle.std.specs.Prelude.{◌&&◌, IfSome, String, codes, map, nat_eq, nat_le, not, option_and_then, option_map, string_bytes}
+use Rattle.std.proofs.Common.{◌≡◌, ◌≤◌, ◌+◌, ◌-◌, ◌*◌, ℕ, List, [], ◌∷◌, Bool, true, false, Option, None, Some, cond, refl, arith, subst}
+use Rattle.std.specs.Prelude.{◌&&◌, IfSome, codes, map, nat_eq, nat_le, not, option_and_then, option_map, string_bytes}
 use Rattle.std.specs.List.{list_all}
 use Rattle.std.specs.Str.{bytes_eq}
-use Rattle.std.specs.declared.alloc.Global.{Global}
 use Rattle.std.proofs.lemmas.Bool.{and_parts}
 use Rattle.ste_base.specs.Number.{number_from, number_of}
 use Rattle.clap.specs.Words.{Row, all_of, fault_of, first_of, matches_of}
 use Rattle.command_line.specs.App.{command_app}
 use Rattle.clap.specs.Kinds.{Kinds}
 use Rattle.command_line.specs.Bounds.{CommandsAreBounded, IsActionBounded, IsBounded}
-use Rattle.command_line.specs.Command.{Action, Command, action_in, action_of, bench, check, command_in, command_of, info, is_digit, is_number, is_set, number_given, number_or, sim, steps_given, where_sound, with_one, with_two}
+use Rattle.command_line.specs.Command.{Action, Command, action_in, action_of, bench, check, command_in, info, is_digit, is_number, number_given, number_or, sim, steps_given, where_sound, with_one, with_two}
 
 -- ---- numbers
 

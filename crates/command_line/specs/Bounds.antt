@@ -1,7 +1,7 @@
 -- Law. The numbers of a command are in their ranges.
-use Rattle.std.specs.Prelude.{◌≡◌, ◌≤◌, ⊤, ℕ, List, Some, IfSome, String}
+use Rattle.std.specs.Prelude.{◌≡◌, ◌≤◌, ⊤, List, Some, IfSome, String}
 use Rattle.std.specs.declared.alloc.Global.{Global}
-use Rattle.command_line.specs.Command.{Action, Command, bench, check, command_of, info, sim}
+use Rattle.command_line.specs.Command.{Action, Command, bench, command_of}
 
 -- the number of stages of `bench` is between 1 and 1000
 abbrev pub IsActionBounded : Action → Type 0

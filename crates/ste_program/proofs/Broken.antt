@@ -13,6 +13,7 @@ use Rattle.flat_net.specs.Flat.{IsFlat}
 use Rattle.flat_net.proofs.OneToOne.{corresponds}
 use Rattle.flat_net.proofs.Parting.{shallow}
 use Rattle.net_core.specs.Run.{IsSettled}
+use Rattle.net_gen.specs.Pipeline.{pipeline_net, pipeline_tasks}
 use Rattle.net_core.specs.declared.raw.RawNet.{RawNet}
 use Rattle.ste_base.specs.declared.id.NodeId.{NodeId}
 use Rattle.ste_model.specs.Asked.{cuts_at, depth}
@@ -43,9 +44,9 @@ use Rattle.ste_model.proofs.GraphReports.{same_edges}
 use Rattle.ste_model.proofs.Passes.{pass_holds}
 use Rattle.ste_model.proofs.Paths.{graph_pass_holds}
 use Rattle.ste_io.specs.Outside.{FilesState}
-use Rattle.ste_program.specs.Check.{IsToldOf, task_steps}
+use Rattle.ste_program.specs.Check.{IsCheck, IsToldOf, task_steps}
 use Rattle.ste_program.specs.Holds.{BreaksAlong, BreaksIn, BreaksTask, GraphHoldsOf, HoldsOf, TaskHoldsOf}
-use Rattle.ste_program.specs.Report.{IsWritten, PassHolds, PassesHold, RunsBreak, TheyBreak}
+use Rattle.ste_program.specs.Report.{CheckBreaks, CheckHolds, IsWritten, PassHolds, PassesHold, RunsBreak, TheyBreak}
 use Rattle.ste_program.specs.private.Made.{AreBindsIn, IsCheckable}
 use Rattle.ste_program.proofs.TaskLists.{ants_in, checkable_ant, checkable_con, cons_in, graph_over, promised}
 use Rattle.ste_program.proofs.TasksDeclared.{tasks_declared}
@@ -94,23 +95,26 @@ task_holds models net vars steps cubes (Gste graph) report sound flat settled ch
 task_holds models net vars steps cubes (Gste graph) report sound flat settled checkable says (inr over) = absurd (no_budget graph.name report says over.0)
 
 -- where a check says pass, the task holds
-check_holds : (action : Action) (asked : Command) (net_text second_text : List ℕ) (passes : Bool) (bytes : List ℕ) (written : IsWritten action asked net_text second_text passes bytes) → PassesHold action asked net_text second_text passes bytes written
-check_holds (check net tasks) asked net_text second_text passes bytes written = λ place task report here there says.
+check_holds : (steps : Option ℕ) (cubes : ℕ) (wave : Bool) (net_text task_text : List ℕ) (passes : Bool) (bytes : List ℕ) (written : IsCheck steps cubes wave net_text task_text passes bytes) → CheckHolds steps cubes wave net_text task_text passes bytes written
+check_holds given cubes wave net_text task_text passes bytes written = λ place task report here there says.
     let r = written.reading in
     let n = r.flattened in
     let vars = length written.tasks.vars in
-    let steps = task_steps asked.steps (length written.tasks.tasks) in
-    let told : IsToldOf written.net vars steps asked.cubes task report =
-    at_place (IsToldOf written.net vars steps asked.cubes) written.tasks.tasks written.report.reports place task report written.report.told here there in
-    let declared = tasks_declared written.models second_text r.raw written.tasks r.spelled r.bound in
+    let steps = task_steps given (length written.tasks.tasks) in
+    let told : IsToldOf written.net vars steps cubes task report =
+    at_place (IsToldOf written.net vars steps cubes) written.tasks.tasks written.report.reports place task report written.report.told here there in
+    let declared = tasks_declared written.models task_text r.raw written.tasks r.spelled r.bound in
     let checkable : IsCheckable written.net.nets vars task = all_at (IsCheckable written.net.nets vars) written.tasks.tasks place task (promised written.models r.raw written.net written.tasks n.flat r.bound declared) here in
-    task_holds written.models written.net vars steps asked.cubes task report n.sound n.flat n.settled checkable says told
-check_holds (info net) asked net_text second_text passes bytes written = tt
-check_holds (sim net inputs) asked net_text second_text passes bytes written = tt
-check_holds (bench stages) asked net_text second_text passes bytes written = tt
+    task_holds written.models written.net vars steps cubes task report n.sound n.flat n.settled checkable says told
+
+action_holds : (action : Action) (asked : Command) (net_text second_text : List ℕ) (passes : Bool) (bytes : List ℕ) (written : IsWritten action asked net_text second_text passes bytes) → PassesHold action asked net_text second_text passes bytes written
+action_holds (check net tasks) asked net_text second_text passes bytes written = check_holds asked.steps asked.cubes asked.wave net_text second_text passes bytes written
+action_holds (info net) asked net_text second_text passes bytes written = tt
+action_holds (sim net inputs) asked net_text second_text passes bytes written = tt
+action_holds (bench stages) asked net_text second_text passes bytes written = check_holds asked.steps asked.cubes asked.wave (pipeline_net stages) (pipeline_tasks stages) passes written.report written.check
 
 pub passes_hold : (command : Option Command) (files : FilesState) → PassHolds command files
-passes_hold command files passes bytes report = check_holds report.asked.action report.asked report.net_text report.second_text passes bytes report.written
+passes_hold command files passes bytes report = action_holds report.asked.action report.asked report.net_text report.second_text passes bytes report.written
 
 -- the finding under the least assignment of a strong failure
 strong_least : (net : RawNet) (vars : ℕ) (task : Assertion) (verdict : Verdict) (least : Option (List Bool)) (fails : Option (NodeId × ℕ)) (bits : List Bool) → verdict ≡ Strong → least ≡ Some bits → Shows net vars task verdict least fails → IsStrong net task bits × (length bits ≡ vars)
@@ -227,20 +231,23 @@ task_breaks models net vars steps cubes (Gste graph) report run sound flat settl
 task_breaks models net vars steps cubes (Gste graph) report run sound flat settled checkable is (inr over) = absurd (no_run graph.name report run is over.0)
 
 -- where a check tells a run, it breaks its task
-check_breaks : (action : Action) (asked : Command) (net_text second_text : List ℕ) (passes : Bool) (bytes : List ℕ) (written : IsWritten action asked net_text second_text passes bytes) → TheyBreak action asked net_text second_text passes bytes written
-check_breaks (check net tasks) asked net_text second_text passes bytes written = λ place task report run here there is.
+check_breaks : (steps : Option ℕ) (cubes : ℕ) (wave : Bool) (net_text task_text : List ℕ) (passes : Bool) (bytes : List ℕ) (written : IsCheck steps cubes wave net_text task_text passes bytes) → CheckBreaks steps cubes wave net_text task_text passes bytes written
+check_breaks given cubes wave net_text task_text passes bytes written = λ place task report run here there is.
     let r = written.reading in
     let n = r.flattened in
     let vars = length written.tasks.vars in
-    let steps = task_steps asked.steps (length written.tasks.tasks) in
-    let told : IsToldOf written.net vars steps asked.cubes task report =
-    at_place (IsToldOf written.net vars steps asked.cubes) written.tasks.tasks written.report.reports place task report written.report.told here there in
-    let declared = tasks_declared written.models second_text r.raw written.tasks r.spelled r.bound in
+    let steps = task_steps given (length written.tasks.tasks) in
+    let told : IsToldOf written.net vars steps cubes task report =
+    at_place (IsToldOf written.net vars steps cubes) written.tasks.tasks written.report.reports place task report written.report.told here there in
+    let declared = tasks_declared written.models task_text r.raw written.tasks r.spelled r.bound in
     let checkable : IsCheckable written.net.nets vars task = all_at (IsCheckable written.net.nets vars) written.tasks.tasks place task (promised written.models r.raw written.net written.tasks n.flat r.bound declared) here in
-    task_breaks written.models written.net vars steps asked.cubes task report run n.sound n.flat n.settled checkable is told
-check_breaks (info net) asked net_text second_text passes bytes written = tt
-check_breaks (sim net inputs) asked net_text second_text passes bytes written = tt
-check_breaks (bench stages) asked net_text second_text passes bytes written = tt
+    task_breaks written.models written.net vars steps cubes task report run n.sound n.flat n.settled checkable is told
+
+action_breaks : (action : Action) (asked : Command) (net_text second_text : List ℕ) (passes : Bool) (bytes : List ℕ) (written : IsWritten action asked net_text second_text passes bytes) → TheyBreak action asked net_text second_text passes bytes written
+action_breaks (check net tasks) asked net_text second_text passes bytes written = check_breaks asked.steps asked.cubes asked.wave net_text second_text passes bytes written
+action_breaks (info net) asked net_text second_text passes bytes written = tt
+action_breaks (sim net inputs) asked net_text second_text passes bytes written = tt
+action_breaks (bench stages) asked net_text second_text passes bytes written = check_breaks asked.steps asked.cubes asked.wave (pipeline_net stages) (pipeline_tasks stages) passes written.report written.check
 
 pub runs_break : (command : Option Command) (files : FilesState) → RunsBreak command files
-runs_break command files passes bytes report = check_breaks report.asked.action report.asked report.net_text report.second_text passes bytes report.written
+runs_break command files passes bytes report = action_breaks report.asked.action report.asked report.net_text report.second_text passes bytes report.written

@@ -1,7 +1,10 @@
 -- How a run ends, over plain variables: what a status says, and what follows for all of them.
 use Rattle.std.proofs.Common.{◌≡◌, ◌≤◌, ℕ, Bool, true, false, cond, List, Option, None, Some, refl, ap, sym, ◌∙◌, subst, take, inl, inr, arith}
-use Rattle.std.specs.Prelude.{◌≢◌, ◌⊎◌}
-use Rattle.command_line.specs.Command.{Command}
+use Rattle.std.specs.Prelude.{◌≢◌, ◌⊎◌, IfSome, String}
+use Rattle.std.specs.declared.alloc.Global.{Global}
+use Rattle.command_line.specs.Bounds.{IsBounded}
+use Rattle.command_line.proofs.Ranges.{commands_are_bounded}
+use Rattle.command_line.specs.Command.{Command, command_of}
 use Rattle.ste_io.specs.Outside.{FilesState, SinkState, Store, took, with_names}
 use Rattle.ste_program.specs.Answer.{AskedSome, BrokeOff, IsDecided, NoneRose, Reported, WantedMemory, WasFaulted, WasRefused, WentOut, WhyNoReport, status_of}
 use Rattle.ste_program.specs.Command.{files_of, files_up_to, net_file, second_file}
@@ -260,3 +263,8 @@ pub decided_of : (given command : Option Command) (files files' : FilesState) (o
     NoneRose files files' out out' err err' → IsDecided command files result err err'
 decided_of given command files files' out out' err err' result same a b c d none =
     subst (λ (asked : Option Command). IsDecided asked files result err err') same (decided given files files' out out' err err' result a b c d none)
+
+-- a command that words ask for has its numbers in their ranges
+pub bounded_of : (words : List (String Global)) (command : Option Command) → command ≡ command_of words → IfSome command IsBounded
+bounded_of words None is = tt
+bounded_of words (Some command) is = commands_are_bounded words command (sym is)

@@ -15,6 +15,8 @@ use Rattle.net_core.specs.declared.raw.RawNet.{RawNet}
 use Rattle.flat_net.specs.Flat.{IsFlat}
 use Rattle.ste_model.specs.declared.report.Report.{Report}
 use Rattle.ste_model.specs.declared.verdict.Verdict.{Verdict}
+use Rattle.net_gen.specs.Pipeline.{pipeline_net, pipeline_tasks}
+use Rattle.ste_program.specs.Bench.{IsBench}
 use Rattle.ste_program.specs.Check.{IsCheck}
 use Rattle.ste_program.specs.Command.{net_file, second_file}
 use Rattle.ste_program.specs.Info.{IsInfo, count_line, free_below, info_text, is_free}
@@ -91,12 +93,30 @@ simulations_same net_text input_text bytes others_bytes one two =
     (subst (λ (ms : List Model). IsAnswer (net_named ms) one.net (lines_of input_text) (Ok one.inputs)) same one.given) two.given one.run two.run in
     one.written ∙ (ap (λ (ms : List Model). sim_text (outputs_of (top ms)) one.rows) same ∙ (ap (sim_text (outputs_of (top two.models))) rows ∙ sym two.written))
 
+benches_same : (steps : Option ℕ) (cubes : ℕ) (wave : Bool) (stages : ℕ) (passes others : Bool) (bytes others_bytes : List ℕ) (one : IsBench steps cubes wave stages passes bytes) (two : IsBench steps cubes wave stages others others_bytes) →
+    AllZip Agree one.check.report.reports two.check.report.reports × (map verdict_in one.check.report.reports ≡ map verdict_in two.check.report.reports → (passes ≡ others) × (bytes ≡ others_bytes))
+benches_same steps cubes wave stages passes others bytes others_bytes one two =
+    let net_text = pipeline_net stages in
+    let task_text = pipeline_tasks stages in
+    let both = checks_same steps cubes wave net_text task_text passes others one.report two.report one.check two.check in
+    let readings = one_reading net_text task_text one.check.models two.check.models one.check.net two.check.net one.check.tasks two.check.tasks one.check.reading two.check.reading in
+    let same_nets : one.check.net.nets ≡ two.check.net.nets =
+    (flats_same two.check.models one.check.net two.check.net (subst (λ (ms : List Model). IsFlat ms one.check.net) readings.0 one.check.reading.flattened.flat) two.check.reading.flattened.flat).nets in (
+      both.0,
+      (λ v. let same = both.1 v in (
+        same.0,
+        one.written
+            ∙ (ap (λ (text : List ℕ). text ++ count_line (codes "nets") one.check.net.nets) same.1
+            ∙ (ap (λ (n : ℕ). two.report ++ count_line (codes "nets") n) same_nets ∙ sym two.written)),
+      )),
+    )
+
 written_same : (action : Action) (asked : Command) (net_text second_text : List ℕ) (passes others : Bool) (bytes others_bytes : List ℕ) (one : IsWritten action asked net_text second_text passes bytes) (two : IsWritten action asked net_text second_text others others_bytes) →
     AreOne action asked net_text second_text passes others bytes others_bytes one two
 written_same (check net tasks) asked net_text second_text passes others bytes others_bytes one two = checks_same asked.steps asked.cubes asked.wave net_text second_text passes others bytes others_bytes one two
 written_same (info net) asked net_text second_text passes others bytes others_bytes one two = (tt, (λ same. (one.0 ∙ sym two.0, infos_same net_text bytes others_bytes one.1 two.1)))
 written_same (sim net inputs) asked net_text second_text passes others bytes others_bytes one two = (tt, (λ same. (one.0 ∙ sym two.0, simulations_same net_text second_text bytes others_bytes one.1 two.1)))
-written_same (bench stages) asked net_text second_text passes others bytes others_bytes one two = absurd one
+written_same (bench stages) asked net_text second_text passes others bytes others_bytes one two = benches_same asked.steps asked.cubes asked.wave stages passes others bytes others_bytes one two
 
 -- what is read of a file is one text
 one_text : (held : Option (List ℕ)) (one other : List ℕ) → held ≡ Some one → held ≡ Some other → one ≡ other

@@ -37,7 +37,7 @@ use Rattle.ste_model.specs.declared.report.Report.{Report}
 use Rattle.std.specs.declared.alloc.AllocError.{AllocError}
 use Rattle.dd_nodes.specs.Stores.{Store, empty_store}
 use Rattle.ste_engine.specs.Engine.{IsBudget}
-use Rattle.ste_program.specs.Check.{IsCheck, IsReportOn, IsToldOf, are_too_many, task_steps}
+use Rattle.ste_program.specs.Check.{IsReportOn, IsToldOf, are_too_many, task_steps}
 use Rattle.ste_program.specs.private.Made.{AreBindsIn, IsCheckable, IsEdgeFit, IsGraphFit}
 use Rattle.ste_model.specs.GraphReport.{IsGraphReportOf}
 use Rattle.ste_model.specs.declared.task.Bind.{Bind}
@@ -49,7 +49,7 @@ use Rattle.assert_syntax.specs.declared.tasks.RawBind.{RawBind}
 use Rattle.assert_syntax.specs.declared.tasks.RawEdge.{RawEdge}
 use Rattle.ste_program.proofs.GraphsDeclared.{IsEdgeDeclared}
 use Rattle.ste_program.proofs.TasksDeclared.{AreDeclared}
-use Rattle.ste_program.specs.private.Prepared.{IsPrepared}
+use Rattle.ste_program.specs.private.Prepared.{IsCheckOver, IsPrepared}
 
 -- what holds of all of two lists in a row holds of both
 all_left : {X : Type 0} (P : X → Type 0) (xs ys : List X) → All P (xs ++ ys) → All P xs
@@ -294,15 +294,18 @@ each_bounded steps net_text task_text names net tasks each count made some is co
     subst (λ n. n ≤ 16000000) (sym (is ∙ ap (task_steps steps) counted))
     (steps_bounded steps (length made.reading.raw.tasks) (length tasks.tasks) made.few (as_many made.models made.reading.raw tasks made.reading.bound) some)
 
--- what a check writes
-pub is_check : (steps : Option ℕ) (cubes : ℕ) (wave : Bool) (net_text task_text : List ℕ) (names : List (List ℕ)) (net : RawNet) (tasks : Tasks) (each count : ℕ) (passes : Bool) (bytes : List ℕ) → IsPrepared steps net_text task_text names net tasks → each ≡ task_steps steps count → count ≡ length tasks.tasks →
-    IsReportOn names net each cubes wave tasks passes bytes → IsCheck steps cubes wave net_text task_text passes bytes
-is_check steps cubes wave net_text task_text names net tasks each count passes bytes made is counted report = record {
-  models = made.models;
-  net = net;
-  tasks = tasks;
-  reading = made.reading;
-  few = made.few;
-  report = subst (λ ns. IsReportOn ns net (task_steps steps (length tasks.tasks)) cubes wave tasks passes bytes) made.named
-      (subst (λ n. IsReportOn names net n cubes wave tasks passes bytes) (is ∙ ap (task_steps steps) counted) report);
-}
+-- what a check writes, over so many nets
+pub is_check_over : (steps : Option ℕ) (cubes : ℕ) (wave : Bool) (net_text task_text : List ℕ) (names : List (List ℕ)) (net : RawNet) (tasks : Tasks) (each count : ℕ) (passes : Bool) (bytes : List ℕ) (many : ℕ) → IsPrepared steps net_text task_text names net tasks → each ≡ task_steps steps count → count ≡ length tasks.tasks →
+    IsReportOn names net each cubes wave tasks passes bytes → many ≡ net.nets → IsCheckOver steps cubes wave net_text task_text passes bytes many
+is_check_over steps cubes wave net_text task_text names net tasks each count passes bytes many made is counted report same = (
+  record {
+    models = made.models;
+    net = net;
+    tasks = tasks;
+    reading = made.reading;
+    few = made.few;
+    report = subst (λ ns. IsReportOn ns net (task_steps steps (length tasks.tasks)) cubes wave tasks passes bytes) made.named
+        (subst (λ n. IsReportOn names net n cubes wave tasks passes bytes) (is ∙ ap (task_steps steps) counted) report);
+  },
+  same,
+)

@@ -14,6 +14,7 @@ use Rattle.hierarchy.specs.Names.{net_named}
 use Rattle.hierarchy.specs.Nets.{nets}
 use Rattle.hierarchy.specs.declared.fault.NetFault.{NetFault}
 use Rattle.net_core.specs.Run.{IsSettled}
+use Rattle.net_gen.specs.Pipeline.{pipeline_net, pipeline_tasks}
 use Rattle.net_core.specs.declared.raw.RawNet.{RawNet}
 use Rattle.flat_net.specs.Flat.{IsFlat}
 use Rattle.assert_syntax.specs.Spelled.{task_tree}
@@ -99,15 +100,18 @@ pub text_once : (action : Action) (steps : Option ℕ) (net_text second_text : L
 text_once (check net tasks) steps net_text second_text = check_once steps net_text second_text
 text_once (info net) steps net_text second_text = (faulty_once net_text, (hierarchy_once net_text, (loop_once net_text, tt)))
 text_once (sim net inputs) steps net_text second_text = (faulty_once net_text, (hierarchy_once net_text, (loop_once net_text, (inputs_once net_text second_text, tt))))
-text_once (bench stages) steps net_text second_text = tt
+text_once (bench stages) steps net_text second_text = check_once steps (pipeline_net stages) (pipeline_tasks stages)
 
 -- what a stage of the texts gives is told with status 2
-pub text_told : (action : Action) (steps : Option ℕ) (net_text second_text : List ℕ) → AllTold (text_stages action steps net_text second_text)
-text_told (check net tasks) steps net_text second_text =
+check_told : (steps : Option ℕ) (net_text task_text : List ℕ) → AllTold (check_stages steps net_text task_text)
+check_told steps net_text task_text =
     ((λ found h. ap status_of h.1), ((λ found h. ap status_of h.1), ((λ found h. ap status_of h.1), ((λ found h. ap status_of h.1), ((λ found h. ap status_of h.1), ((λ found h. ap status_of h.is), tt))))))
+
+pub text_told : (action : Action) (steps : Option ℕ) (net_text second_text : List ℕ) → AllTold (text_stages action steps net_text second_text)
+text_told (check net tasks) steps net_text second_text = check_told steps net_text second_text
 text_told (info net) steps net_text second_text = ((λ found h. ap status_of h.1), ((λ found h. ap status_of h.1), ((λ found h. ap status_of h.1), tt)))
 text_told (sim net inputs) steps net_text second_text = ((λ found h. ap status_of h.1), ((λ found h. ap status_of h.1), ((λ found h. ap status_of h.1), ((λ found h. ap status_of h.1), tt))))
-text_told (bench stages) steps net_text second_text = tt
+text_told (bench stages) steps net_text second_text = check_told steps (pipeline_net stages) (pipeline_tasks stages)
 
 -- what is known silences a stage
 faulty_silent : (net_text : List ℕ) (models : List Model) → IsNetlist net_text models → (other : Refusal) → ¬ is_faulty net_text other
@@ -173,7 +177,7 @@ text_silent (sim net inputs) asked net_text second_text passes bytes written =
     let h = written.1 in
     let n = h.flattened in
     (faulty_silent net_text h.models n.netlist, (hierarchy_silent net_text h.models n.netlist n.sound, (loop_silent net_text h.models h.net n.netlist n.flat n.settled, (inputs_silent net_text second_text h.models h.net h.inputs n.netlist n.flat h.given, tt))))
-text_silent (bench stages) asked net_text second_text passes bytes written = absurd written
+text_silent (bench stages) asked net_text second_text passes bytes written = check_silent asked.steps asked.cubes asked.wave (pipeline_net stages) (pipeline_tasks stages) passes written.report written.check
 
 -- two texts have one reading at most
 pub one_reading : OneReading

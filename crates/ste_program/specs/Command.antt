@@ -38,12 +38,12 @@ abbrev pub files_up_to : Command → File → List (List ℕ)
 files_up_to command Net = option_to_list (net_file command.action)
 files_up_to command Second = files_of (Some command)
 
--- what is not done so far: `bench`, and a check with `--nodes`
+-- what is not done so far: a check, and `bench`, with `--nodes`
 abbrev pub is_undone_action : Action → Bool → Bool
 is_undone_action (check net tasks) nodes = nodes
 is_undone_action (info net) nodes = false
 is_undone_action (sim net inputs) nodes = false
-is_undone_action (bench stages) nodes = true
+is_undone_action (bench stages) nodes = nodes
 
 -- what the command asks for is not done so far
 abbrev pub is_undone : Command → Bool

@@ -6,6 +6,7 @@ pub mod TaskFile
 pub mod Reading
 pub mod Holds
 pub mod Check
+pub mod Bench
 pub mod Info
 pub mod Simulated
 pub mod Report

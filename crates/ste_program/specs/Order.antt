@@ -13,6 +13,7 @@ use Rattle.hierarchy.specs.Names.{net_named}
 use Rattle.hierarchy.specs.Nets.{nets}
 use Rattle.hierarchy.specs.declared.fault.NetFault.{NetFault}
 use Rattle.net_core.specs.declared.raw.RawNet.{RawNet}
+use Rattle.net_gen.specs.Pipeline.{pipeline_net, pipeline_tasks}
 use Rattle.flat_net.specs.Flat.{IsFlat}
 use Rattle.assert_syntax.specs.declared.fault.TaskFault.{TaskFault}
 use Rattle.assert_syntax.specs.declared.tasks.RawTasks.{RawTasks}
@@ -109,12 +110,12 @@ abbrev pub sim_stages : List ℕ → List ℕ → List (Refusal → Type 0)
 sim_stages net_text input_text =
     is_faulty net_text ∷ has_faulty_hierarchy net_text ∷ has_loop net_text ∷ has_faulty_inputs net_text input_text ∷ []
 
--- the stages of an action's two texts
+-- the stages of an action's two texts; `bench` has those of a check of the texts that it makes
 abbrev pub text_stages : Action → Option ℕ → List ℕ → List ℕ → List (Refusal → Type 0)
 text_stages (check net tasks) steps net_text second_text = check_stages steps net_text second_text
 text_stages (info net) steps net_text second_text = info_stages net_text
 text_stages (sim net inputs) steps net_text second_text = sim_stages net_text second_text
-text_stages (bench stages) steps net_text second_text = []
+text_stages (bench stages) steps net_text second_text = check_stages steps (pipeline_net stages) (pipeline_tasks stages)
 
 -- what the command asks for is not done so far
 abbrev pub is_not_done : Command → Refusal → Type 0

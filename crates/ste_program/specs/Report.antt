@@ -3,11 +3,13 @@ use Rattle.std.specs.Prelude.{◌≡◌, ◌≤◌, ◌⊎◌, ⊤, ℕ, Bool, t
 use Rattle.std.specs.FinMap.{get}
 use Rattle.std.specs.List.{AllZip}
 use Rattle.command_line.specs.Command.{Action, Command, bench, check, info, sim}
+use Rattle.net_gen.specs.Pipeline.{pipeline_net, pipeline_tasks}
 use Rattle.ste_model.specs.declared.task.Task.{Task}
 use Rattle.ste_model.specs.declared.report.Report.{Report as TaskReport}
 use Rattle.ste_model.specs.declared.run.Run.{Run}
 use Rattle.ste_model.specs.declared.verdict.Verdict.TheVariants.{Budget, Pass, Vacuous}
 use Rattle.ste_io.specs.Outside.{FilesState, Store}
+use Rattle.ste_program.specs.Bench.{IsBench}
 use Rattle.ste_program.specs.Check.{IsCheck}
 use Rattle.ste_program.specs.Command.{is_undone, net_file, second_file}
 use Rattle.ste_program.specs.Holds.{BreaksTask, TaskHoldsOf}
@@ -27,12 +29,12 @@ text_at (Some name) store = get store name
 abbrev pub IsRead : Option Store → Option (List ℕ) → List ℕ → Type 0
 IsRead holds file text = IfSome holds (λ store. text_at file store ≡ Some text)
 
--- what the action of a command writes on two texts, and whether each task passes; `info` has the second for nothing
+-- What the action of a command writes on two texts, and whether each task passes. `info` has the second for nothing, `bench` both.
 abbrev pub IsWritten : Action → Command → List ℕ → List ℕ → Bool → List ℕ → Type 0
 IsWritten (check net tasks) asked net_text second_text passes bytes = IsCheck asked.steps asked.cubes asked.wave net_text second_text passes bytes
 IsWritten (info net) asked net_text second_text passes bytes = (passes ≡ true) × IsInfo net_text bytes
 IsWritten (sim net inputs) asked net_text second_text passes bytes = (passes ≡ true) × IsSimulated net_text second_text bytes
-IsWritten (bench stages) asked net_text second_text passes bytes = ⊥
+IsWritten (bench stages) asked net_text second_text passes bytes = IsBench asked.steps asked.cubes asked.wave stages passes bytes
 
 -- what a command writes, and whether each task passes
 pub record IsReport (command : Option Command) (files : FilesState) (passes : Bool) (bytes : List ℕ) : Type 0 where
@@ -48,14 +50,20 @@ pub record IsReport (command : Option Command) (files : FilesState) (passes : Bo
   pub written : IsWritten asked.action asked net_text second_text passes bytes
 
 -- where a check says pass, or contradictory antecedent, of a task, the task holds
-abbrev pub PassesHold : (action : Action) (asked : Command) (net_text second_text : List ℕ) (passes : Bool) (bytes : List ℕ) → IsWritten action asked net_text second_text passes bytes → Type 0
-PassesHold (check net tasks) asked net_text second_text passes bytes written =
+abbrev pub CheckHolds : (steps : Option ℕ) (cubes : ℕ) (wave : Bool) (net_text task_text : List ℕ) (passes : Bool) (bytes : List ℕ) → IsCheck steps cubes wave net_text task_text passes bytes → Type 0
+CheckHolds steps cubes wave net_text task_text passes bytes written =
     (place : ℕ) (task : Task) (report : TaskReport) →
     slice_get written.tasks.tasks place ≡ Some task → slice_get written.report.reports place ≡ Some report →
     (report.verdict ≡ Pass) ⊎ (report.verdict ≡ Vacuous) → TaskHoldsOf written.models (length written.tasks.vars) task
+
+-- the same of what an action writes
+abbrev pub PassesHold : (action : Action) (asked : Command) (net_text second_text : List ℕ) (passes : Bool) (bytes : List ℕ) → IsWritten action asked net_text second_text passes bytes → Type 0
+PassesHold (check net tasks) asked net_text second_text passes bytes written =
+    CheckHolds asked.steps asked.cubes asked.wave net_text second_text passes bytes written
 PassesHold (info net) asked net_text second_text passes bytes written = ⊤
 PassesHold (sim net inputs) asked net_text second_text passes bytes written = ⊤
-PassesHold (bench stages) asked net_text second_text passes bytes written = ⊤
+PassesHold (bench stages) asked net_text second_text passes bytes written =
+    CheckHolds asked.steps asked.cubes asked.wave (pipeline_net stages) (pipeline_tasks stages) passes written.report written.check
 
 -- Law: where a report says pass, or contradictory antecedent, of a task, the task holds of the hierarchy as it was written: for every
 -- assignment, each two-valued run of its depth that meets the antecedent meets the consequent; of a graph, along every finite path.
@@ -66,15 +74,21 @@ PassHolds command files =
 
 -- where a check tells a run of a task, the run breaks the task under the least assignment that is told, a graph along the path that is
 -- told
-abbrev pub TheyBreak : (action : Action) (asked : Command) (net_text second_text : List ℕ) (passes : Bool) (bytes : List ℕ) → IsWritten action asked net_text second_text passes bytes → Type 0
-TheyBreak (check net tasks) asked net_text second_text passes bytes written =
+abbrev pub CheckBreaks : (steps : Option ℕ) (cubes : ℕ) (wave : Bool) (net_text task_text : List ℕ) (passes : Bool) (bytes : List ℕ) → IsCheck steps cubes wave net_text task_text passes bytes → Type 0
+CheckBreaks steps cubes wave net_text task_text passes bytes written =
     (place : ℕ) (task : Task) (report : TaskReport) (run : Run) →
     slice_get written.tasks.tasks place ≡ Some task → slice_get written.report.reports place ≡ Some report → report.run ≡ Some run →
     (bits : List Bool) × (report.least ≡ Some bits) × (length bits ≡ length written.tasks.vars)
     × BreaksTask written.models task bits report.path run
+
+-- the same of what an action writes
+abbrev pub TheyBreak : (action : Action) (asked : Command) (net_text second_text : List ℕ) (passes : Bool) (bytes : List ℕ) → IsWritten action asked net_text second_text passes bytes → Type 0
+TheyBreak (check net tasks) asked net_text second_text passes bytes written =
+    CheckBreaks asked.steps asked.cubes asked.wave net_text second_text passes bytes written
 TheyBreak (info net) asked net_text second_text passes bytes written = ⊤
 TheyBreak (sim net inputs) asked net_text second_text passes bytes written = ⊤
-TheyBreak (bench stages) asked net_text second_text passes bytes written = ⊤
+TheyBreak (bench stages) asked net_text second_text passes bytes written =
+    CheckBreaks asked.steps asked.cubes asked.wave (pipeline_net stages) (pipeline_tasks stages) passes written.report written.check
 
 -- Law: each run that a report tells is a run of the hierarchy as it was written, meets the antecedent of its task and breaks the
 -- consequent, under the least assignment that is told; of a graph, along the path that is told.
@@ -88,7 +102,7 @@ abbrev pub reports_in : (action : Action) (asked : Command) (net_text second_tex
 reports_in (check net tasks) asked net_text second_text passes bytes written = written.report.reports
 reports_in (info net) asked net_text second_text passes bytes written = []
 reports_in (sim net inputs) asked net_text second_text passes bytes written = []
-reports_in (bench stages) asked net_text second_text passes bytes written = []
+reports_in (bench stages) asked net_text second_text passes bytes written = written.check.report.reports
 
 -- the reports of the tasks that a command's report tells
 abbrev pub reports_of : (command : Option Command) (files : FilesState) (passes : Bool) (bytes : List ℕ) → IsReport command files passes bytes → List TaskReport

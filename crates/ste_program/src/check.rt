@@ -1,4 +1,4 @@
-//! What a check writes: `check` gives its bytes, and whether every task passes.
+//! What a check writes: `check` gives its bytes, and whether every task passes; `checked_texts` the number of nets too.
 ghost use Rattle.std.specs.Prelude.{◌≡◌, ◌≤◌, ◌<◌, List, All, IfOk, MatchResult, Ok, length, map};
 ghost use Rattle.std.specs.List.{list_all};
 ghost use Rattle.blif_syntax.specs.declared.models.Model.{Model};
@@ -11,7 +11,7 @@ ghost use Rattle.ste_program.specs.Order.{IsFirst, check_stages, has_faulty_task
 ghost use Rattle.ste_program.specs.Report.{greatest};
 ghost use Rattle.ste_program.specs.TaskFile.{AreTasks};
 ghost use Rattle.ste_program.specs.private.Made.{IsCheckable, IsNetOf, IsNotBound};
-ghost use Rattle.ste_program.specs.private.Prepared.{IsPrepared};
+ghost use Rattle.ste_program.specs.private.Prepared.{IsCheckOver, IsPrepared};
 ghost use Rattle.ste_program.specs.private.Texts.{OrMemory};
 
 use crate::judging::{is_pass, reports_of};
@@ -134,18 +134,27 @@ fn all_pass(reports: &[Report]) -> bool
     reports.iter().all(|report| is_pass(report.verdict))
 }
 
-/// What a check writes on what is prepared, with so many steps for each task.
+/// The report of a check, whether every task passes, and how many nets the netlist has.
+#[derive(Drop)]
+pub struct Checked {
+    pub text: Vec<u8>,
+    pub passes: bool,
+    pub nets: u32,
+}
+
+/// The report of a check on what is prepared, with so many steps for each task.
 fn report_on(
     alloc: Global,
     steps: u32,
     cubes: u32,
     wave: bool,
     prepared: &Prepared,
-) -> Result<Written, AllocError>
+) -> Result<Checked, AllocError>
     requires { steps ≤ 16000000 }
-    ensures { IfOk result (λ written. IsReportOn prepared.now.flat.names.own
+    ensures report { IfOk result (λ checked. IsReportOn prepared.now.flat.names.own
         prepared.now.flat.net.raw steps cubes wave prepared.now.tasks
-        written.passes written.bytes) }
+        checked.passes checked.text.items) }
+    ensures nets { IfOk result (λ checked. checked.nets ≡ prepared.now.flat.net.raw.nets) }
 {
     let net = &prepared.flat.net;
     let tasks = &prepared.tasks;
@@ -161,14 +170,42 @@ fn report_on(
         tasks.tasks.as_slice(),
     )?;
     let text = render(alloc, &prepared.flat.names, tasks, &reports, wave, None)?;
-    Ok(Written {
-        bytes: text.into(),
+    Ok(Checked {
+        text,
         passes: all_pass(&reports),
+        nets: net.nets(),
     })
 }
 
-/// What a check writes on the texts of a netlist and of a task file, with these node steps of each task, where they are given, and at
+/// The report of a check on the texts of a netlist and of a task file, with these node steps of each task, where they are given, and at
 /// most so many cubes in a list. A run shows the nets that its task names, with `wave` all nets.
+pub fn checked_texts(
+    alloc: Global,
+    steps: Option<u64>,
+    cubes: u32,
+    wave: bool,
+    net_text: Vec<u8>,
+    task_text: Vec<u8>,
+) -> Result<Checked, Refusal>
+    requires net { length net_text.items ≤ greatest }
+    requires tasks { length task_text.items ≤ greatest }
+    ensures { MatchResult result
+        (λ checked. IsCheckOver steps cubes wave net_text.items task_text.items
+        checked.passes checked.text.items checked.nets)
+        (λ found. OrMemory (IsFirst (check_stages steps net_text.items task_text.items)) found) }
+{
+    let prepared = match prepare(alloc, steps, net_text, task_text) {
+        Ok(prepared) => prepared,
+        Err(found) => return Err(found),
+    };
+    let each = task_steps(steps, prepared.tasks.tasks.len());
+    match report_on(alloc, each as u32, cubes, wave, &prepared) {
+        Ok(checked) => Ok(checked),
+        Err(_) => Err(Refusal::OutOfMemory),
+    }
+}
+
+/// What a check writes on the texts of a netlist and of a task file: its report.
 pub fn check(
     alloc: Global,
     steps: Option<u64>,
@@ -184,13 +221,11 @@ pub fn check(
         written.passes written.bytes)
         (λ found. OrMemory (IsFirst (check_stages steps net_text.items task_text.items)) found) }
 {
-    let prepared = match prepare(alloc, steps, net_text, task_text) {
-        Ok(prepared) => prepared,
-        Err(found) => return Err(found),
-    };
-    let each = task_steps(steps, prepared.tasks.tasks.len());
-    match report_on(alloc, each as u32, cubes, wave, &prepared) {
-        Ok(written) => Ok(written),
-        Err(_) => Err(Refusal::OutOfMemory),
+    match checked_texts(alloc, steps, cubes, wave, net_text, task_text) {
+        Ok(checked) => Ok(Written {
+            bytes: checked.text.into(),
+            passes: checked.passes,
+        }),
+        Err(found) => Err(found),
     }
 }

@@ -58,9 +58,8 @@ fn is_undone_action(action: &Action<'_>, nodes: bool) -> bool
     ensures { result ≡ is_undone_action (view_of action.now) nodes }
 {
     match action {
-        Action::Check { .. } => nodes,
+        Action::Check { .. } | Action::Bench { .. } => nodes,
         Action::Info { .. } | Action::Sim { .. } => false,
-        Action::Bench { .. } => true,
     }
 }
 

@@ -1,6 +1,7 @@
 //! All that the program does, over files and sinks that are handed in: begin with `run::run`.
 #![tactic(auto)]
 
+mod bench;
 mod check;
 mod command;
 mod info;

@@ -1,12 +1,13 @@
 //! What a command writes, or why it writes nothing: begin with `report_of`.
-ghost use Rattle.std.specs.Prelude.{◌≡◌, ◌≤◌, false, MatchResult, length};
+ghost use Rattle.std.specs.Prelude.{◌≤◌, IfSome, MatchResult, length};
+ghost use Rattle.command_line.specs.Bounds.{IsBounded};
 ghost use Rattle.ste_program.specs.Answer.{WhyNoReport};
-ghost use Rattle.ste_program.specs.Command.{is_undone};
 ghost use Rattle.ste_program.specs.Order.{IsFirst, text_stages};
 ghost use Rattle.ste_program.specs.Report.{IsWritten, greatest};
 ghost use Rattle.ste_program.specs.private.Made.{IsMade};
 ghost use Rattle.ste_program.specs.private.Texts.{OrMemory};
 
+use crate::bench::bench;
 use crate::check::check;
 use crate::command::is_undone;
 use crate::info::info;
@@ -27,7 +28,7 @@ pub struct Written {
 
 /// What a command writes on its texts.
 fn on_texts(alloc: Global, command: &Command<'_>, texts: Texts) -> Result<Written, Refusal>
-    requires done { is_undone command.now ≡ false }
+    requires bounded { IsBounded command.now }
     requires net { length texts.net.items ≤ greatest }
     requires second { length texts.second.items ≤ greatest }
     ensures { MatchResult result
@@ -48,8 +49,13 @@ fn on_texts(alloc: Global, command: &Command<'_>, texts: Texts) -> Result<Writte
         ),
         Action::Info { .. } => info(alloc, net),
         Action::Sim { .. } => simulated(alloc, net, second),
-        // What is not done so far has no texts.
-        Action::Bench { .. } => unreachable!(),
+        Action::Bench { stages } => bench(
+            alloc,
+            command.steps,
+            command.cubes,
+            command.wave,
+            stages,
+        ),
     }
 }
 
@@ -59,6 +65,7 @@ pub fn report_of<F: Files>(
     command: &Option<Command<'_>>,
     files: &mut F,
 ) -> Result<Written, Refusal>
+    requires { IfSome command.now IsBounded }
     ensures { MatchResult result
         (λ report. IsMade command.now (F.state files.old) (F.state files.new)
         report.passes report.bytes)

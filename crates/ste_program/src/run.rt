@@ -1,7 +1,8 @@
 //! The top call: `run` does all that the program does.
-ghost use Rattle.std.specs.Prelude.{◌≡◌, ◌≢◌, ◌≤◌, ◌⊎◌, ℕ, true, false, cond, Some, take};
+ghost use Rattle.std.specs.Prelude.{◌≡◌, ◌≢◌, ◌≤◌, ◌⊎◌, ℕ, IfSome, true, false, cond, Some, take};
 ghost use Rattle.ste_program.specs.Answer.{BrokeOff, IsDecided, NoneFell, NoneMoved, NoneRose, Reported, WantedMemory, WasFaulted, WasRefused, WentOut};
 ghost use Rattle.ste_program.specs.private.Endings.{IsEnded, IsTold};
+ghost use Rattle.command_line.specs.Bounds.{IsBounded};
 ghost use Rattle.command_line.specs.Command.{command_of};
 ghost use Rattle.ste_program.specs.Command.{files_of};
 ghost use Rattle.ste_program.specs.Message.{cannot_write};
@@ -92,6 +93,7 @@ fn answer<F: Files, O: Sink, E: Sink>(
     out: &mut O,
     err: &mut E,
 ) -> Status
+    requires { IfSome command.now IsBounded }
     ensures holds { (F.state files.new).holds ≡ (F.state files.old).holds }
     ensures asked { (n : ℕ) × ((F.state files.new).asked
         ≡ with_names (F.state files.old).asked (take n (files_of command.now))) }

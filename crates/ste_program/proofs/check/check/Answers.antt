@@ -1,20 +1,7 @@
-use Rattle.std.proofs.Common.{arith}
-use Rattle.ste_program.proofs.TaskLists.{each_bounded, is_check}
+use Rattle.std.proofs.Common.{List, ℕ, subst, sym}
+use Rattle.ste_program.specs.Check.{IsCheck}
 use Rattle.ste_program.proofs.check.check.Goals as goal
 
-pub overflow_cast-each : goal.overflow_cast-each
-overflow_cast-each c =
-    let made = c.in-Ok.prepared in
-    let low = each_bounded c.args.steps c.args.net_text.items c.args.task_text.items made.flat.names.own made.flat.net.raw made.tasks c.task_steps-each.result c.len.result c.in-Ok.ensures made.some c.task_steps-each.ensures c.len.ensures in
-    omega (arith, low)
-
-pub report_on-requires : goal.report_on-requires
-report_on-requires c =
-    let made = c.in-Ok.prepared in
-    each_bounded c.args.steps c.args.net_text.items c.args.task_text.items made.flat.names.own made.flat.net.raw made.tasks c.task_steps-each.result c.len.result c.in-Ok.ensures made.some c.task_steps-each.ensures c.len.ensures
-
-pub returns-in-Ok-report_on : goal.returns-in-Ok-report_on
-returns-in-Ok-report_on c =
-    let made = c.in-Ok.prepared in
-    is_check c.args.steps c.args.cubes c.args.wave c.args.net_text.items c.args.task_text.items made.flat.names.own made.flat.net.raw made.tasks c.task_steps-each.result c.len.result c.in-Ok-report_on.written.passes c.in-Ok-report_on.written.bytes
-    c.in-Ok.ensures c.task_steps-each.ensures c.len.ensures c.in-Ok-report_on.ensures
+pub returns-in-Ok : goal.returns-in-Ok
+returns-in-Ok c =
+    subst (λ (bytes : List ℕ). IsCheck c.args.steps c.args.cubes c.args.wave c.args.net_text.items c.args.task_text.items c.in-Ok.checked.passes bytes) (sym c.into.ensures) c.in-Ok.ensures.0

@@ -35,8 +35,8 @@ render-requires-clause-rows c =
     rows_fit (length made.flat.names.own) c.deref.result.now (subst (λ (rs : List Report). All (Fits (length made.flat.names.own)) rs) (sym c.deref.ensures.value)
     (all_fit net (length made.tasks.vars) c.args.steps c.args.cubes (length made.flat.names.own) made.tasks.tasks c.in_ok-reports.reports.items (sym made.named) made.checkable told))
 
-pub returns : goal.returns
-returns c =
+pub returns-clause-report : goal.returns-clause-report
+returns-clause-report c =
     let made = c.args.prepared.now in
     let net = made.flat.net.raw in
     let told : AllZip (IsToldOf net (length made.tasks.vars) c.args.steps c.args.cubes) made.tasks.tasks c.in_ok-reports.reports.items =
@@ -46,5 +46,5 @@ returns c =
       reports = c.in_ok-reports.reports.items;
       told = told;
       passing = c.all_pass.ensures ∙ ap (list_all (λ (report : Report). is_pass report.verdict)) c.deref-2.ensures.value;
-      written = c.into.ensures ∙ (c.in_ok-text.ensures ∙ ap (λ (rs : List Report). report_text made.flat.names.own made.tasks.vars c.args.wave None made.tasks.tasks rs) c.deref.ensures.value);
+      written = c.in_ok-text.ensures ∙ ap (λ (rs : List Report). report_text made.flat.names.own made.tasks.vars c.args.wave None made.tasks.tasks rs) c.deref.ensures.value;
     }

@@ -1,0 +1,58 @@
+//! What `bench` writes: the report of a check of a pipeline, and the number of its nets.
+ghost use Rattle.std.specs.Prelude.{◌≡◌, ◌≤◌, ◌++◌, IfOk, MatchResult, codes};
+ghost use Rattle.net_gen.specs.Pipeline.{pipeline_net, pipeline_tasks};
+ghost use Rattle.ste_program.specs.Bench.{IsBench};
+ghost use Rattle.ste_program.specs.Info.{count_line};
+ghost use Rattle.ste_program.specs.Order.{IsFirst, check_stages};
+ghost use Rattle.ste_program.specs.private.Texts.{OrMemory};
+
+use crate::check::{Checked, checked_texts};
+use crate::info::put_count;
+use crate::refusal::Refusal;
+use crate::report::Written;
+use net_gen::pipeline;
+use std::alloc::{AllocError, Global};
+
+/// The report with a line for the number of nets behind it.
+fn with_nets(alloc: Global, checked: Checked) -> Result<Written, AllocError>
+    ensures bytes { IfOk result (λ written. written.bytes
+        ≡ checked.text.items ++ count_line (codes "nets") checked.nets) }
+    ensures passes { IfOk result (λ written. written.passes ≡ checked.passes) }
+{
+    let Checked { text, passes, nets } = checked;
+    let mut bytes = text;
+    put_count(alloc, &mut bytes, b"nets", nets as usize)?;
+    Ok(Written {
+        bytes: bytes.into(),
+        passes,
+    })
+}
+
+/// What `bench` writes for a pipeline of so many stages, which it makes and checks with these node steps, where they are given, and at
+/// most so many cubes in a list.
+pub fn bench(
+    alloc: Global,
+    steps: Option<u64>,
+    cubes: u32,
+    wave: bool,
+    stages: u64,
+) -> Result<Written, Refusal>
+    requires { stages ≤ 1000 }
+    ensures { MatchResult result
+        (λ written. IsBench steps cubes wave stages written.passes written.bytes)
+        (λ found. OrMemory (IsFirst (check_stages steps (pipeline_net stages)
+        (pipeline_tasks stages))) found) }
+{
+    let (net, tasks) = match pipeline(alloc, stages as u32) {
+        Ok(texts) => texts,
+        Err(_) => return Err(Refusal::OutOfMemory),
+    };
+    let made = match checked_texts(alloc, steps, cubes, wave, net, tasks) {
+        Ok(made) => made,
+        Err(found) => return Err(found),
+    };
+    match with_nets(alloc, made) {
+        Ok(written) => Ok(written),
+        Err(_) => Err(Refusal::OutOfMemory),
+    }
+}
