@@ -1,0 +1,9 @@
+//! Tasks shared out to workers over one table of nodes; begin with `run_tasks`.
+#![tactic(auto)]
+
+pub mod gate;
+pub mod pool;
+pub mod run;
+
+pub use gate::{Gate, NoGate};
+pub use run::{PoolAnswer, run_tasks};
