@@ -1,7 +1,12 @@
 -- Stores are dealt, and what their jobs leave is gathered.
-use Rattle.std.proofs.Common.{◌≡◌, ◌<◌, ◌≤◌, ◌+◌, ◌-◌, ◌*◌, ℕ, zero, suc, List, [], ◌∷◌, ◌++◌, length, length-append, append_assoc, append-nil, get_or, take, Some, slice_get, Result, Ok, refl, sym, ◌∙◌, ap, subst, arith}
+use Rattle.std.proofs.Common.{◌≡◌, ◌<◌, ◌≤◌, ◌+◌, ◌-◌, ◌*◌, ℕ, zero, suc, List, [], ◌∷◌, ◌++◌, length, length-append, map, append_assoc, append-nil, get_or, take, Some, slice_get, Result, Ok, refl, sym, ◌∙◌, ap, subst, ⊎_elim, arith}
 use Rattle.std.specs.Prelude.{◌≢◌, All}
 use Rattle.std.specs.List.{AllZip}
+use Rattle.std.specs.List.Sorted.{IsNonDecreasingBy, IsPermutation}
+use Rattle.std.proofs.lemmas.Bool.{cases_lt}
+use Rattle.std.proofs.lemmas.List.{get_or-map, get_or_push, length-map}
+use Rattle.std.proofs.Math.ListN.{get_or-append}
+use Rattle.std.proofs.lemmas.List.Sorted.{All-permutation, IsPermutation-map, IsPermutation-trans, length_permutation}
 use Rattle.std.proofs.Math.Seq.{take-append_seam}
 use Rattle.std.specs.declared.alloc.AllocError.{AllocError}
 use Rattle.dd_nodes.specs.Stores.{Store, Keeps, Unites, gives_up}
@@ -12,8 +17,9 @@ use Rattle.ste_model.specs.declared.task.Task.{Task}
 use Rattle.ste_model.specs.declared.verdict.Verdict.{Verdict}
 use Rattle.ste_model.specs.declared.verdict.Verdict.TheVariants.{Pass, Weak, Strong, Vacuous, Budget}
 use Rattle.gste_engine.proofs.Lists.{zip_push, zip_weaker}
-use Rattle.work_pool.specs.Pool.{IsPooled, IsTaskKept, IsToldOf, budgets, counts_budget}
+use Rattle.work_pool.specs.Pool.{IsPooled, IsTaskKept, IsTaskOver, IsToldOf, budgets, counts_budget}
 use Rattle.work_pool.specs.private.Jobs.{IsDone, IsGathered, IsGathering, IsReady}
+use Rattle.work_pool.proofs.Ranks.{ranks}
 use Rattle.work_pool.proofs.Done.{done_of, kept_on}
 
 pub nothing_given : (s : Store) (k : ℕ) → s ≡ gives_up (0 * k) s
@@ -35,6 +41,29 @@ zip_at R [] ys i x y all a b = absurd (cc a)
 zip_at R (c ∷ xs) [] i x y all a b = absurd all
 zip_at R (c ∷ xs) (d ∷ ys) zero x y all a b = let e : c ≡ x = cc a in let f : d ≡ y = cc b in subst (λ z. R z y) e (subst (R c) f all.0)
 zip_at R (c ∷ xs) (d ∷ ys) (suc i) x y all a b = zip_at R xs ys i x y all.1 a b
+
+-- what is said of each element of a list, where one more is put behind
+pub all_more : {X : Type 0} (P : X → Type 0) (xs ys : List X) (x : X) → ys ≡ xs ++ x ∷ [] → All P xs → P x → All P ys
+all_more P xs ys x is all one = subst (All P) (sym is) (λ k d lt. ⊎_elim
+    (λ (old : k < length xs). subst P (sym (get_or-append xs (x ∷ []) d k old)) (all k d old))
+    (λ (last : length xs ≤ k). subst P (sym (get_or_push xs x d k (let l = length-append xs (x ∷ []) in omega (arith, last, lt, l)))) one)
+    (cases_lt k (length xs)))
+
+-- the elements have the numbers of their places, where one more is put behind
+pub numbered_more : {X : Type 0} (place : X → ℕ) (xs ys : List X) (x : X) (n : ℕ) → ys ≡ xs ++ x ∷ [] → length xs ≡ n → place x ≡ n
+    → ((i : ℕ) (d : X) → i < n → place (get_or xs i d) ≡ i) → (i : ℕ) (d : X) → i < n + 1 → place (get_or ys i d) ≡ i
+numbered_more place xs ys x n is long one each i d lt = subst (λ zs. place (get_or zs i d) ≡ i) (sym is) (⊎_elim
+    (λ (old : i < length xs). ap place (get_or-append xs (x ∷ []) d i old) ∙ each i d (omega (arith, old, long)))
+    (λ (last : length xs ≤ i). ap place (get_or_push xs x d i (omega (arith, last, lt, long))) ∙ one ∙ (let e : n ≡ i = omega (arith, last, lt, long) in e))
+    (cases_lt i (length xs)))
+
+-- what is the same place by place
+map_alike : {X Y : Type 0} (f : X → Y) (xs ys : List X) → length xs ≡ length ys → ((i : ℕ) (x : X) → i < length xs → f (get_or xs i x) ≡ f (get_or ys i x)) → map f xs ≡ map f ys
+map_alike f [] [] long each = refl
+map_alike f [] (y ∷ ys) long each = absurd (omega (arith, long))
+map_alike f (x ∷ xs) [] long each = absurd (omega (arith, long))
+map_alike f (x ∷ xs) (y ∷ ys) long each =
+    ap (λ more. f x ∷ more) (map_alike f xs ys (omega (arith, long)) (λ i z l. each (suc i) z (omega (arith, l)))) ∙ ap (λ first. first ∷ map f ys) (each 0 x (omega arith))
 
 -- a list that was written through a slice of the whole
 pub written : {X : Type 0} (n : ℕ) (xs ys : List X) → n ≡ length xs → take n (xs ++ ys) ≡ xs
@@ -76,19 +105,62 @@ module _ {X : Type 0} (store : X → Store) (outcome : X → Result Report Alloc
   abbrev pub Leaves : Task → X → Type 0
   Leaves task job = IsDone net steps cubes task start (store job) (outcome job)
 
-  -- the jobs that were dealt are done
-  pub all_done : (given : ℕ) (whole : Store) (tasks : List Task) (dealt old new jobs : List X) → start ≡ gives_up given whole → All (λ job. IsReady steps whole (store job)) dealt → length dealt ≡ length tasks → old ≡ dealt
-      → length new ≡ length old → jobs ≡ new
-      → ((i : ℕ) (task : Task) (job : X) → i < length tasks → IsDone net (store (get_or old i job)).limit cubes (get_or tasks i task) (store (get_or old i job)) (store (get_or new i job)) (outcome (get_or new i job)))
-      → AllZip Leaves tasks jobs
-  all_done given whole tasks dealt old new jobs left ready long is longer back done =
-      subst (AllZip Leaves tasks) (sym back) (zip_of Leaves tasks new (sym (longer ∙ ap length is ∙ long)) (λ i task job lt.
-      done_of net steps cubes (get_or tasks i task) start (store (get_or old i job)) (store (get_or new i job)) (outcome (get_or new i job)) (at i job (let l = long in omega arith)) (done i task job lt)))
-    where
-      at : (i : ℕ) (job : X) → i < length dealt → IsReady steps start (store (get_or old i job))
-      at i job lt =
-          let r = subst (λ (js : List X). IsReady steps whole (store (get_or js i job))) (sym is) (ready i job lt) in
-          record { made = r.made; limit = r.limit; vars = r.vars ∙ sym (ap (λ (s : Store). s.vars) left); table = r.table ∙ sym (ap (λ (s : Store). s.table) left) }
+  module _ (place : X → ℕ) (whole : Store) (tasks : List Task) (dealt turned : List X) (ready : All (λ job. IsReady steps whole (store job)) dealt) (long : length dealt ≡ length tasks)
+      (numbered : (i : ℕ) (job : X) → i < length tasks → place (get_or dealt i job) ≡ i) (moved : IsPermutation dealt turned) where
+    -- what is asked of the jobs before their work, however they were moved
+    pub all_within : All (λ job. place job < length tasks) turned
+    all_within = All-permutation (λ job. place job < length tasks) dealt turned moved (λ i job lt. let e = numbered i job (omega (arith, lt, long)) in omega (arith, e, lt, long))
+
+    pub all_made : All (λ job. (store job).made ≡ []) turned
+    all_made = All-permutation (λ job. (store job).made ≡ []) dealt turned moved (λ i job lt. (ready i job lt).made)
+
+    pub all_over : All (IsTaskOver net whole.vars) tasks → (task : Task) → All (λ job. IsTaskOver net (store job).vars (get_or tasks (place job) task)) turned
+    all_over over task = All-permutation (λ job. IsTaskOver net (store job).vars (get_or tasks (place job) task)) dealt turned moved (λ i job lt.
+        let inside : i < length tasks = omega (arith, lt, long) in
+        subst (λ v. IsTaskOver net v (get_or tasks (place (get_or dealt i job)) task)) (sym (ready i job lt).vars) (subst (λ k. IsTaskOver net whole.vars (get_or tasks k task)) (sym (numbered i job inside)) (over i task inside)))
+
+    -- the jobs that were dealt are done, and are in order again
+    pub all_done : (given : ℕ) (old new jobs last : List X) → start ≡ gives_up given whole → old ≡ turned → length new ≡ length old → jobs ≡ new → ((i : ℕ) (job : X) → i < length old → place (get_or new i job) ≡ place (get_or old i job))
+        → ((i : ℕ) (task : Task) (job : X) → i < length old → IsDone net (store (get_or old i job)).limit cubes (get_or tasks (place (get_or old i job)) task) (store (get_or old i job)) (store (get_or new i job)) (outcome (get_or new i job)))
+        → IsPermutation jobs last → IsNonDecreasingBy place last → AllZip Leaves tasks last
+    all_done given old new jobs last left is longer back same done moved_back rises = zip_of Leaves tasks last (sym many) (λ i task job lt.
+        subst (λ k. IsDone net steps cubes (get_or tasks k task) start (store (get_or last i job)) (outcome (get_or last i job))) (in_order i job (omega (arith, lt, many))) (at_last i job (omega (arith, lt, many)) task))
+      where
+        back_moved : IsPermutation new last
+        back_moved = subst (λ (js : List X). IsPermutation js last) back moved_back
+
+        turned_moved : IsPermutation dealt old
+        turned_moved = subst (IsPermutation dealt) (sym is) moved
+
+        many : length last ≡ length tasks
+        many = length_permutation new last back_moved ∙ longer ∙ length_permutation dealt old turned_moved ∙ long
+
+        ready_at : All (λ job. IsReady steps start (store job)) old
+        ready_at = All-permutation (λ job. IsReady steps start (store job)) dealt old turned_moved (λ i job lt. let r = ready i job lt in
+            record { made = r.made; limit = r.limit; vars = r.vars ∙ sym (ap (λ (s : Store). s.vars) left); table = r.table ∙ sym (ap (λ (s : Store). s.table) left) })
+
+        at_new : All (λ job. (task : Task) → IsDone net steps cubes (get_or tasks (place job) task) start (store job) (outcome job)) new
+        at_new i job lt task =
+            let inside : i < length old = omega (arith, lt, longer) in
+            subst (λ k. IsDone net steps cubes (get_or tasks k task) start (store (get_or new i job)) (outcome (get_or new i job))) (sym (same i job inside))
+            (done_of net steps cubes (get_or tasks (place (get_or old i job)) task) start (store (get_or old i job)) (store (get_or new i job)) (outcome (get_or new i job)) (ready_at i job inside) (done i task job inside))
+
+        at_last : All (λ job. (task : Task) → IsDone net steps cubes (get_or tasks (place job) task) start (store job) (outcome job)) last
+        at_last = All-permutation (λ job. (task : Task) → IsDone net steps cubes (get_or tasks (place job) task) start (store job) (outcome job)) new last back_moved at_new
+
+        places_moved : IsPermutation (map place dealt) (map place last)
+        places_moved = IsPermutation-trans (map place dealt) (map place old) (map place last) (IsPermutation-map place dealt old turned_moved)
+            (subst (λ ps. IsPermutation ps (map place last)) (map_alike place new old longer (λ i job lt. same i job (omega (arith, lt, longer)))) (IsPermutation-map place new last back_moved))
+
+        in_order : (i : ℕ) (job : X) → i < length last → place (get_or last i job) ≡ i
+        in_order i job lt = sym (get_or-map place last i job 0 lt) ∙ ranks (map place dealt) (map place last)
+            (λ k d l. let m = length-map dealt place in get_or-map place dealt k job d (omega (arith, l, m)) ∙ numbered k job (omega (arith, l, m, long)))
+            places_moved
+            (λ j k d le l.
+            let m = length-map last place in
+            let a = get_or-map place last j job d (omega (arith, le, l, m)) in let b = get_or-map place last k job d (omega (arith, l, m)) in
+            let r = rises j k job le (omega (arith, l, m)) in omega (arith, a, b, r))
+            i 0 (let m = length-map last place in omega (arith, lt, m))
 
   -- before any store is merged
   pub begins : (tasks : List Task) (jobs left : List X) (reports : List Report) → start.made ≡ [] → start.limit ≡ 0 → reports ≡ [] → left ≡ jobs → AllZip Leaves tasks jobs → IsGathering X Leaves net steps cubes start start tasks reports left

@@ -2,8 +2,9 @@
 #![tactic(auto)]
 
 pub mod gate;
-pub mod pool;
+mod pool;
 pub mod run;
+mod turns;
 
 pub use gate::{Gate, NoGate};
 pub use run::{PoolAnswer, run_tasks};
