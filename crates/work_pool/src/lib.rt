@@ -1,0 +1,10 @@
+//! Tasks shared out to workers over one table of nodes; begin with `run_tasks`.
+#![tactic(auto)]
+
+pub mod gate;
+mod pool;
+pub mod run;
+mod turns;
+
+pub use gate::{Gate, NoGate};
+pub use run::{PoolAnswer, run_tasks};

@@ -1,0 +1,238 @@
+//! The work on all tasks, over any store that can be shared out; begin with `all_tasks`.
+
+ghost use Rattle.std.specs.Prelude.{◌≡◌, ℕ, ◌+◌, ◌*◌, ◌^◌, ◌<◌, ◌≤◌, List, [], length, map, All, IfOk, get_or};
+ghost use Rattle.std.specs.List.{AllZip};
+ghost use Rattle.std.specs.List.Sorted.{IsNonDecreasingBy, IsPermutation};
+ghost use Rattle.dd_nodes.specs.Stores.{gives_up};
+ghost use Rattle.net_core.specs.declared.raw.RawNet.{RawNet};
+ghost use Rattle.ste_model.specs.declared.task.Task.{Task as ATask};
+ghost use Rattle.sym_step.specs.Step.{rows_of};
+ghost use Rattle.work_pool.specs.Pool.{IsPooled, IsTaskOver};
+ghost use Rattle.work_pool.specs.private.Jobs.{IsDone, IsReady};
+
+use crate::gate::Gate;
+use crate::turns::turns_of;
+use dd_nodes::{Nodes, Split};
+use gste_engine::check_graph;
+use net_core::Net;
+use std::alloc::{AllocError, Global};
+use std::thread;
+use std::thread::Threads;
+use ste_engine::check_ste;
+use ste_model::{Report, Task};
+use sym_step::GateRows;
+
+/// The work on the task of this number: a store of its own, and what came out.
+#[derive(Drop)]
+pub(crate) struct Job<N> {
+    pub(crate) task: u32,
+    pub(crate) nodes: N,
+    pub(crate) outcome: Result<Report, AllocError>,
+}
+
+/// The report of a task over a store that made nothing yet.
+fn check<N: Nodes>(
+    alloc: Global,
+    nodes: &mut N,
+    net: &Net,
+    rows: &GateRows,
+    task: &Task,
+    cubes: u32,
+) -> Result<Report, AllocError>
+    requires rows { rows.now.covers ≡ map rows_of net.now.raw.covers }
+    requires made { (N.store nodes.old).made ≡ [] }
+    requires over { IsTaskOver net.now.raw (N.store nodes.old).vars task.now }
+    ensures { IsDone net.now.raw (N.store nodes.old).limit cubes task.now (N.store nodes.old)
+        (N.store nodes.new) result }
+{
+    match task {
+        Task::Ste(assertion) => check_ste(alloc, nodes, net, rows, assertion, cubes),
+        Task::Gste(graph) => check_graph(alloc, nodes, net, rows, graph, cubes),
+    }
+}
+
+/// Checks a task over the store of its job.
+fn work<N: Nodes>(
+    alloc: Global,
+    net: &Net,
+    rows: &GateRows,
+    task: &Task,
+    cubes: u32,
+    job: &mut Job<N>,
+)
+    requires rows { rows.now.covers ≡ map rows_of net.now.raw.covers }
+    requires made { (N.store job.old.nodes).made ≡ [] }
+    requires over { IsTaskOver net.now.raw (N.store job.old.nodes).vars task.now }
+    ensures task { job.new.task ≡ job.old.task }
+    ensures done { IsDone net.now.raw (N.store job.old.nodes).limit cubes task.now
+        (N.store job.old.nodes) (N.store job.new.nodes) job.new.outcome }
+{
+    job.outcome = check(alloc, &mut job.nodes, net, rows, task, cubes);
+}
+
+/// Each job is done once, by so many workers, each of which has a run of neighbouring jobs.
+fn work_all<N: Nodes + Send, R: Threads + Sync, G: Gate + Sync>(
+    rt: &R,
+    alloc: Global,
+    workers: u32,
+    net: &Net,
+    rows: &GateRows,
+    tasks: &[Task],
+    cubes: u32,
+    jobs: &mut [Job<N>],
+    gate: &G,
+)
+    requires workers { 0 < workers }
+    requires rows { rows.now.covers ≡ map rows_of net.now.raw.covers }
+    requires within { All (λ job. job.task < length tasks.now) jobs.old }
+    requires made { All (λ job. (N.store job.nodes).made ≡ []) jobs.old }
+    requires over { (task : ATask) → All (λ job. IsTaskOver net.now.raw (N.store job.nodes).vars
+        (get_or tasks.now job.task task)) jobs.old }
+    ensures long { length jobs.new ≡ length jobs.old }
+    ensures same { (i : ℕ) (job : Job N) → i < length jobs.old
+        → (get_or jobs.new i job).task ≡ (get_or jobs.old i job).task }
+    ensures done { (i : ℕ) (task : ATask) (job : Job N) → i < length jobs.old
+        → IsDone net.now.raw (N.store (get_or jobs.old i job).nodes).limit cubes
+        (get_or tasks.now (get_or jobs.old i job).task task)
+        (N.store (get_or jobs.old i job).nodes) (N.store (get_or jobs.new i job).nodes)
+        (get_or jobs.new i job).outcome }
+{
+    thread::for_each_mut(
+        rt,
+        jobs,
+        workers as usize,
+        &|_: usize, job: &mut Job<N>|
+            requires within { job.old.task < length tasks.now }
+            requires rows { rows.now.covers ≡ map rows_of net.now.raw.covers }
+            requires made { (N.store job.old.nodes).made ≡ [] }
+            requires over { (task : ATask) → IsTaskOver net.now.raw (N.store job.old.nodes).vars
+                (get_or tasks.now job.old.task task) }
+            ensures same { job.new.task ≡ job.old.task }
+            ensures done { (task : ATask)
+                → IsDone net.entry.now.raw (N.store job.old.nodes).limit cubes
+                (get_or tasks.entry.now job.old.task task) (N.store job.old.nodes)
+                (N.store job.new.nodes) job.new.outcome }
+        {
+            gate.at_task(job.task);
+            work(alloc, net, rows, &tasks[job.task as usize], cubes, job);
+        },
+    );
+}
+
+/// A job with a store of `steps` steps for each of `count` tasks, in order.
+fn deal<N: Split>(
+    alloc: Global,
+    nodes: &mut N,
+    count: usize,
+    steps: u32,
+) -> Result<Vec<Job<N>>, AllocError>
+    requires few { count < 2 ^ 32 }
+    requires limit { count * steps + length (N.store nodes.old).made ≤ (N.store nodes.old).limit }
+    ensures left { IfOk result
+        (λ _. N.store nodes.new ≡ gives_up (count * steps) (N.store nodes.old)) }
+    ensures long { IfOk result (λ jobs. length jobs.items ≡ count) }
+    ensures tasks { IfOk result (λ jobs. (i : ℕ) (job : Job N) → i < count
+        → (get_or jobs.items i job).task ≡ i) }
+    ensures ready { IfOk result (λ jobs. All
+        (λ job. IsReady steps (N.store nodes.old) (N.store job.nodes)) jobs.items) }
+{
+    let mut jobs = Vec::new(alloc);
+    for i in 0..count {
+        let session = nodes.fork(steps);
+        jobs.push(Job {
+            task: i as u32,
+            nodes: session,
+            outcome: Err(AllocError),
+        })?;
+    }
+    Ok(jobs)
+}
+
+/// Puts the jobs in the order of the turns of their tasks.
+fn put_in_turn<N: Nodes>(jobs: &mut Vec<Job<N>>, turns: &[usize])
+    ensures { IsPermutation jobs.old.items jobs.new.items }
+{
+    jobs.sort_unstable_by_key(|job| match turns.get(job.task as usize) {
+        Some(turn) => *turn,
+        None => 0,
+    });
+}
+
+/// Puts the jobs in the order of their tasks.
+fn put_in_order<N: Nodes>(jobs: &mut Vec<Job<N>>)
+    ensures moved { IsPermutation jobs.old.items jobs.new.items }
+    ensures ordered { IsNonDecreasingBy (λ job. job.task) jobs.new.items }
+{
+    jobs.sort_unstable_by_key(|job| job.task);
+}
+
+/// The reports in the order of the jobs, and all stores in one.
+fn gather<N: Split>(
+    alloc: Global,
+    mut nodes: N,
+    jobs: Vec<Job<N>>,
+) -> Result<(Vec<Report>, N), AllocError>
+    requires table { All (λ job. (N.store job.nodes).table ≡ (N.store nodes).table) jobs.items }
+    requires made { (N.store nodes).made ≡ [] }
+    requires limit { (N.store nodes).limit ≡ 0 }
+    ensures pooled { (net : RawNet) (steps cubes : ℕ) (tasks : List ATask)
+        → AllZip (λ task job. IsDone net steps cubes task (N.store nodes) (N.store job.nodes)
+        job.outcome) tasks jobs.items
+        → IfOk result (λ r. IsPooled net steps cubes tasks r.0.items (N.store r.1)) }
+    ensures vars { IfOk result (λ r. (N.store r.1).vars ≡ (N.store nodes).vars) }
+    ensures table { IfOk result (λ r. (N.store r.1).table ≡ (N.store nodes).table) }
+{
+    let mut reports = Vec::new(alloc);
+    for job in jobs {
+        let Job {
+            task: _,
+            nodes: other,
+            outcome,
+        } = job;
+        nodes.merge(other);
+        reports.push(outcome?)?;
+    }
+    Ok((reports, nodes))
+}
+
+/// Each task is checked over a store of `steps` steps that is cut from this one, and all are merged again.
+pub(crate) fn all_tasks<N: Split + Send, R: Threads + Sync, G: Gate + Sync>(
+    rt: &R,
+    alloc: Global,
+    workers: u32,
+    net: &Net,
+    rows: &GateRows,
+    tasks: &[Task],
+    steps: u32,
+    cubes: u32,
+    mut nodes: N,
+    gate: &G,
+) -> Result<(Vec<Report>, N), AllocError>
+    requires workers { 0 < workers }
+    requires few { length tasks.now < 2 ^ 32 }
+    requires rows { rows.now.covers ≡ map rows_of net.now.raw.covers }
+    requires made { (N.store nodes).made ≡ [] }
+    requires limit { (N.store nodes).limit ≡ length tasks.now * steps }
+    requires over { All (IsTaskOver net.now.raw (N.store nodes).vars) tasks.now }
+    ensures pooled { IfOk result (λ r. IsPooled net.now.raw steps cubes tasks.now r.0.items
+        (N.store r.1)) }
+    ensures vars { IfOk result (λ r. (N.store r.1).vars ≡ (N.store nodes).vars) }
+    ensures table { IfOk result (λ r. (N.store r.1).table ≡ (N.store nodes).table) }
+{
+    let mut jobs = deal(alloc, &mut nodes, tasks.len(), steps)?;
+    let turns = turns_of(alloc, tasks, workers)?;
+    put_in_turn(&mut jobs, turns.as_slice());
+    work_all(
+        rt,
+        alloc,
+        workers,
+        net,
+        rows,
+        tasks,
+        cubes,
+        jobs.as_mut_slice(),
+        gate,
+    );
+    put_in_order(&mut jobs);
+    gather(alloc, nodes, jobs)
+}

@@ -1,0 +1,113 @@
+//! The tasks over one shared table; begin with `run_tasks`.
+
+ghost use Rattle.std.specs.Prelude.{◌≡◌, ◌*◌, ◌^◌, ◌<◌, ◌≤◌, [], length, map, All, IfOk};
+ghost use Rattle.dd_table.specs.Sessions.{store_of};
+ghost use Rattle.sym_step.specs.Step.{rows_of};
+ghost use Rattle.work_pool.specs.Pool.{IsPooled, IsTaskOver};
+
+use crate::gate::Gate;
+use crate::pool::all_tasks;
+use dd_table::{Session, SharedTable, TableNodes};
+use net_core::Net;
+use std::alloc::{AllocError, Global};
+use std::thread::Threads;
+use ste_model::{Report, Task, Tasks};
+use sym_step::GateRows;
+
+/// The reports in the order of the tasks, the table, and the session in which all sessions are merged.
+#[derive(Drop)]
+pub struct PoolAnswer {
+    pub reports: Vec<Report>,
+    pub table: SharedTable,
+    pub session: Session,
+    ghost of: { session.table ≡ table },
+}
+
+/// The reports of all tasks, checked by so many workers over one table, each with `steps` node steps of its own, and with
+/// at most `cubes` cubes in each list of a report. `rows` are those of the net. The gate is told of each task by its
+/// number as a worker begins it. Where no thread can be made, the tasks are checked one after another.
+///
+/// A task's verdict is `Budget` only where its steps are fewer than it needs. All sessions are merged into the one that is
+/// handed back: it made as many nodes at least as the steps of the tasks with the verdict `Budget`, and the nodes of the
+/// kept functions of all other tasks have references in it.
+pub fn run_tasks<R: Threads + Sync, G: Gate + Sync>(
+    rt: &R,
+    alloc: Global,
+    workers: u32,
+    net: &Net,
+    rows: &GateRows,
+    tasks: &Tasks,
+    steps: u32,
+    cubes: u32,
+    gate: &G,
+) -> Result<PoolAnswer, AllocError>
+    requires rows { rows.now.covers ≡ map rows_of net.now.raw.covers }
+    requires workers { (1 ≤ workers) × (workers ≤ 64) }
+    requires some { 1 ≤ length tasks.now.tasks }
+    requires steps { (1 ≤ steps) × (length tasks.now.tasks * steps ≤ 16000000) }
+    requires vars { length tasks.now.vars ≤ 1000 }
+    requires over { All (IsTaskOver net.now.raw (length tasks.now.vars)) tasks.now.tasks }
+
+    // What is told of the tasks, and what the session made and holds.
+    ensures answer { IfOk result (λ answer. IsPooled net.now.raw steps cubes tasks.now.tasks
+        answer.reports.items (store_of answer.session)) }
+
+    // The table is over the variables of the tasks, and has two slots for each step.
+    ensures vars { IfOk result (λ answer. answer.session.vars ≡ length tasks.now.vars) }
+    ensures slots { IfOk result
+        (λ answer. answer.session.slots ≡ 2 * (length tasks.now.tasks * steps)) }
+{
+    let all = tasks.tasks.len() as u32 * steps;
+    let (table, session) = SharedTable::open(alloc, tasks.vars.len() as u32, 2 * all)?;
+    let (reports, session) = over(
+        rt,
+        alloc,
+        workers,
+        net,
+        rows,
+        tasks.tasks.as_slice(),
+        steps,
+        cubes,
+        &table,
+        session,
+        gate,
+    )?;
+    Ok(PoolAnswer {
+        reports,
+        table,
+        session,
+    })
+}
+
+/// The tasks over this table, beginning with this session of it.
+fn over<R: Threads + Sync, G: Gate + Sync>(
+    rt: &R,
+    alloc: Global,
+    workers: u32,
+    net: &Net,
+    rows: &GateRows,
+    tasks: &[Task],
+    steps: u32,
+    cubes: u32,
+    table: &SharedTable,
+    session: Session,
+    gate: &G,
+) -> Result<(Vec<Report>, Session), AllocError>
+    requires table { session.table ≡ table.now }
+    requires workers { 0 < workers }
+    requires few { length tasks.now < 2 ^ 32 }
+    requires rows { rows.now.covers ≡ map rows_of net.now.raw.covers }
+    requires over { All (IsTaskOver net.now.raw session.vars) tasks.now }
+    requires made { session.made ≡ [] }
+    requires limit { session.limit ≡ length tasks.now * steps }
+    ensures table { IfOk result (λ r. r.1.table ≡ session.table) }
+    ensures vars { IfOk result (λ r. r.1.vars ≡ session.vars) }
+    ensures pooled { IfOk result
+        (λ r. IsPooled net.now.raw steps cubes tasks.now r.0.items (store_of r.1)) }
+{
+    let nodes = TableNodes::on(table, session);
+    let (reports, nodes) = all_tasks(
+        rt, alloc, workers, net, rows, tasks, steps, cubes, nodes, gate,
+    )?;
+    Ok((reports, nodes.into_session()))
+}
