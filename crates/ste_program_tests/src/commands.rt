@@ -86,8 +86,25 @@ fn words_that_are_no_command(rt: HostRuntime) -> Result<(), Fail> {
 #[test]
 fn what_is_not_done_yet(rt: HostRuntime) -> Result<(), Fail> {
     let alloc = rt.alloc();
-    for words in ["bench 3", "check n s --nodes", "check missing s --nodes"] {
+    for words in [
+        "bench 3 --nodes",
+        "check n s --nodes",
+        "check missing s --nodes",
+    ] {
         expect(&rt, alloc, words, "?", "?", Status::Refused, "", NOT_YET)?;
+    }
+    Ok(())
+}
+
+#[test]
+fn pipelines(rt: HostRuntime) -> Result<(), Fail> {
+    let alloc = rt.alloc();
+    for (words, out) in [
+        ("bench 1", "pipe: pass\nnets 24\n"),
+        ("bench 2 --workers 3 --cubes 1", "pipe: pass\nnets 40\n"),
+        ("--wave bench 7 --steps 16000000", "pipe: pass\nnets 120\n"),
+    ] {
+        expect(&rt, alloc, words, "?", "?", Status::Passed, out, "")?;
     }
     Ok(())
 }
