@@ -1,5 +1,5 @@
 -- Meaning. The files that a command reads, and which commands are not done so far. Source: this project's own choice.
-use Rattle.std.specs.Prelude.{ℕ, Bool, true, false, List, [], ◌++◌, Option, Some, None, option_to_list, unwrap_or}
+use Rattle.std.specs.Prelude.{ℕ, Bool, false, List, [], ◌++◌, Option, Some, None, option_to_list, unwrap_or}
 use Rattle.command_line.specs.Command.{Action, Command, bench, check, info, sim}
 use Rattle.ste_program.specs.declared.refusal.File.{File}
 use Rattle.ste_program.specs.declared.refusal.File.TheVariants.{Net, Second}

@@ -36,7 +36,12 @@ fn free_nets(net: &Net) -> u32
 }
 
 /// Puts a line with a word and a number behind a text.
-pub fn put_count(alloc: Global, text: &mut Vec<u8>, word: &[u8], count: usize) -> Result<(), AllocError>
+pub fn put_count(
+    alloc: Global,
+    text: &mut Vec<u8>,
+    word: &[u8],
+    count: usize,
+) -> Result<(), AllocError>
     ensures { IfOk result (λ _. text.new.items ≡ text.old.items ++ count_line word.now count) }
 {
     let number = format!(in alloc; "{count}")?;

@@ -128,7 +128,8 @@ fn task_files_that_are_refused(rt: HostRuntime) -> Result<(), Fail> {
 }
 
 /// A graph that goes round: what goes in comes out.
-const LOOP: &str = ".vars p\n.gste loop i\n.edge i v\n.ant d = p\n.edge v v\n.ant d = p\n.con q = p\n.end\n";
+const LOOP: &str =
+    ".vars p\n.gste loop i\n.edge i v\n.ant d = p\n.edge v v\n.ant d = p\n.con q = p\n.end\n";
 
 /// Two ways to a vertex, on which the latch takes different bits.
 const JOIN: &str =
