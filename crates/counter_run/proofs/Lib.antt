@@ -6,4 +6,3 @@ pub mod SourceNodes
 pub mod OnInputs
 pub mod OneOnInputs
 pub mod PrintedAlong
-pub mod NumberedPaths

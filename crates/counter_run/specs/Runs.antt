@@ -1,5 +1,5 @@
 -- Meaning, and a law. Runs as data that have given bits at inputs and free nets, and given first bits of the latches.
-use Rattle.std.specs.Prelude.{◌≡◌, ◌<◌, ℕ, Bool, [], List, length, map, All, slice_index_or}
+use Rattle.std.specs.Prelude.{◌≡◌, ◌<◌, ℕ, Bool, [], List, map, slice_index_or}
 use Rattle.net_core.specs.declared.raw.RawNet.{RawNet}
 use Rattle.net_core.specs.Flat.{HasOneDriver, IsInRange}
 use Rattle.net_core.specs.Run.{IsRun, IsSettled}

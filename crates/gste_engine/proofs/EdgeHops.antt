@@ -19,7 +19,7 @@ use Rattle.ste_model.specs.GraphWork.{SymbolicState}
 use Rattle.gste_engine.specs.declared.state.State.{State}
 use Rattle.gste_engine.specs.declared.taken.Taken.{Taken}
 use Rattle.gste_engine.specs.Tables.{HasStates, IsState}
-use Rattle.gste_engine.specs.private.Taken.{IsFirstOn, IsTaken, table_at}
+use Rattle.gste_engine.specs.private.Taken.{IsFirstOn, IsTaken}
 use Rattle.gste_engine.proofs.Lists.{zip_push}
 use Rattle.gste_engine.proofs.StateRefs.{State-keeps}
 
@@ -41,7 +41,8 @@ module _ (s t : Store) (gs : IsGood s) (gt : IsGood t) (same : MakesNothing s t)
   source_is vertex source lt is = State-keeps s t (states vertex) source gs gt same.keeps (subst (λ (r : State). IsState s (states vertex) r) (sym is) (has.each vertex source lt))
 
 -- one more edge
-pub more_hops : (R : Edge → Hop → Type 0) (edges : List Edge) (hops : List Hop) (k : ℕ) (edge : Edge) (hop : Hop) → k < length edges → edge ≡ get_or edges k edge → AllZip R (take k edges) hops → R edge hop → AllZip R (take (k + 1) edges) (hops ++ hop ∷ [])
-more_hops R edges hops k edge hop lt is fit one =
+pub more_hops : (R : Edge → Hop → Type 0) (edges : List Edge) (hops after : List Hop) (k : ℕ) (edge : Edge) (hop : Hop) → k < length edges → edge ≡ get_or edges k edge → after ≡ hops ++ hop ∷ [] → AllZip R (take k edges) hops → R edge hop → AllZip R (take (k + 1) edges) after
+more_hops R edges hops after k edge hop lt is new fit one =
     let parts : take (k + 1) edges ≡ take k edges ++ edge ∷ [] = take_more edges k edge lt ∙ ap (λ (e : Edge). take k edges ++ e ∷ []) (sym is) in
-    subst (λ (xs : List Edge). AllZip R xs (hops ++ hop ∷ [])) (sym parts) (zip_push R (take k edges) hops edge hop fit one)
+    subst (λ (hs : List Hop). AllZip R (take (k + 1) edges) hs) (sym new)
+    (subst (λ (xs : List Edge). AllZip R xs (hops ++ hop ∷ [])) (sym parts) (zip_push R (take k edges) hops edge hop fit one))

@@ -1,6 +1,6 @@
 -- What a failure of a graph shows, from the parts: the least assignment, the path, the place and the run.
-use Rattle.std.proofs.Common.{◌≡◌, ◌<◌, ℕ, Bool, true, false, List, [], ◌∷◌, length, get_or, Option, None, Some, refl, sym, ◌∙◌, ap, subst, All, inl, inr}
-use Rattle.std.specs.Prelude.{◌⊎◌, IsTrue}
+use Rattle.std.proofs.Common.{◌≡◌, ◌<◌, ℕ, Bool, true, false, List, [], ◌∷◌, length, get_or, Option, None, Some, refl, sym, ◌∙◌, subst, All, inl, inr}
+use Rattle.std.specs.Prelude.{IsTrue}
 use Rattle.std.proofs.lemmas.List.Elements.{All-cons, All-contains, All-head, All-map, All-nil, All-tail}
 use Rattle.dd_nodes.specs.Diagram.{Function}
 use Rattle.counter_run.specs.Along.{DoAgree, IsNumberedPath}
@@ -21,7 +21,7 @@ use Rattle.ste_model.specs.Assignments.{SomeAssignment, Tells}
 use Rattle.ste_model.specs.Edges.{AreNumbers, IsPathFrom, bind_at, bind_cuts}
 use Rattle.ste_model.specs.Found.{FailsStrongly, FailsWeakly}
 use Rattle.ste_model.specs.GraphFound.{IsGraphFound, IsGraphStrong, IsGraphWeak}
-use Rattle.ste_model.specs.GraphReport.{GraphPrints, IsGraphPlace, IsGraphShown, IsPrintedOnPath}
+use Rattle.ste_model.specs.GraphReport.{GraphPrints, IsGraphPlace, IsGraphShown}
 use Rattle.ste_model.specs.GraphShown.{IsPrintedAlong, IsShownPath}
 use Rattle.ste_model.specs.GraphTable.{IsFeasible, VertexState}
 use Rattle.ste_model.specs.Least.{IsLeast, IsLeastOf}
@@ -91,16 +91,19 @@ module _ (net : RawNet) (graph : Graph) (bits : List Bool) (numbers : List ℕ) 
   }
 
   pub run_is_due : (run : Run) → IsBindable net (Gste graph) → HasRows net.nets (length numbers) run → ((edges : List Edge) → AreNumbers graph numbers edges → IsPrintedAlong net graph bits edges (run_of run)) → IsGraphRunDue net graph bits numbers (Some run)
-  run_is_due run bindable rows printed = inl (bindable, record {
-    bits = bits;
-    least_is = refl;
-    told = run;
-    run_is = refl;
-    path = shown.path;
-    are = shown.are;
-    rows = subst (λ n. HasRows net.nets n run) (numbers_long graph numbers shown.path shown.are) rows;
-    printed = printed shown.path shown.are;
-  })
+  run_is_due run bindable rows printed = inl (
+    bindable,
+    record {
+      bits = bits;
+      least_is = refl;
+      told = run;
+      run_is = refl;
+      path = shown.path;
+      are = shown.are;
+      rows = subst (λ n. HasRows net.nets n run) (numbers_long graph numbers shown.path shown.are) rows;
+      printed = printed shown.path shown.are;
+    },
+  )
 
 -- ---- with the verdict
 

@@ -146,3 +146,11 @@ module _ (net : RawNet) (settled : IsSettled net) (bits : List Bool) (edge : Edg
 
       pub all_goes : result ≢ Err StepsOut
       all_goes = step_goes net settled bits edge (map (set_of s bits) rs) t u held cuts result fit fits call (length-map rs (set_of s bits) ∙ long) gu made
+
+-- ---- through slices
+
+pub held_as : (s : Store) (bits : List Bool) (held all slice rs : List Rails) → held ≡ all → all ≡ map (fixed_rails s bits) slice → slice ≡ rs → held ≡ map (fixed_rails s bits) rs
+held_as s bits held all slice rs e f h = e ∙ (f ∙ ap (λ (xs : List Rails). map (fixed_rails s bits) xs) h)
+
+pub cuts_as : (bits : List Bool) (cuts all : List Cut) (slice binds : List Bind) → cuts ≡ all → all ≡ map (fixed_bind bits) slice → slice ≡ binds → cuts ≡ map (fixed_bind bits) binds
+cuts_as bits cuts all slice binds e f h = e ∙ (f ∙ ap (λ (xs : List Bind). map (fixed_bind bits) xs) h)

@@ -1,5 +1,5 @@
 -- What is found on the settled table tells the findings, and steps that are out were too few.
-use Rattle.std.proofs.Common.{◌≡◌, ◌≢◌, ℕ, ◌<◌, ◌+◌, Bool, List, length, sym, subst, ◌∙◌, All}
+use Rattle.std.proofs.Common.{◌≢◌, ℕ, ◌<◌, ◌+◌, Bool, List, length, sym, subst, ◌∙◌, All}
 use Rattle.std.specs.Prelude.{IsSome}
 use Rattle.std.specs.List.{AllPairs}
 use Rattle.dd_nodes.specs.declared.node.Ref.{Ref}

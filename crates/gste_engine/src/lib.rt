@@ -13,8 +13,8 @@ mod judged;
 mod reports;
 pub mod rounds;
 mod same;
-pub mod state;
 mod shown;
+pub mod state;
 mod sums;
 mod taken;
 

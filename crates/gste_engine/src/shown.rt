@@ -7,7 +7,8 @@ ghost use Rattle.ste_engine.specs.private.Places.{FailsBy, MakesNothing};
 ghost use Rattle.ste_model.specs.declared.task.Task.TheVariants.{Gste};
 ghost use Rattle.ste_model.specs.Assignments.{SomeAssignment, Tells};
 ghost use Rattle.ste_model.specs.Found.{FailsStrongly};
-ghost use Rattle.ste_model.specs.GraphFound.{IsGraphVerdict};
+ghost use Rattle.ste_model.specs.declared.verdict.Verdict.TheVariants.{Strong, Weak};
+ghost use Rattle.ste_model.specs.GraphFound.{IsGraphStrong, IsGraphVerdict, IsGraphWeak};
 ghost use Rattle.ste_model.specs.GraphReport.{IsGraphShown};
 ghost use Rattle.ste_model.specs.GraphShown.{IsShownPath};
 ghost use Rattle.ste_model.specs.Shown.{AsksOfNets};
@@ -124,6 +125,91 @@ fn run_due(
     Ok(Some(run))
 }
 
+/// What is shown of a failure, with the run that is told.
+fn with_run(first: LeastFailure, run: Option<Run>) -> Shown
+    ensures { result ≡ record {
+      least = Some first.bits;
+      path = first.path;
+      fails = Some first.place;
+      run = run;
+    } }
+{
+    Shown {
+        least: Some(first.bits),
+        path: first.path,
+        fails: Some(first.place),
+        run,
+    }
+}
+
+/// What a strong failure shows, with the run where one is due.
+fn strong_shown<N: Nodes>(
+    alloc: Global,
+    nodes: &mut N,
+    net: &Net,
+    rows: &GateRows,
+    graph: &Graph,
+    table: &[State],
+    strong: Ref,
+) -> Result<Shown, AllocError>
+    requires rows { rows.now.covers ≡ map rows_of net.now.raw.covers }
+    requires graph { IsGraphOver net.now.raw (N.store nodes.old).vars graph.now }
+    requires con { AreConsequentsOver net.now.raw (N.store nodes.old).vars graph.now }
+    requires table { IsSettledTable net.now.raw graph.now (N.store nodes.old) table.now }
+    requires held { IsRef (N.store nodes.old) strong }
+    requires told { Tells (N.store nodes.old).vars (function (N.store nodes.old) strong)
+        (IsGraphStrong net.now.raw graph.now) }
+    requires some { SomeAssignment (N.store nodes.old).vars (IsGraphStrong net.now.raw graph.now) }
+    ensures shown { IfOk result (λ shown. IsGraphFailureOf net.now.raw (N.store nodes.old).vars
+        graph.now Strong shown.least shown.path shown.fails shown.run) }
+    ensures same { MakesNothing (N.store nodes.old) (N.store nodes.new) }
+{
+    let first = least_failure(
+        alloc,
+        nodes,
+        net,
+        rows,
+        graph,
+        table,
+        strong,
+        Failure::Strong,
+    )?;
+    let run = run_due(
+        alloc,
+        net,
+        graph,
+        first.path.as_slice(),
+        first.bits.as_slice(),
+    )?;
+    Ok(with_run(first, run))
+}
+
+/// What a weak failure shows.
+fn weak_shown<N: Nodes>(
+    alloc: Global,
+    nodes: &mut N,
+    net: &Net,
+    rows: &GateRows,
+    graph: &Graph,
+    table: &[State],
+    weak: Ref,
+) -> Result<Shown, AllocError>
+    requires rows { rows.now.covers ≡ map rows_of net.now.raw.covers }
+    requires graph { IsGraphOver net.now.raw (N.store nodes.old).vars graph.now }
+    requires con { AreConsequentsOver net.now.raw (N.store nodes.old).vars graph.now }
+    requires table { IsSettledTable net.now.raw graph.now (N.store nodes.old) table.now }
+    requires held { IsRef (N.store nodes.old) weak }
+    requires told { Tells (N.store nodes.old).vars (function (N.store nodes.old) weak)
+        (IsGraphWeak net.now.raw graph.now) }
+    requires some { SomeAssignment (N.store nodes.old).vars (IsGraphWeak net.now.raw graph.now) }
+    ensures shown { IfOk result (λ shown. IsGraphFailureOf net.now.raw (N.store nodes.old).vars
+        graph.now Weak shown.least shown.path shown.fails shown.run) }
+    ensures same { MakesNothing (N.store nodes.old) (N.store nodes.new) }
+{
+    let first = least_failure(alloc, nodes, net, rows, graph, table, weak, Failure::Weak)?;
+    Ok(with_run(first, None))
+}
+
 /// What a failure shows, from the verdict, the settled table and the references that tell the findings. No node is made.
 pub fn shown_of<N: Nodes>(
     alloc: Global,
@@ -146,49 +232,8 @@ pub fn shown_of<N: Nodes>(
     ensures same { MakesNothing (N.store nodes.old) (N.store nodes.new) }
 {
     match verdict {
-        Verdict::Strong => {
-            let first = least_failure(
-                alloc,
-                nodes,
-                net,
-                rows,
-                graph,
-                table,
-                r.strong,
-                Failure::Strong,
-            )?;
-            let run = run_due(
-                alloc,
-                net,
-                graph,
-                first.path.as_slice(),
-                first.bits.as_slice(),
-            )?;
-            Ok(Shown {
-                least: Some(first.bits),
-                path: first.path,
-                fails: Some(first.place),
-                run,
-            })
-        }
-        Verdict::Weak => {
-            let first = least_failure(
-                alloc,
-                nodes,
-                net,
-                rows,
-                graph,
-                table,
-                r.weak,
-                Failure::Weak,
-            )?;
-            Ok(Shown {
-                least: Some(first.bits),
-                path: first.path,
-                fails: Some(first.place),
-                run: None,
-            })
-        }
+        Verdict::Strong => strong_shown(alloc, nodes, net, rows, graph, table, r.strong),
+        Verdict::Weak => weak_shown(alloc, nodes, net, rows, graph, table, r.weak),
         _ => Ok(Shown {
             least: None,
             path: Items::new(alloc),

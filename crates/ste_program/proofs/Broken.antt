@@ -1,8 +1,8 @@
--- What a report says of its assertions: what passes holds, and each run breaks its assertion, in the hierarchy as it was written.
+-- What a report says of its tasks: what passes holds, and each run breaks its task, in the hierarchy as it was written.
 use Rattle.std.proofs.Common.{◌≡◌, ◌≤◌, ◌<◌, ℕ, zero, suc, Bool, List, [], ◌∷◌, length, get_or, Option, None, Some, refl, ap, sym, ◌∙◌, subst, inl, inr, arith}
 use Rattle.std.specs.Prelude.{◌⊎◌, All, IfSome, IsTrue, slice_get}
 use Rattle.std.specs.List.{AllZip}
-use Rattle.std.proofs.lemmas.List.Elements.{All-cons}
+use Rattle.std.proofs.lemmas.List.Elements.{All-contains}
 use Rattle.blif_syntax.specs.declared.models.Model.{Model}
 use Rattle.command_line.specs.Command.{Action, Command, bench, check, info, sim}
 use Rattle.hierarchy.specs.Faults.{IsFree, IsRefusal}
@@ -16,28 +16,39 @@ use Rattle.net_core.specs.Run.{Cut, IsSettled}
 use Rattle.net_core.specs.declared.raw.RawNet.{RawNet}
 use Rattle.ste_base.specs.declared.id.NodeId.{NodeId}
 use Rattle.ste_model.specs.Asked.{cuts_at, depth}
-use Rattle.ste_model.specs.Found.{IsStrong, IsVerdictOf, IsWeak}
+use Rattle.ste_model.specs.Found.{FailsStrongly, IsStrong, IsWeak}
 use Rattle.ste_model.specs.Holds.{Holds, RunMeets}
-use Rattle.ste_model.specs.Report.{IsFailingPlace, IsReportOf, IsShown, Prints, Shows}
+use Rattle.ste_model.specs.Edges.{AreNumbers, IsPathFrom, bind_cuts}
+use Rattle.ste_model.specs.GraphFound.{IsGraphStrong}
+use Rattle.ste_model.specs.GraphHolds.{GraphHolds, MeetsAlong}
+use Rattle.ste_model.specs.GraphReport.{GraphPrints, GraphShows, IsGraphShown, IsPrintedOnPath}
+use Rattle.ste_model.specs.GraphShown.{IsCandidate, IsPrintedAlong}
+use Rattle.ste_model.specs.Report.{Prints, Shows, budget_report}
 use Rattle.ste_model.specs.Runs.{run_of}
-use Rattle.ste_model.specs.Shown.{IsPrinted}
+use Rattle.ste_model.specs.Shown.{IsBindable, IsPrinted}
 use Rattle.ste_model.specs.declared.report.Report.{Report as TaskReport}
 use Rattle.ste_model.specs.declared.run.Run.{Run}
 use Rattle.ste_model.specs.declared.task.Assertion.{Assertion}
+use Rattle.ste_model.specs.declared.task.Bind.{Bind}
+use Rattle.ste_model.specs.declared.task.Edge.{Edge}
+use Rattle.ste_model.specs.declared.task.Graph.{Graph}
 use Rattle.ste_model.specs.declared.task.Quint.{Quint}
 use Rattle.ste_model.specs.declared.task.Task.{Task}
 use Rattle.ste_model.specs.declared.task.Task.TheVariants.{Ste, Gste}
 use Rattle.ste_model.specs.declared.verdict.Verdict.{Verdict}
 use Rattle.ste_model.specs.declared.verdict.Verdict.TheVariants.{Budget, Pass, Strong, Vacuous, Weak}
 use Rattle.ste_model.proofs.Due.{asks_of_nets, due_breaks}
+use Rattle.ste_model.proofs.DueAlong.{due_breaks_along, of_cuts, on_path}
+use Rattle.ste_model.proofs.GraphReports.{same_edges}
 use Rattle.ste_model.proofs.Passes.{pass_holds}
+use Rattle.ste_model.proofs.Paths.{graph_pass_holds}
 use Rattle.ste_io.specs.Outside.{FilesState}
 use Rattle.ste_program.specs.Check.{IsToldOf, task_steps}
-use Rattle.ste_program.specs.Holds.{BreaksIn, HoldsOf}
+use Rattle.ste_program.specs.Holds.{BreaksAlong, BreaksIn, BreaksTask, GraphHoldsOf, HoldsOf, TaskHoldsOf}
 use Rattle.ste_program.specs.Report.{IsWritten, PassHolds, PassesHold, RunsBreak, TheyBreak}
-use Rattle.ste_program.specs.private.Made.{IsCheckable}
-use Rattle.ste_program.proofs.Declared.{quints_declared}
-use Rattle.ste_program.proofs.TaskLists.{checkable_ant, checkable_con, promised}
+use Rattle.ste_program.specs.private.Made.{AreBindsIn, IsCheckable}
+use Rattle.ste_program.proofs.TaskLists.{ants_in, checkable_ant, checkable_con, cons_in, graph_over, promised}
+use Rattle.ste_program.proofs.TasksDeclared.{tasks_declared}
 
 at_place : {A B : Type 0} (R : A → B → Type 0) (xs : List A) (ys : List B) (place : ℕ) (x : A) (y : B) → AllZip R xs ys → slice_get xs place ≡ Some x → slice_get ys place ≡ Some y → R x y
 at_place R [] ys place x y all here there = absurd (cc here)
@@ -61,21 +72,39 @@ held models net vars task sound flat holds bits long run is_run meets =
     holds bits long (flat_bits models run)
     (record { is_run = runs.to_flat run is_run.is_run; starts = λ some. runs.starts_to_flat task.reset run some is_run.is_run (is_run.starts some) }) meets
 
--- pass and contradictory antecedent are no budget
-no_budget : (net : RawNet) (vars steps cubes : ℕ) (task : Assertion) (report : TaskReport) → (report.verdict ≡ Pass) ⊎ (report.verdict ≡ Vacuous) → IsToldOf net vars steps cubes (Ste task) report → IsVerdictOf net vars task report.verdict
-no_budget net vars steps cubes task report says (inl told) = told.judged
-no_budget net vars steps cubes task report (inl pass) (inr over) = let both : Pass ≡ Budget = sym pass ∙ ap (λ (r : TaskReport). r.verdict) over.0 in absurd (cc both)
-no_budget net vars steps cubes task report (inr vacuous) (inr over) = let both : Vacuous ≡ Budget = sym vacuous ∙ ap (λ (r : TaskReport). r.verdict) over.0 in absurd (cc both)
+held_graph : (models : List Model) (net : RawNet) (vars : ℕ) (graph : Graph) → IsFree (IsRefusal models) → IsFlat models net → GraphHolds net vars graph → GraphHoldsOf models vars graph
+held_graph models net vars graph sound flat holds bits long path some is_path run is_run meets =
+    let low = shallow models (λ fault h. sound fault (before_is_refusal models fault h)) in
+    let runs = corresponds models net low flat (length path) in
+    holds bits long path some is_path (flat_bits models run)
+    (record { is_run = runs.to_flat run is_run.is_run; starts = λ l. runs.starts_to_flat graph.reset run l is_run.is_run (is_run.starts l) }) meets
 
--- where a check says pass, the assertion holds
+-- pass and contradictory antecedent are no budget
+no_budget : (name : List ℕ) (report : TaskReport) → (report.verdict ≡ Pass) ⊎ (report.verdict ≡ Vacuous) → report ≡ budget_report name → ⊥
+no_budget name report (inl pass) over = let both : Pass ≡ Budget = sym pass ∙ ap (λ (r : TaskReport). r.verdict) over in cc both
+no_budget name report (inr vacuous) over = let both : Vacuous ≡ Budget = sym vacuous ∙ ap (λ (r : TaskReport). r.verdict) over in cc both
+
+-- where pass is told of a task, it holds
+task_holds : (models : List Model) (net : RawNet) (vars steps cubes : ℕ) (task : Task) (report : TaskReport) → IsFree (IsRefusal models) → IsFlat models net → IsSettled net → IsCheckable net.nets vars task → (report.verdict ≡ Pass) ⊎ (report.verdict ≡ Vacuous) →
+    IsToldOf net vars steps cubes task report → TaskHoldsOf models vars task
+task_holds models net vars steps cubes (Ste task) report sound flat settled checkable says (inl told) = held models net vars task sound flat (pass_holds net vars task report.verdict settled says told.judged)
+task_holds models net vars steps cubes (Ste task) report sound flat settled checkable says (inr over) = absurd (no_budget task.name report says over.0)
+task_holds models net vars steps cubes (Gste graph) report sound flat settled checkable says (inl told) =
+    held_graph models net vars graph sound flat (graph_pass_holds net vars graph report.verdict settled (graph_over net vars graph checkable).sound says told.judged)
+task_holds models net vars steps cubes (Gste graph) report sound flat settled checkable says (inr over) = absurd (no_budget graph.name report says over.0)
+
+-- where a check says pass, the task holds
 check_holds : (action : Action) (asked : Command) (net_text second_text : List ℕ) (passes : Bool) (bytes : List ℕ) (written : IsWritten action asked net_text second_text passes bytes) → PassesHold action asked net_text second_text passes bytes written
 check_holds (check net tasks) asked net_text second_text passes bytes written = λ place task report here there says.
-    let n = written.reading.flattened in
+    let r = written.reading in
+    let n = r.flattened in
     let vars = length written.tasks.vars in
     let steps = task_steps asked.steps (length written.tasks.tasks) in
-    let told : IsToldOf written.net vars steps asked.cubes (Ste task) report =
-    at_place (IsToldOf written.net vars steps asked.cubes) written.tasks.tasks written.report.reports place (Ste task) report written.report.told here there in
-    held written.models written.net vars task n.sound n.flat (pass_holds written.net vars task report.verdict n.settled says (no_budget written.net vars steps asked.cubes task report says told))
+    let told : IsToldOf written.net vars steps asked.cubes task report =
+    at_place (IsToldOf written.net vars steps asked.cubes) written.tasks.tasks written.report.reports place task report written.report.told here there in
+    let declared = tasks_declared written.models second_text r.raw written.tasks r.spelled r.bound in
+    let checkable : IsCheckable written.net.nets vars task = all_at (IsCheckable written.net.nets vars) written.tasks.tasks place task (promised written.models r.raw written.net written.tasks n.flat r.bound declared) here in
+    task_holds written.models written.net vars steps asked.cubes task report n.sound n.flat n.settled checkable says told
 check_holds (info net) asked net_text second_text passes bytes written = tt
 check_holds (sim net inputs) asked net_text second_text passes bytes written = tt
 check_holds (bench stages) asked net_text second_text passes bytes written = tt
@@ -125,23 +154,90 @@ module _ (models : List Model) (net : RawNet) (vars cubes : ℕ) (task : Asserti
       let strong = strong_least net vars task report.verdict report.least report.fails told.bits due.0 told.least_is shown in
       (told.bits, told.least_is, strong.1, printed_breaks told.bits run strong.0 printed (due_breaks.meets net task told.bits (run_of run) ant due.1 printed))
 
--- where a check tells a run, it breaks its assertion
+-- ---- graphs
+
+-- what a run meets along a path it meets with the bits of another that has the same bits at nets that there are
+along_as : (binds : Edge → List Bind) (bits : List Bool) (path : List Edge) (nets : ℕ) (one other : ℕ → ℕ → Bool) → ((i : ℕ) (edge : Edge) → slice_get path i ≡ Some edge → AreBindsIn nets (binds edge)) → ((t id : ℕ) → id < nets → other t id ≡ one t id) →
+    MeetsAlong binds bits path one → MeetsAlong binds bits path other
+along_as binds bits path nets one other inside same meets = λ i edge here k d l on.
+    let cut = get_or (bind_cuts (binds edge) bits) k d in
+    same i cut.node (of_cuts (λ (id : ℕ). id < nets) bits (binds edge) (inside i edge here) k d l) ∙ meets i edge here k d l on
+
+module _ (models : List Model) (net : RawNet) (vars : ℕ) (graph : Graph) (sound : IsFree (IsRefusal models)) (flat : IsFlat models net) (settled : IsSettled net) (checkable : IsCheckable net.nets vars (Gste graph)) where
+  -- the edges of a path from vertex 0 name nets that there are
+  sides_in : (path : List Edge) → IsPathFrom graph.edges 0 path → (i : ℕ) (edge : Edge) → slice_get path i ≡ Some edge → AreBindsIn net.nets edge.ant × AreBindsIn net.nets edge.con
+  sides_in path is_path i edge here =
+      let at = on_path graph.edges 0 path is_path i edge here in (
+        All-contains (λ (e : Edge). AreBindsIn net.nets e.ant) graph.edges edge (ants_in net.nets vars graph checkable) at,
+        All-contains (λ (e : Edge). AreBindsIn net.nets e.con) graph.edges edge (cons_in net.nets vars graph checkable) at,
+      )
+
+  breaks_along : (bits : List Bool) (numbers : List ℕ) (path : List Edge) (run : Run) → AreNumbers graph numbers path → IsCandidate FailsStrongly net graph bits path → IsBindable net (Gste graph) → IsPrintedAlong net graph bits path (run_of run) → BreaksAlong models graph bits numbers run
+  breaks_along bits numbers path run are candidate bindable printed =
+      let low = shallow models (λ fault h. sound fault (before_is_refusal models fault h)) in
+      let runs = corresponds models net low flat (length path) in
+      let bit = run_of run in
+      let back : (t id : ℕ) → id < net.nets → flat_bits models (signal_bits models bit) t id ≡ bit t id = λ t id l. runs.back_and_there bit t id l in
+      let meets = due_breaks_along.meets net graph bits path bit (ants_in net.nets vars graph checkable) bindable candidate.is_path printed in
+      record {
+        path = path;
+        are = are;
+        is_path = candidate.is_path;
+        whole = signal_bits models bit;
+        is_run = record { is_run = runs.to_hierarchy bit printed.is_run.is_run; starts = λ some. runs.starts_to_hierarchy graph.reset bit (printed.is_run.starts some) };
+        told = λ t id l m. sym (back t id (subst (λ n. id < n) (sym flat.nets) m));
+        meets = along_as (λ edge. edge.ant) bits path net.nets bit (flat_bits models (signal_bits models bit)) (λ i edge here. (sides_in path candidate.is_path i edge here).0) back meets;
+        breaks = λ followed. due_breaks_along.breaks net graph bits path bit settled candidate printed.is_run meets
+            (along_as (λ edge. edge.con) bits path net.nets (flat_bits models (signal_bits models bit)) bit (λ i edge here. (sides_in path candidate.is_path i edge here).1) (λ t id l. sym (back t id l)) followed);
+      }
+
+  -- what a strong failure shows, with its printed run
+  shown_breaks : (report : TaskReport) (run : Run) → report.run ≡ Some run → IsBindable net (Gste graph) → IsGraphShown (IsGraphStrong net graph) FailsStrongly net vars graph report.least report.path report.fails →
+      IsPrintedOnPath net graph report.least report.path report.run → (bits : List Bool) × (report.least ≡ Some bits) × (length bits ≡ vars) × BreaksAlong models graph bits report.path run
+  shown_breaks report run here bindable shown told =
+      let runs : Some told.told ≡ Some run = sym told.run_is ∙ here in
+      let same : told.told ≡ run = cc runs in
+      let both : Some told.bits ≡ Some shown.bits = sym told.least_is ∙ shown.least_is in
+      let bits : told.bits ≡ shown.bits = cc both in
+      let path : told.path ≡ shown.is_path.path = same_edges graph report.path told.path shown.is_path.path told.are shown.is_path.are in
+      let printed : IsPrintedAlong net graph shown.bits shown.is_path.path (run_of run) = subst (λ (r : Run). IsPrintedAlong net graph shown.bits shown.is_path.path (run_of r)) same
+      (subst (λ (p : List Edge). IsPrintedAlong net graph shown.bits p (run_of told.told)) path (subst (λ (bs : List Bool). IsPrintedAlong net graph bs told.path (run_of told.told)) bits told.printed)) in
+      (shown.bits, shown.least_is, shown.is_least.long, breaks_along shown.bits report.path shown.is_path.path run shown.is_path.are shown.is_path.candidate bindable printed)
+
+  graph_broken : (report : TaskReport) (run : Run) → report.run ≡ Some run → GraphShows net vars graph report.verdict report.least report.path report.fails → GraphPrints net graph report.verdict report.least report.path report.run →
+      (bits : List Bool) × (report.least ≡ Some bits) × (length bits ≡ vars) × BreaksAlong models graph bits report.path run
+  graph_broken report run here shown (inr none) = let both : Some run ≡ None = sym here ∙ none.1 in absurd (cc both)
+  graph_broken report run here (inl shown) (inl (due, told)) = shown_breaks report run here due.1 shown.1 told
+  graph_broken report run here (inr (inl shown)) (inl (due, told)) = let both : Strong ≡ Weak = sym due.0 ∙ shown.0 in absurd (cc both)
+  graph_broken report run here (inr (inr shown)) (inl (due, told)) = absurd (shown.0 due.0)
+
+-- ---- tasks
+
+-- a report of budget tells no run
+no_run : (name : List ℕ) (report : TaskReport) (run : Run) → report.run ≡ Some run → report ≡ budget_report name → ⊥
+no_run name report run is over = let both : Some run ≡ None = sym is ∙ ap (λ (r : TaskReport). r.run) over in cc both
+
+-- a run that is told of a task breaks it
+task_breaks : (models : List Model) (net : RawNet) (vars steps cubes : ℕ) (task : Task) (report : TaskReport) (run : Run) → IsFree (IsRefusal models) → IsFlat models net → IsSettled net → IsCheckable net.nets vars task → report.run ≡ Some run →
+    IsToldOf net vars steps cubes task report → (bits : List Bool) × (report.least ≡ Some bits) × (length bits ≡ vars) × BreaksTask models task bits report.path run
+task_breaks models net vars steps cubes (Ste task) report run sound flat settled checkable is (inl told) =
+    broken models net vars cubes task sound flat settled (checkable_ant net.nets vars task checkable) (checkable_con net.nets vars task checkable) report run is told.shown told.run
+task_breaks models net vars steps cubes (Ste task) report run sound flat settled checkable is (inr over) = absurd (no_run task.name report run is over.0)
+task_breaks models net vars steps cubes (Gste graph) report run sound flat settled checkable is (inl told) = graph_broken models net vars graph sound flat settled checkable report run is told.shown told.run
+task_breaks models net vars steps cubes (Gste graph) report run sound flat settled checkable is (inr over) = absurd (no_run graph.name report run is over.0)
+
+-- where a check tells a run, it breaks its task
 check_breaks : (action : Action) (asked : Command) (net_text second_text : List ℕ) (passes : Bool) (bytes : List ℕ) (written : IsWritten action asked net_text second_text passes bytes) → TheyBreak action asked net_text second_text passes bytes written
 check_breaks (check net tasks) asked net_text second_text passes bytes written = λ place task report run here there is.
     let r = written.reading in
     let n = r.flattened in
     let vars = length written.tasks.vars in
     let steps = task_steps asked.steps (length written.tasks.tasks) in
-    let told : IsToldOf written.net vars steps asked.cubes (Ste task) report =
-    at_place (IsToldOf written.net vars steps asked.cubes) written.tasks.tasks written.report.reports place (Ste task) report written.report.told here there in
-    let declared = quints_declared written.models second_text r.raw written.tasks r.spelled r.bound in
-    let checkable : IsCheckable written.net.nets vars (Ste task) = all_at (IsCheckable written.net.nets vars) written.tasks.tasks place (Ste task) (promised written.models r.raw written.net written.tasks n.flat r.bound r.checked declared) here in
-    by written.net vars steps asked.cubes task report run is told (broken written.models written.net vars asked.cubes task n.sound n.flat n.settled (checkable_ant written.net.nets vars task checkable) (checkable_con written.net.nets vars task checkable) report run is)
-  where
-    by : {Q : Type 0} (net : RawNet) (vars steps cubes : ℕ) (task : Assertion) (report : TaskReport) (run : Run) → report.run ≡ Some run → IsToldOf net vars steps cubes (Ste task) report →
-        (Shows net vars task report.verdict report.least report.fails → Prints net task report.verdict report.least report.run → Q) → Q
-    by net vars steps cubes task report run is (inl told) then = then told.shown told.run
-    by net vars steps cubes task report run is (inr over) then = let both : Some run ≡ None = sym is ∙ ap (λ (r : TaskReport). r.run) over.0 in absurd (cc both)
+    let told : IsToldOf written.net vars steps asked.cubes task report =
+    at_place (IsToldOf written.net vars steps asked.cubes) written.tasks.tasks written.report.reports place task report written.report.told here there in
+    let declared = tasks_declared written.models second_text r.raw written.tasks r.spelled r.bound in
+    let checkable : IsCheckable written.net.nets vars task = all_at (IsCheckable written.net.nets vars) written.tasks.tasks place task (promised written.models r.raw written.net written.tasks n.flat r.bound declared) here in
+    task_breaks written.models written.net vars steps asked.cubes task report run n.sound n.flat n.settled checkable is told
 check_breaks (info net) asked net_text second_text passes bytes written = tt
 check_breaks (sim net inputs) asked net_text second_text passes bytes written = tt
 check_breaks (bench stages) asked net_text second_text passes bytes written = tt

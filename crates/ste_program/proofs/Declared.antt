@@ -1,4 +1,4 @@
--- What is read has its variables declared.
+-- The expressions and quintuples that are read have their variables declared.
 use Rattle.std.proofs.Common.{◌≡◌, ℕ, ◌≤◌, ◌<◌, List, [], ◌∷◌, ◌++◌, length, map, Bool, true, false, Option, None, Some, Ok, refl, ap, sym, ◌∙◌, subst, arith, lt-ltb}
 use Rattle.std.specs.Prelude.{⊤, ◌&&◌, ◌||◌, All, IsTrue, if◌then◌else◌, is_some, nat_lt, unwrap_or}
 use Rattle.std.specs.List.{list_all}
@@ -45,14 +45,9 @@ use Rattle.task_binding.specs.Answer.{IsAnswer}
 use Rattle.task_binding.specs.Bound.{net_by, quint_bound, task_bound}
 use Rattle.ste_program.specs.TaskFile.{AreTasks, task_lines}
 
--- the variables of an assertion are below this number
-abbrev pub AreDeclared : ℕ → Task → Type 0
-AreDeclared vars (Ste task) = ReadBelow vars task.ant × ReadBelow vars task.con
-AreDeclared vars (Gste task) = ⊤
-
 -- each variable of a tree is below this number
 abbrev mutual
-  reads_tree : ℕ → Tree → Bool
+  pub reads_tree : ℕ → Tree → Bool
   reads_tree vars (bit b) = true
   reads_tree vars (place n) = nat_lt n vars
   reads_tree vars (opposite part) = reads_tree vars part
@@ -63,7 +58,7 @@ abbrev mutual
   reads_trees vars (more part rest) = reads_tree vars part && reads_trees vars rest
 
 -- an expression reads what its tree reads
-abbrev IsTreeRead : ℕ → Expr → Type 0
+abbrev pub IsTreeRead : ℕ → Expr → Type 0
 IsTreeRead vars expr = reads vars expr ≡ reads_tree vars (tree_of expr)
 
 each_read : (vars : ℕ) (several : List ((e : Expr) × IsTreeRead vars e)) → list_all (λ b. b) (map (reads vars) (map (λ p. p.0) several)) ≡ reads_trees vars (all_of (map tree_of (map (λ p. p.0) several)))
@@ -80,7 +75,7 @@ layer_read vars (layer.All several) = each_read vars several.items
 layer_read vars (layer.Odd several) = each_read vars several.items
 layer_read vars (layer.Any several) = each_read vars several.items
 
-tree_read : (vars : ℕ) (expr : Expr) → IsTreeRead vars expr
+pub tree_read : (vars : ℕ) (expr : Expr) → IsTreeRead vars expr
 tree_read vars = ind-Expr (IsTreeRead vars) (λ x y is.
     let here = subst (λ (z : layer.Expr-F Expr). reads_step vars (map-Expr Expr Bool (reads vars) z) ≡ reads_tree vars (tree_step (map-Expr Expr Tree tree_of z))) is (layer_read vars y) in
     fold-roll-Expr Bool (reads_step vars) x ∙ here ∙ ap (reads_tree vars) (sym (fold-roll-Expr Tree tree_step x)))
@@ -133,11 +128,11 @@ then_none : {X : Type 0} (b : Bool) (x : X) (other : Option X) → (if b then So
 then_none true x other e = absurd (cc e)
 then_none false x other e = e
 
-else_none : {X : Type 0} (b : Bool) (one : Option X) (x : X) → (if b then one else Some x) ≡ None → one ≡ None
+pub else_none : {X : Type 0} (b : Bool) (one : Option X) (x : X) → (if b then one else Some x) ≡ None → one ≡ None
 else_none true one x e = e
 else_none false one x e = absurd (cc e)
 
-no_fault_or : (line : ℕ) (one : Option LineFault) (later : Option (ℕ × LineFault)) → fault_or line one later ≡ None → (one ≡ None) × (later ≡ None)
+pub no_fault_or : (line : ℕ) (one : Option LineFault) (later : Option (ℕ × LineFault)) → fault_or line one later ≡ None → (one ≡ None) × (later ≡ None)
 no_fault_or line (Some fault) later e = absurd (cc e)
 no_fault_or line None later e = (refl, e)
 
@@ -147,7 +142,7 @@ no_unknown None (Some name) times e = absurd (cc e)
 no_unknown None None times e = (refl, refl)
 
 -- the two expressions of a clause without fault
-clause_reads : (names : List (List ℕ)) (vars : ℕ) (value guard : Option Expression) (times : Span) → length names ≤ vars → clause_fault names value guard times ≡ None →
+pub clause_reads : (names : List (List ℕ)) (vars : ℕ) (value guard : Option Expression) (times : Span) → length names ≤ vars → clause_fault names value guard times ≡ None →
     (reads_tree vars (tree_over names guard) && reads_tree vars (tree_over names value)) ≡ true
 clause_reads names vars None guard times l e = absurd (cc e)
 clause_reads names vars (Some value) None times l e = absurd (cc e)
@@ -159,15 +154,11 @@ clause_reads names vars (Some value) (Some guard) times l e =
     (phrase_reads (number_in names) vars guard within both.1) (phrase_reads (number_in names) vars value within both.0)
 
 -- the same of what is spelled
-abbrev quint_reads : ℕ → said.QuintTree → Bool
+abbrev pub quint_reads : ℕ → said.QuintTree → Bool
 quint_reads vars quint = reads_tree vars quint.guard && reads_tree vars quint.value
 
-abbrev task_reads : ℕ → said.TaskTree → Bool
-task_reads vars (said.assertion line name reset ant con) = list_all (quint_reads vars) ant && list_all (quint_reads vars) con
-task_reads vars (said.graph line name reset vertices edges) = true
-
 -- the variables behind some lines are no fewer than those before them
-behind_grows : (form : Form) (names : List (List ℕ)) → length names ≤ length (vars_behind form names)
+pub behind_grows : (form : Form) (names : List (List ℕ)) → length names ≤ length (vars_behind form names)
 behind_grows (form.Vars others) names = let long = length-append names others in omega (arith, long)
 behind_grows (form.Ste name reset) names = omega arith
 behind_grows (form.Gste name vertex reset) names = omega arith
@@ -176,7 +167,7 @@ behind_grows (form.Clause clause) names = omega arith
 behind_grows form.End names = omega arith
 behind_grows form.Wrong names = omega arith
 
-vars_grow : (names : List (List ℕ)) (lines : List Entry) → length names ≤ length (said.vars_with names lines)
+pub vars_grow : (names : List (List ℕ)) (lines : List Entry) → length names ≤ length (said.vars_with names lines)
 vars_grow names [] = omega arith
 vars_grow names (line ∷ lines) =
     let here = behind_grows line.form names in
@@ -201,7 +192,7 @@ with_line parse side context vars line (form.Edge from to) later l e all = all
 with_line parse side context vars line form.End later l e all = all
 with_line parse side context vars line form.Wrong later l e all = all
 
-quints_read : (parse : Parse) (side : Side) (vars : ℕ) (earlier lines : List Entry) → first_fault parse earlier lines ≡ None → length (said.vars_with (context_of earlier).vars lines) ≤ vars →
+pub quints_read : (parse : Parse) (side : Side) (vars : ℕ) (earlier lines : List Entry) → first_fault parse earlier lines ≡ None → length (said.vars_with (context_of earlier).vars lines) ≤ vars →
     list_all (quint_reads vars) (said.quints_of parse side (context_of earlier).vars lines) ≡ true
 quints_read parse side vars earlier [] e l = refl
 quints_read parse side vars earlier (line ∷ lines) e l =
@@ -210,32 +201,8 @@ quints_read parse side vars earlier (line ∷ lines) e l =
     with_line parse side (context_of earlier) vars line.line line.form (said.quints_of parse side (vars_behind line.form (context_of earlier).vars) lines) (omega (arith, grown, l)) both.0
     (quints_read parse side vars (line ∷ earlier) lines both.1 l)
 
-with_task : (parse : Parse) (names : List (List ℕ)) (vars line : ℕ) (form : Form) (lines : List Entry) (later : List said.TaskTree) →
-    ((side : Side) → list_all (quint_reads vars) (said.quints_of parse side (vars_behind form names) lines) ≡ true) → list_all (task_reads vars) later ≡ true →
-    list_all (task_reads vars) (said.tasks_with parse names line form lines later) ≡ true
-with_task parse names vars line (form.Ste name reset) lines later quints all =
-    let ant = said.quints_of parse Antecedent names lines in
-    let con = said.quints_of parse Consequent names lines in
-    and_from (list_all (quint_reads vars) ant && list_all (quint_reads vars) con) (list_all (task_reads vars) later)
-    (and_from (list_all (quint_reads vars) ant) (list_all (quint_reads vars) con) (quints Antecedent) (quints Consequent)) all
-with_task parse names vars line (form.Gste name vertex reset) lines later quints all = all
-with_task parse names vars line (form.Vars others) lines later quints all = all
-with_task parse names vars line (form.Edge from to) lines later quints all = all
-with_task parse names vars line (form.Clause clause) lines later quints all = all
-with_task parse names vars line form.End lines later quints all = all
-with_task parse names vars line form.Wrong lines later quints all = all
-
-spelled_read : (parse : Parse) (vars : ℕ) (earlier lines : List Entry) → first_fault parse earlier lines ≡ None → length (said.vars_with (context_of earlier).vars lines) ≤ vars →
-    list_all (task_reads vars) (said.tasks_of parse (context_of earlier).vars lines) ≡ true
-spelled_read parse vars earlier [] e l = refl
-spelled_read parse vars earlier (line ∷ lines) e l =
-    let both = no_fault_or line.line (line_fault parse (context_of earlier) line.form) (first_fault parse (line ∷ earlier) lines) e in
-    with_task parse (context_of earlier).vars vars line.line line.form lines (said.tasks_of parse (vars_behind line.form (context_of earlier).vars) lines)
-    (λ side. quints_read parse side vars (line ∷ earlier) lines both.1 l)
-    (spelled_read parse vars (line ∷ earlier) lines both.1 l)
-
 -- bound quintuples read what is spelled
-bound_reads : (vars : ℕ) (net : List ℕ → ℕ) (raws : List RawQuint) (quints : List Quint) → list_all (quint_reads vars) (map said.quint_tree raws) ≡ true → map bound.quint_tree quints ≡ map (quint_bound net) raws → ReadBelow vars quints
+pub bound_reads : (vars : ℕ) (net : List ℕ → ℕ) (raws : List RawQuint) (quints : List Quint) → list_all (quint_reads vars) (map said.quint_tree raws) ≡ true → map bound.quint_tree quints ≡ map (quint_bound net) raws → ReadBelow vars quints
 bound_reads vars net [] [] all e = λ k d l. absurd (omega (arith, l))
 bound_reads vars net [] (q ∷ quints) all e = absurd (cc e)
 bound_reads vars net (r ∷ raws) [] all e = absurd (cc e)
@@ -249,33 +216,3 @@ bound_reads vars net (r ∷ raws) (q ∷ quints) all e =
     All-cons (λ (quint : Quint). IsTrue (reads vars quint.guard && reads vars quint.value)) q quints
     (and_from (reads vars q.guard) (reads vars q.value) guard value)
     (bound_reads vars net raws quints both.1 rest)
-
-one_declared : (vars : ℕ) (net : List ℕ → ℕ) (task_raw : RawTask) (task : Task) → task_reads vars (said.task_tree task_raw) ≡ true → bound.task_tree task ≡ task_bound net task_raw → AreDeclared vars task
-one_declared vars net (raw.Ste line name reset ant con) (Ste task) all e =
-    let both = and_parts (list_all (quint_reads vars) (map said.quint_tree ant)) (list_all (quint_reads vars) (map said.quint_tree con)) all in
-    let same_ant : map bound.quint_tree task.ant ≡ map (quint_bound net) ant = cc e in
-    let same_con : map bound.quint_tree task.con ≡ map (quint_bound net) con = cc e in
-    (bound_reads vars net ant task.ant both.0 same_ant, bound_reads vars net con task.con both.1 same_con)
-one_declared vars net (raw.Gste line name reset vertices edges) (Ste task) all e = absurd (cc e)
-one_declared vars net task_raw (Gste task) all e = tt
-
-all_declared : (vars : ℕ) (net : List ℕ → ℕ) (raws : List RawTask) (tasks : List Task) → list_all (task_reads vars) (map said.task_tree raws) ≡ true → map bound.task_tree tasks ≡ map (task_bound net) raws → All (AreDeclared vars) tasks
-all_declared vars net [] [] all e = λ k d l. absurd (omega (arith, l))
-all_declared vars net [] (t ∷ tasks) all e = absurd (cc e)
-all_declared vars net (r ∷ raws) [] all e = absurd (cc e)
-all_declared vars net (r ∷ raws) (t ∷ tasks) all e =
-    let both = and_parts (task_reads vars (said.task_tree r)) (list_all (task_reads vars) (map said.task_tree raws)) all in
-    let first : bound.task_tree t ≡ task_bound net r = cc e in
-    let rest : map bound.task_tree tasks ≡ map (task_bound net) raws = cc e in
-    All-cons (AreDeclared vars) t tasks (one_declared vars net r t both.0 first) (all_declared vars net raws tasks both.1 rest)
-
--- the variables of the assertions that are read and bound are declared
-pub quints_declared : (models : List Model) (task_text : List ℕ) (raw : RawTasks) (tasks : Tasks) → AreTasks task_text raw → IsAnswer (net_named models) (length (nets models)) raw (Ok tasks) →
-    All (λ task. AreDeclared (length tasks.vars) task) tasks.tasks
-quints_declared models task_text raw tasks read answer =
-    let lines = task_lines task_text in
-    let is = read a_parse.0 a_parse.1 in
-    let count : length tasks.vars ≡ length (said.vars_with [] lines) = ap length (answer.2.0 ∙ is.1) in
-    let spelled = spelled_read a_parse.0 (length tasks.vars) [] lines is.0 (omega (arith, count)) in
-    all_declared (length tasks.vars) (net_by (net_named models)) raw.tasks tasks.tasks
-    (ap (list_all (task_reads (length tasks.vars))) is.2 ∙ spelled) answer.2.1

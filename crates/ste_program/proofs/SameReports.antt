@@ -15,6 +15,7 @@ use Rattle.ste_model.specs.declared.cubes.CubeList.{CubeList}
 use Rattle.ste_model.specs.declared.report.Report.{Report}
 use Rattle.ste_model.specs.declared.run.Run.{Run}
 use Rattle.ste_model.specs.declared.task.Assertion.{Assertion}
+use Rattle.ste_model.specs.declared.task.Graph.{Graph}
 use Rattle.ste_model.specs.declared.task.Quint.{Quint}
 use Rattle.ste_model.specs.declared.task.Task.{Task}
 use Rattle.ste_model.specs.declared.task.Task.TheVariants.{Ste, Gste}
@@ -24,27 +25,25 @@ use Rattle.ste_model.specs.declared.verdict.Verdict.TheVariants.{Budget, Strong,
 use Rattle.ste_model.specs.Asked.{cuts_at, depth}
 use Rattle.ste_model.specs.Cubes.{AssignmentSet}
 use Rattle.ste_model.specs.Found.{FailsStrongly, FailsWeakly, IsContradictory, IsStrong, IsVerdictOf, IsWeak}
+use Rattle.ste_model.specs.GraphFound.{IsGraphVerdict}
 use Rattle.ste_model.specs.Holds.{IsTaskRun}
 use Rattle.ste_model.specs.Least.{IsLeast}
 use Rattle.ste_model.specs.Report.{AreCubes, IsDue, IsFailingPlace, IsPrintedUnder, IsReportOf, IsShown, Prints, Shows, budget_report}
 use Rattle.ste_model.specs.Runs.{HasRows, run_of}
 use Rattle.ste_model.specs.Shown.{IsBindable, IsFilled, IsFirst, IsLatchOutput, IsPrinted, IsQuintBindable}
 use Rattle.ste_model.specs.Trees.{QuintTree, quint_tree, task_tree}
+use Rattle.ste_model.proofs.GraphReports.{one_graph_report_of}
 use Rattle.ste_model.proofs.Reports.{one_report_of}
 use Rattle.report_text.specs.Text.{fails_line, guards_text, least_line, names_net, net_line, path_line, report_text, run_text, task_text, verdict_words}
 use Rattle.ste_program.specs.Check.{IsReportOn, IsToldOf, is_pass}
 use Rattle.ste_program.specs.Report.{Agree}
 use Rattle.ste_program.proofs.SameInputs.{run_moved, undriven_moved}
+use Rattle.ste_program.proofs.SameGraphs.{GraphSaysSame, graph_named_alike, graph_report_moved, graph_says_same}
+use Rattle.ste_program.proofs.SameMoved.{cubes_moved, least_moved}
 use Rattle.ste_program.proofs.SameNets.{AreSame, flats_same}
 use Rattle.ste_program.proofs.SameVerdicts.{SaysSame, back_says, of_contradictory, of_table, says_same, strong_moved, verdict_moved, weak_moved}
 
 -- ---- what is told, moved to a net that is the same and an assertion that says the same
-
-cubes_moved : (max vars : ℕ) (P Q : List Bool → Type 0) (list : CubeList) → ((bits : List Bool) → P bits → Q bits) → ((bits : List Bool) → Q bits → P bits) → AreCubes max vars P list → AreCubes max vars Q list
-cubes_moved max vars P Q list to from h = (h.0, (λ bits l. let both = h.1 bits l in ((λ one. to bits (both.0 one)), (λ q. both.1 (from bits q)))), h.2)
-
-least_moved : (vars : ℕ) (P Q : List Bool → Type 0) (bits : List Bool) → ((bits : List Bool) → P bits → Q bits) → ((bits : List Bool) → Q bits → P bits) → IsLeast vars P bits → IsLeast vars Q bits
-least_moved vars P Q bits to from h = record { long = h.long; has = to bits h.has; least = λ other l q. h.least other l (from other q) }
 
 bindable_moved : (net other : RawNet) → AreSame net other → (ones twins : List Quint) → map quint_tree ones ≡ map quint_tree twins → All (IsQuintBindable net) ones → All (IsQuintBindable other) twins
 bindable_moved net other same [] [] e all = λ k d l. absurd (omega (arith, l))
@@ -173,6 +172,22 @@ module _ (net other : RawNet) (vars cubes m n : ℕ) (t u : Assertion) (same : A
   told_same r q e (inr f) (inl g) = absurd (no_verdict q.verdict (sym e ∙ ap verdict_in f.0) g.judged)
   told_same r q e (inr f) (inr g) = f.0 ∙ ap budget_report says.name ∙ sym g.0
 
+-- the same of graphs
+module _ (net other : RawNet) (vars cubes m n : ℕ) (t u : Graph) (same : AreSame net other) (back : AreSame other net) (range : IsInRange other) (settled : IsSettled other) (says : GraphSaysSame t u) where
+  graphs_agree : (r q : Report) → IsToldOf net vars m cubes (Gste t) r → IsToldOf other vars n cubes (Gste u) q → Agree r q
+  graphs_agree r q (inr f) g = inr (inl (ap verdict_in f.0))
+  graphs_agree r q (inl f) (inr g) = inr (inr (ap verdict_in g.0))
+  graphs_agree r q (inl f) (inl g) = inl (one_graph_report_of other range settled vars cubes u r q (graph_report_moved net other t u same back says vars cubes r f) g)
+
+  no_graph_verdict : (verdict : Verdict) → verdict ≡ Budget → IsGraphVerdict other vars u verdict → ⊥
+  no_graph_verdict verdict e h = subst (λ (v : Verdict). IsGraphVerdict other vars u v) e h
+
+  graphs_same : (r q : Report) → r.verdict ≡ q.verdict → IsToldOf net vars m cubes (Gste t) r → IsToldOf other vars n cubes (Gste u) q → r ≡ q
+  graphs_same r q e (inl f) (inl g) = one_graph_report_of other range settled vars cubes u r q (graph_report_moved net other t u same back says vars cubes r f) g
+  graphs_same r q e (inl f) (inr g) = absurd (no_graph_verdict r.verdict (e ∙ ap verdict_in g.0) (graph_report_moved net other t u same back says vars cubes r f).judged)
+  graphs_same r q e (inr f) (inl g) = absurd (no_graph_verdict q.verdict (sym e ∙ ap verdict_in f.0) g.judged)
+  graphs_same r q e (inr f) (inr g) = f.0 ∙ ap budget_report says.name ∙ sym g.0
+
 -- tasks that say the same name the same nets
 nodes_alike : (id : ℕ) (ones twins : List Quint) → map quint_tree ones ≡ map quint_tree twins → list_any (λ (quint : Quint). nat_eq quint.node.0 id) ones ≡ list_any (λ (quint : Quint). nat_eq quint.node.0 id) twins
 nodes_alike id [] [] e = refl
@@ -189,15 +204,42 @@ named_alike t u says = λ i id. (
     ap (λ b. b || list_any (λ (quint : Quint). nat_eq quint.node.0 id) t.con) (nodes_alike id t.ant u.ant says.ants)
     ∙ ap (λ b. list_any (λ (quint : Quint). nat_eq quint.node.0 id) u.ant || b) (nodes_alike id t.con u.con says.cons)) i
 
-run_alike : (names : List (List ℕ)) (wave : Bool) (t u : Assertion) (run : Option Run) → SaysSame t u → run_text names wave (Ste t) run ≡ run_text names wave (Ste u) run
-run_alike names wave t u None says = refl
-run_alike names wave t u (Some run) says =
-    ap (λ (mark : ℕ → Bool). codes "  run:\n" ++ flat_map (λ (at : ℕ × (List ℕ × List Bool)). if wave || mark at.0 then net_line at.1 else []) (enumerate_from 0 (zip names run.rows))) (named_alike t u says)
+run_alike : (names : List (List ℕ)) (wave : Bool) (t u : Task) (run : Option Run) → names_net t ≡ names_net u → run_text names wave t run ≡ run_text names wave u run
+run_alike names wave t u None same = refl
+run_alike names wave t u (Some run) same =
+    ap (λ (mark : ℕ → Bool). codes "  run:\n" ++ flat_map (λ (at : ℕ × (List ℕ × List Bool)). if wave || mark at.0 then net_line at.1 else []) (enumerate_from 0 (zip names run.rows))) same
 
-text_alike : (names vars : List (List ℕ)) (wave : Bool) (t u : Assertion) (r : Report) → SaysSame t u → task_text names vars wave (Ste t, r) ≡ task_text names vars wave (Ste u, r)
-text_alike names vars wave t u r says =
+text_alike : (names vars : List (List ℕ)) (wave : Bool) (t u : Task) (r : Report) → names_net t ≡ names_net u → task_text names vars wave (t, r) ≡ task_text names vars wave (u, r)
+text_alike names vars wave t u r same =
     ap (λ (text : List ℕ). r.name ++ codes ": " ++ verdict_words r.verdict ++ codes "\n" ++ guards_text vars r.guards ++ least_line vars r.least ++ path_line r.path ++ fails_line names r.fails ++ text)
-    (run_alike names wave t u r.run says)
+    (run_alike names wave t u r.run same)
+
+-- what is told of two tasks that say the same
+pub record AreToldAlike (names vars : List (List ℕ)) (wave : Bool) (t u : Task) (r q : Report) : Type 0 where
+  pub agree : Agree r q
+  pub same : r.verdict ≡ q.verdict → r ≡ q
+  pub text : r.verdict ≡ q.verdict → task_text names vars wave (t, r) ≡ task_text names vars wave (u, q)
+
+task_alike : (net other : RawNet) (names : List (List ℕ)) (vars : List (List ℕ)) (wave : Bool) (cubes m n : ℕ) → AreSame net other → AreSame other net → IsInRange other → IsSettled other → (t u : Task) (r q : Report) → task_tree t ≡ task_tree u →
+    IsToldOf net (length vars) m cubes t r → IsToldOf other (length vars) n cubes u q → AreToldAlike names vars wave t u r q
+task_alike net other names vars wave cubes m n same back range settled (Ste t) (Ste u) r q e f g =
+    let says = says_same t u e in
+    let one = told_same net other (length vars) cubes m n t u same back range settled says r q in
+    record {
+      agree = told_agree net other (length vars) cubes m n t u same back range settled says r q f g;
+      same = λ v. one v f g;
+      text = λ v. text_alike names vars wave (Ste t) (Ste u) r (named_alike t u says) ∙ ap (λ (x : Report). task_text names vars wave (Ste u, x)) (one v f g);
+    }
+task_alike net other names vars wave cubes m n same back range settled (Ste t) (Gste u) r q e f g = absurd (cc e)
+task_alike net other names vars wave cubes m n same back range settled (Gste t) (Ste u) r q e f g = absurd (cc e)
+task_alike net other names vars wave cubes m n same back range settled (Gste t) (Gste u) r q e f g =
+    let says = graph_says_same t u e in
+    let one = graphs_same net other (length vars) cubes m n t u same back range settled says r q in
+    record {
+      agree = graphs_agree net other (length vars) cubes m n t u same back range settled says r q f g;
+      same = λ v. one v f g;
+      text = λ v. text_alike names vars wave (Gste t) (Gste u) r (graph_named_alike t u says) ∙ ap (λ (x : Report). task_text names vars wave (Gste u, x)) (one v f g);
+    }
 
 reports_alike : (net other : RawNet) (names : List (List ℕ)) (vars : List (List ℕ)) (wave : Bool) (cubes m n : ℕ) → AreSame net other → AreSame other net → IsInRange other → IsSettled other →
     (tasks twins : List Task) (reports others : List Report) → map task_tree tasks ≡ map task_tree twins →
@@ -211,22 +253,19 @@ reports_alike net other names vars wave cubes m n same back range settled [] (u 
 reports_alike net other names vars wave cubes m n same back range settled (t ∷ tasks) [] reports others e f g = absurd (cc e)
 reports_alike net other names vars wave cubes m n same back range settled (t ∷ tasks) (u ∷ twins) [] others e f g = absurd f
 reports_alike net other names vars wave cubes m n same back range settled (t ∷ tasks) (u ∷ twins) (r ∷ reports) [] e f g = absurd g
-reports_alike net other names vars wave cubes m n same back range settled (Gste t ∷ tasks) (u ∷ twins) (r ∷ reports) (q ∷ others) e f g = absurd f.0
-reports_alike net other names vars wave cubes m n same back range settled (Ste t ∷ tasks) (Gste u ∷ twins) (r ∷ reports) (q ∷ others) e f g = absurd g.0
-reports_alike net other names vars wave cubes m n same back range settled (Ste t ∷ tasks) (Ste u ∷ twins) (r ∷ reports) (q ∷ others) e f g =
-    let first : task_tree (Ste t) ≡ task_tree (Ste u) = cc e in
+reports_alike net other names vars wave cubes m n same back range settled (t ∷ tasks) (u ∷ twins) (r ∷ reports) (q ∷ others) e f g =
+    let first : task_tree t ≡ task_tree u = cc e in
     let trees : map task_tree tasks ≡ map task_tree twins = cc e in
-    let says = says_same t u first in
+    let alike = task_alike net other names vars wave cubes m n same back range settled t u r q first f.0 g.0 in
     let rest = reports_alike net other names vars wave cubes m n same back range settled tasks twins reports others trees f.1 g.1 in (
-      (told_agree net other (length vars) cubes m n t u same back range settled says r q f.0 g.0, rest.0),
+      (alike.agree, rest.0),
       (λ v.
           let here : r.verdict ≡ q.verdict = cc v in
           let later : map verdict_in reports ≡ map verdict_in others = cc v in
-          let one : r ≡ q = told_same net other (length vars) cubes m n t u same back range settled says r q here f.0 g.0 in
           let more = rest.1 later in (
-            ap (λ (x : Report). x ∷ reports) one ∙ ap (λ (xs : List Report). q ∷ xs) more.0,
-            ap (λ (x : List ℕ). x ++ flat_map (task_text names vars wave) (zip tasks reports)) (text_alike names vars wave t u r says ∙ ap (λ (x : Report). task_text names vars wave (Ste u, x)) one)
-                ∙ ap (λ (x : List ℕ). task_text names vars wave (Ste u, q) ++ x) more.1,
+            ap (λ (x : Report). x ∷ reports) (alike.same here) ∙ ap (λ (xs : List Report). q ∷ xs) more.0,
+            ap (λ (x : List ℕ). x ++ flat_map (task_text names vars wave) (zip tasks reports)) (alike.text here)
+                ∙ ap (λ (x : List ℕ). task_text names vars wave (u, q) ++ x) more.1,
           )),
     )
 

@@ -43,7 +43,7 @@ source_moved net other held sets id bit same h = record {
   by_latch = subst (λ (ls : List Latch). AllZip (λ latch set. latch.output.0 ≡ id → IsIn bit set) ls held) same.latches h.by_latch;
 }
 
-possible_moved : (net other : RawNet) (held : List BitSet) (asked : Asked) (sets : ℕ → BitSet) → AreSame net other → AreSame other net → ArePossible net held asked sets → ArePossible other held asked sets
+pub possible_moved : (net other : RawNet) (held : List BitSet) (asked : Asked) (sets : ℕ → BitSet) → AreSame net other → AreSame other net → ArePossible net held asked sets → ArePossible other held asked sets
 possible_moved net other held asked sets same back h = record {
   long = h.long ∙ ap length same.latches;
   each = λ id bit. (
@@ -159,7 +159,7 @@ back_says one twin h = record {
 }
 
 -- a verdict from facts that are the same
-verdict_alike : (vars : ℕ) (S W C T V D : List Bool → Type 0) (verdict : Verdict) → ((bits : List Bool) → S bits → T bits) → ((bits : List Bool) → T bits → S bits) → ((bits : List Bool) → W bits → V bits) → ((bits : List Bool) → V bits → W bits) →
+pub verdict_alike : (vars : ℕ) (S W C T V D : List Bool → Type 0) (verdict : Verdict) → ((bits : List Bool) → S bits → T bits) → ((bits : List Bool) → T bits → S bits) → ((bits : List Bool) → W bits → V bits) → ((bits : List Bool) → V bits → W bits) →
     ((bits : List Bool) → C bits → D bits) → ((bits : List Bool) → D bits → C bits) → IsVerdict vars S W C verdict → IsVerdict vars T V D verdict
 verdict_alike vars S W C T V D Strong s t w v c d h = (h.0, h.1, s h.0 h.2)
 verdict_alike vars S W C T V D Weak s t w v c d h = ((λ some. h.0 (some.0, some.1, t some.0 some.2)), (h.1.0, h.1.1, w h.1.0 h.1.2))

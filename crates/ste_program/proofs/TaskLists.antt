@@ -26,8 +26,8 @@ use Rattle.ste_model.specs.declared.task.Task.{Task}
 use Rattle.ste_model.specs.declared.task.Task.TheVariants.{Ste, Gste}
 use Rattle.ste_model.specs.declared.task.Tasks.{Tasks}
 use Rattle.task_binding.specs.Answer.{IsAnswer}
-use Rattle.task_binding.specs.Bound.{net_by, quint_bound, task_bound}
-use Rattle.task_binding.specs.Mentions.{AllNamed, mentions_of, quint_mention, task_mentions}
+use Rattle.task_binding.specs.Bound.{bind_bound, edge_bound, net_by, quint_bound, task_bound}
+use Rattle.task_binding.specs.Mentions.{AllNamed, bind_mention, edge_mentions, mentions_of, quint_mention, task_mentions}
 use Rattle.task_binding.specs.declared.unknown.Mention.{Mention}
 use Rattle.ste_model.specs.declared.verdict.Verdict.{Verdict}
 use Rattle.assert_syntax.specs.Spelled.{task_tree}
@@ -40,10 +40,18 @@ use Rattle.std.specs.declared.alloc.AllocError.{AllocError}
 use Rattle.dd_nodes.specs.Stores.{Store, empty_store}
 use Rattle.ste_engine.specs.Engine.{IsBudget}
 use Rattle.ste_program.specs.Check.{IsCheck, IsReportOn, IsToldOf, are_too_many, task_steps}
-use Rattle.ste_program.specs.private.Made.{IsCheckable}
-use Rattle.ste_program.proofs.Declared.{AreDeclared}
+use Rattle.ste_program.specs.private.Made.{AreBindsIn, IsCheckable, IsEdgeFit, IsGraphFit}
+use Rattle.ste_model.specs.GraphReport.{IsGraphReportOf}
+use Rattle.ste_model.specs.declared.task.Bind.{Bind}
+use Rattle.ste_model.specs.declared.task.Edge.{Edge}
+use Rattle.ste_model.specs.declared.task.Graph.{Graph}
+use Rattle.gste_engine.specs.Engine.{IsGraphBudget}
+use Rattle.gste_engine.specs.Tables.{AreConsequentsOver, IsGraphOver}
+use Rattle.assert_syntax.specs.declared.tasks.RawBind.{RawBind}
+use Rattle.assert_syntax.specs.declared.tasks.RawEdge.{RawEdge}
+use Rattle.ste_program.proofs.GraphsDeclared.{IsEdgeDeclared}
+use Rattle.ste_program.proofs.TasksDeclared.{AreDeclared}
 use Rattle.ste_program.specs.private.Prepared.{IsPrepared}
-use Rattle.ste_program.specs.Reading.{is_assertion, is_checked_so_far}
 
 -- what holds of all of two lists in a row holds of both
 all_left : {X : Type 0} (P : X → Type 0) (xs ys : List X) → All P (xs ++ ys) → All P xs
@@ -60,16 +68,16 @@ all_both P (x ∷ xs) ys first rest = All-cons P x (xs ++ ys) (first 0 x (omega 
 
 -- an assertion that may be checked: its nets are in range, and its variables are declared
 pub checkable_ant : (nets vars : ℕ) (task : Assertion) → IsCheckable nets vars (Ste task) → All (λ quint. quint.node.0 < nets) task.ant
-checkable_ant nets vars task h = all_left (λ (quint : Quint). quint.node.0 < nets) task.ant task.con h.1
+checkable_ant nets vars task h = all_left (λ (quint : Quint). quint.node.0 < nets) task.ant task.con h.0
 
 pub checkable_con : (nets vars : ℕ) (task : Assertion) → IsCheckable nets vars (Ste task) → All (λ quint. quint.node.0 < nets) task.con
-checkable_con nets vars task h = all_right (λ (quint : Quint). quint.node.0 < nets) task.ant task.con h.1
+checkable_con nets vars task h = all_right (λ (quint : Quint). quint.node.0 < nets) task.ant task.con h.0
 
 pub declared_ant : (nets vars : ℕ) (task : Assertion) → IsCheckable nets vars (Ste task) → ReadBelow vars task.ant
-declared_ant nets vars task h = all_left (λ (quint : Quint). IsTrue (reads vars quint.guard && reads vars quint.value)) task.ant task.con h.2
+declared_ant nets vars task h = all_left (λ (quint : Quint). IsTrue (reads vars quint.guard && reads vars quint.value)) task.ant task.con h.1
 
 pub declared_con : (nets vars : ℕ) (task : Assertion) → IsCheckable nets vars (Ste task) → ReadBelow vars task.con
-declared_con nets vars task h = all_right (λ (quint : Quint). IsTrue (reads vars quint.guard && reads vars quint.value)) task.ant task.con h.2
+declared_con nets vars task h = all_right (λ (quint : Quint). IsTrue (reads vars quint.guard && reads vars quint.value)) task.ant task.con h.1
 
 -- the engine's answer over a store that holds nothing
 pub engine_told : (net : RawNet) (vars steps cubes : ℕ) (task : Assertion) (before after : Store) (result : Result Report AllocError) → before ≡ empty_store steps vars →
@@ -92,6 +100,52 @@ engine_told net vars steps cubes task before after (Ok report) is told short = b
           answer.0,
           (λ need is_need.
               let spent = subst (λ (s : Store). IsBudget net task s after) is answer.1 in
+              let few = spent.few need is_need in omega (arith, few)),
+        )
+
+-- a graph that may be checked, as the engine asks for it
+fit_graph : (nets vars : ℕ) (graph : Graph) → IsCheckable nets vars (Gste graph) → IsGraphFit nets vars graph
+fit_graph nets vars graph h = h.2 0 graph (omega arith)
+
+pub graph_over : (net : RawNet) (vars : ℕ) (graph : Graph) → IsCheckable net.nets vars (Gste graph) → IsGraphOver net vars graph
+graph_over net vars graph h =
+    let fit = fit_graph net.nets vars graph h in
+    record {
+      sound = record { some = fit.0; ends = λ k d l. (fit.1 k d l).1 };
+      edges = λ k d l. let edge = fit.2 k d l in record { start = (fit.1 k d l).0; nets = edge.0; reads = edge.2 };
+    }
+
+pub consequents_over : (net : RawNet) (vars : ℕ) (graph : Graph) → IsCheckable net.nets vars (Gste graph) → AreConsequentsOver net vars graph
+consequents_over net vars graph h = λ k d l. let edge = (fit_graph net.nets vars graph h).2 k d l in (edge.1, edge.3)
+
+-- the bindings of its edges name nets that there are
+pub ants_in : (nets vars : ℕ) (graph : Graph) → IsCheckable nets vars (Gste graph) → All (λ edge. AreBindsIn nets edge.ant) graph.edges
+ants_in nets vars graph h = λ k d l. ((fit_graph nets vars graph h).2 k d l).0
+
+pub cons_in : (nets vars : ℕ) (graph : Graph) → IsCheckable nets vars (Gste graph) → All (λ edge. AreBindsIn nets edge.con) graph.edges
+cons_in nets vars graph h = λ k d l. ((fit_graph nets vars graph h).2 k d l).1
+
+-- the engine's answer on a graph over a store that holds nothing
+pub graph_told : (net : RawNet) (vars steps cubes : ℕ) (graph : Graph) (before after : Store) (result : Result Report AllocError) → before ≡ empty_store steps vars →
+    IfOk result (λ report. report.verdict ≢ Budget → IsGraphReportOf net before.vars cubes graph report) → IfOk result (λ report. report.verdict ≡ Budget → (report ≡ budget_report graph.name) × IsGraphBudget net graph before after) →
+    IfOk result (λ report. IsToldOf net vars steps cubes (Gste graph) report)
+graph_told net vars steps cubes graph before after (Err fault) is told short = tt
+graph_told net vars steps cubes graph before after (Ok report) is told short = by report.verdict refl
+  where
+    told_by : report.verdict ≢ Budget → IsToldOf net vars steps cubes (Gste graph) report
+    told_by other = inl (subst (λ (s : Store). IsGraphReportOf net s.vars cubes graph report) is (told other))
+
+    by : (verdict : Verdict) → report.verdict ≡ verdict → IsToldOf net vars steps cubes (Gste graph) report
+    by Pass e = told_by (λ f. let both : Pass ≡ Budget = sym e ∙ f in absurd (cc both))
+    by Weak e = told_by (λ f. let both : Weak ≡ Budget = sym e ∙ f in absurd (cc both))
+    by Strong e = told_by (λ f. let both : Strong ≡ Budget = sym e ∙ f in absurd (cc both))
+    by Vacuous e = told_by (λ f. let both : Vacuous ≡ Budget = sym e ∙ f in absurd (cc both))
+    by Budget e =
+        let answer = short e in
+        inr (
+          answer.0,
+          (λ need is_need.
+              let spent = subst (λ (s : Store). IsGraphBudget net graph s after) is answer.1 in
               let few = spent.few need is_need in omega (arith, few)),
         )
 
@@ -132,39 +186,80 @@ nets_in models (r ∷ raws) (q ∷ quints) all e =
     All-cons (λ (quint : Quint). quint.node.0 < length (nets models)) q quints (subst (λ n. n < length (nets models)) (sym node) low)
     (nets_in models raws quints (λ j d m. all (suc j) d (omega (arith, m))) rest)
 
--- a bound assertion may be checked
-one_checkable : (models : List Model) (vars : ℕ) (task_raw : RawTask) (task : Task) → AllNamed (net_named models) (task_mentions task_raw) → is_assertion task_raw ≡ true → tree.task_tree task ≡ task_bound (net_by (net_named models)) task_raw →
+-- the nets of bound bindings are in range
+binds_in : (models : List Model) (raws : List RawBind) (binds : List Bind) → AllNamed (net_named models) (map bind_mention raws) → map tree.bind_tree binds ≡ map (bind_bound (net_by (net_named models))) raws → AreBindsIn (length (nets models)) binds
+binds_in models [] [] all e = λ k d l. absurd (omega (arith, l))
+binds_in models [] (q ∷ binds) all e = absurd (cc e)
+binds_in models (r ∷ raws) [] all e = absurd (cc e)
+binds_in models (r ∷ raws) (q ∷ binds) all e =
+    let first : tree.bind_tree q ≡ bind_bound (net_by (net_named models)) r = cc e in
+    let rest : map tree.bind_tree binds ≡ map (bind_bound (net_by (net_named models))) raws = cc e in
+    let node : q.node.0 ≡ unwrap_or (net_named models r.node) 0 = ap (λ (t : tree.BindTree). t.node) first in
+    let low : unwrap_or (net_named models r.node) 0 < length (nets models) = in_range models r.node (net_named models r.node) refl (all 0 (bind_mention r) (omega arith)) in
+    All-cons (λ (bind : Bind). bind.node.0 < length (nets models)) q binds (subst (λ n. n < length (nets models)) (sym node) low)
+    (binds_in models raws binds (λ j d m. all (suc j) d (omega (arith, m))) rest)
+
+-- the nodes of all edges are named
+abbrev AreNamed : List Model → List Mention → Type 0
+AreNamed models mentions = All (λ (m : Mention). IsSome (net_named models m.node)) mentions
+
+edges_in : (models : List Model) (vars vertices : ℕ) (raws : List RawEdge) (edges : List Edge) → AreNamed models (flat_map edge_mentions raws) → map tree.edge_tree edges ≡ map (edge_bound (net_by (net_named models))) raws → All (IsEdgeDeclared vars vertices) edges →
+    All (IsEdgeFit (length (nets models)) vars) edges
+edges_in models vars vertices [] [] all e declared = λ k d l. absurd (omega (arith, l))
+edges_in models vars vertices [] (q ∷ edges) all e declared = absurd (cc e)
+edges_in models vars vertices (r ∷ raws) [] all e declared = absurd (cc e)
+edges_in models vars vertices (r ∷ raws) (q ∷ edges) all e declared =
+    let first : tree.edge_tree q ≡ edge_bound (net_by (net_named models)) r = cc e in
+    let rest : map tree.edge_tree edges ≡ map (edge_bound (net_by (net_named models))) raws = cc e in
+    let here = all_left (λ (m : Mention). IsSome (net_named models m.node)) (edge_mentions r) (flat_map edge_mentions raws) all in
+    let there = all_right (λ (m : Mention). IsSome (net_named models m.node)) (edge_mentions r) (flat_map edge_mentions raws) all in
+    let fit : IsEdgeDeclared vars vertices q = declared 0 q (omega arith) in
+    All-cons (IsEdgeFit (length (nets models)) vars) q edges
+    (
+      binds_in models r.ant q.ant (all_left (λ (m : Mention). IsSome (net_named models m.node)) (map bind_mention r.ant) (map bind_mention r.con) here) (ap (λ (t : tree.EdgeTree). t.ant) first),
+      binds_in models r.con q.con (all_right (λ (m : Mention). IsSome (net_named models m.node)) (map bind_mention r.ant) (map bind_mention r.con) here) (ap (λ (t : tree.EdgeTree). t.con) first),
+      fit.ant,
+      fit.con,
+    )
+    (edges_in models vars vertices raws edges there rest (λ k d l. declared (suc k) d (omega (arith, l))))
+
+-- a bound task may be checked
+one_checkable : (models : List Model) (vars : ℕ) (task_raw : RawTask) (task : Task) → AllNamed (net_named models) (task_mentions task_raw) → tree.task_tree task ≡ task_bound (net_by (net_named models)) task_raw →
     AreDeclared vars task → IsCheckable (length (nets models)) vars task
-one_checkable models vars (raw.Ste line name reset ant con) (Ste task) all is e declared =
+one_checkable models vars (raw.Ste line name reset ant con) (Ste task) all e declared =
     let ants : map tree.quint_tree task.ant ≡ map (quint_bound (net_by (net_named models))) ant = cc e in
     let cons : map tree.quint_tree task.con ≡ map (quint_bound (net_by (net_named models))) con = cc e in (
-      refl,
       all_both (λ (quint : Quint). quint.node.0 < length (nets models)) task.ant task.con
           (nets_in models ant task.ant (all_left (λ (m : Mention). IsSome (net_named models m.node)) (map quint_mention ant) (map quint_mention con) all) ants)
           (nets_in models con task.con (all_right (λ (m : Mention). IsSome (net_named models m.node)) (map quint_mention ant) (map quint_mention con) all) cons),
       all_both (λ (quint : Quint). IsTrue (reads vars quint.guard && reads vars quint.value)) task.ant task.con declared.0 declared.1,
+      (λ k d l. absurd (omega (arith, l))),
     )
-one_checkable models vars (raw.Ste line name reset ant con) (Gste task) all is e declared = absurd (cc e)
-one_checkable models vars (raw.Gste line name reset vertices edges) task all is e declared = absurd (cc is)
+one_checkable models vars (raw.Ste line name reset ant con) (Gste graph) all e declared = absurd (cc e)
+one_checkable models vars (raw.Gste line name reset vertices edges) (Ste task) all e declared = absurd (cc e)
+one_checkable models vars (raw.Gste line name reset vertices edges) (Gste graph) all e declared =
+    let trees : map tree.edge_tree graph.edges ≡ map (edge_bound (net_by (net_named models))) edges = cc e in
+    let fit : IsGraphFit (length (nets models)) vars graph =
+    (declared.some, (λ k d l. let edge = declared.edges k d l in (edge.from, edge.to)), edges_in models vars (length graph.vertices) edges graph.edges all trees declared.edges) in
+    ((λ k d l. absurd (omega (arith, l))), (λ k d l. absurd (omega (arith, l))), All-cons (IsGraphFit (length (nets models)) vars) graph [] fit (λ k d l. absurd (omega (arith, l))))
 
-all_checkable : (models : List Model) (vars : ℕ) (raws : List RawTask) (tasks : List Task) → AllNamed (net_named models) (mentions_of raws) → list_all is_assertion raws ≡ true →
+all_checkable : (models : List Model) (vars : ℕ) (raws : List RawTask) (tasks : List Task) → AllNamed (net_named models) (mentions_of raws) →
     map tree.task_tree tasks ≡ map (task_bound (net_by (net_named models))) raws → All (AreDeclared vars) tasks → All (IsCheckable (length (nets models)) vars) tasks
-all_checkable models vars [] [] all is e declared = λ k d l. absurd (omega (arith, l))
-all_checkable models vars [] (t ∷ tasks) all is e declared = absurd (cc e)
-all_checkable models vars (r ∷ raws) [] all is e declared = absurd (cc e)
-all_checkable models vars (r ∷ raws) (t ∷ tasks) all is e declared =
-    let both = and_parts (is_assertion r) (list_all is_assertion raws) is in
+all_checkable models vars [] [] all e declared = λ k d l. absurd (omega (arith, l))
+all_checkable models vars [] (t ∷ tasks) all e declared = absurd (cc e)
+all_checkable models vars (r ∷ raws) [] all e declared = absurd (cc e)
+all_checkable models vars (r ∷ raws) (t ∷ tasks) all e declared =
     let first : tree.task_tree t ≡ task_bound (net_by (net_named models)) r = cc e in
     let rest : map tree.task_tree tasks ≡ map (task_bound (net_by (net_named models))) raws = cc e in
     All-cons (IsCheckable (length (nets models)) vars) t tasks
-    (one_checkable models vars r t (all_left (λ (m : Mention). IsSome (net_named models m.node)) (task_mentions r) (mentions_of raws) all) both.0 first (declared 0 t (omega arith)))
-    (all_checkable models vars raws tasks (all_right (λ (m : Mention). IsSome (net_named models m.node)) (task_mentions r) (mentions_of raws) all) both.1 rest (λ k d l. declared (suc k) d (omega (arith, l))))
+    (one_checkable models vars r t (all_left (λ (m : Mention). IsSome (net_named models m.node)) (task_mentions r) (mentions_of raws) all) first (declared 0 t (omega arith)))
+    (all_checkable models vars raws tasks (all_right (λ (m : Mention). IsSome (net_named models m.node)) (task_mentions r) (mentions_of raws) all) rest (λ k d l. declared (suc k) d (omega (arith, l))))
 
--- what is checked so far keeps the promises of what is prepared
-pub promised : (models : List Model) (raws : RawTasks) (net : RawNet) (tasks : Tasks) → IsFlat models net → IsAnswer (net_named models) (length (nets models)) raws (Ok tasks) → is_checked_so_far raws ≡ true → All (AreDeclared (length tasks.vars)) tasks.tasks →
+-- tasks that are read and bound keep the promises of what is prepared
+pub promised : (models : List Model) (raws : RawTasks) (net : RawNet) (tasks : Tasks) → IsFlat models net → IsAnswer (net_named models) (length (nets models)) raws (Ok tasks) → All (AreDeclared (length tasks.vars)) tasks.tasks →
     All (IsCheckable net.nets (length tasks.vars)) tasks.tasks
-promised models raws net tasks flat bound checked declared =
-    subst (λ n. All (IsCheckable n (length tasks.vars)) tasks.tasks) (sym flat.nets) (all_checkable models (length tasks.vars) raws.tasks tasks.tasks bound.0 checked bound.2.1 declared)
+promised models raws net tasks flat bound declared =
+    subst (λ n. All (IsCheckable n (length tasks.vars)) tasks.tasks) (sym flat.nets) (all_checkable models (length tasks.vars) raws.tasks tasks.tasks bound.0 bound.2.1 declared)
 
 -- there are as many bound tasks as there were
 pub as_many : (models : List Model) (raws : RawTasks) (tasks : Tasks) → IsAnswer (net_named models) (length (nets models)) raws (Ok tasks) → length raws.tasks ≡ length tasks.tasks

@@ -29,8 +29,8 @@ use Rattle.task_binding.proofs.Alike as binding
 use Rattle.ste_program.specs.Answer.{status_of}
 use Rattle.ste_program.specs.Check.{IsCheck, are_too_many}
 use Rattle.ste_program.specs.Netlist.{IsLoop, IsNetlist}
-use Rattle.ste_program.specs.Order.{AllSilent, CannotBind, HasTooManySteps, IsFaultyFor, IsFirst, IsUnchecked, check_stages, has_faulty_hierarchy, has_faulty_inputs, has_faulty_tasks, has_loop, info_stages, is_faulty, is_unbound, text_stages}
-use Rattle.ste_program.specs.Reading.{OneReading, is_assertion, is_checked_so_far}
+use Rattle.ste_program.specs.Order.{AllSilent, CannotBind, HasTooManySteps, IsFaultyFor, IsFirst, check_stages, has_faulty_hierarchy, has_faulty_inputs, has_faulty_tasks, has_loop, info_stages, is_faulty, is_unbound, text_stages}
+use Rattle.ste_program.specs.Reading.{OneReading}
 use Rattle.ste_program.specs.Report.{IsWritten}
 use Rattle.ste_program.specs.TaskFile.{AreTasks}
 use Rattle.net_names.specs.declared.names.NetNames.{NetNames}
@@ -95,7 +95,7 @@ inputs_once net_text input_text one other f g =
 
 check_once : (steps : Option ℕ) (net_text task_text : List ℕ) → AllOnce (check_stages steps net_text task_text)
 check_once steps net_text task_text =
-    (faulty_once net_text, (tasks_once task_text, (hierarchy_once net_text, (loop_once net_text, (unbound_once net_text task_text, ((λ one other f g. f.is ∙ sym g.is), ((λ one other f g. f.is ∙ sym g.is), tt)))))))
+    (faulty_once net_text, (tasks_once task_text, (hierarchy_once net_text, (loop_once net_text, (unbound_once net_text task_text, ((λ one other f g. f.is ∙ sym g.is), tt))))))
 
 -- each stage of an action's texts gives one refusal at most
 pub text_once : (action : Action) (steps : Option ℕ) (net_text second_text : List ℕ) → AllOnce (text_stages action steps net_text second_text)
@@ -107,7 +107,7 @@ text_once (bench stages) steps net_text second_text = tt
 -- what a stage of the texts gives is told with status 2
 pub text_told : (action : Action) (steps : Option ℕ) (net_text second_text : List ℕ) → AllTold (text_stages action steps net_text second_text)
 text_told (check net tasks) steps net_text second_text =
-    ((λ found h. ap status_of h.1), ((λ found h. ap status_of h.1), ((λ found h. ap status_of h.1), ((λ found h. ap status_of h.1), ((λ found h. ap status_of h.1), ((λ found h. ap status_of h.is), ((λ found h. ap status_of h.is), tt)))))))
+    ((λ found h. ap status_of h.1), ((λ found h. ap status_of h.1), ((λ found h. ap status_of h.1), ((λ found h. ap status_of h.1), ((λ found h. ap status_of h.1), ((λ found h. ap status_of h.is), tt))))))
 text_told (info net) steps net_text second_text = ((λ found h. ap status_of h.1), ((λ found h. ap status_of h.1), ((λ found h. ap status_of h.1), tt)))
 text_told (sim net inputs) steps net_text second_text = ((λ found h. ap status_of h.1), ((λ found h. ap status_of h.1), ((λ found h. ap status_of h.1), ((λ found h. ap status_of h.1), tt))))
 text_told (bench stages) steps net_text second_text = tt
@@ -130,29 +130,6 @@ loop_silent net_text models net spelled flat settled other h =
 unbound_silent : (net_text task_text : List ℕ) (models : List Model) (raw : RawTasks) (bound : Tasks) → IsNetlist net_text models → AreTasks task_text raw → IsAnswer (net_named models) (length (nets models)) raw (Ok bound) → (other : Refusal) → ¬ is_unbound net_text task_text other
 unbound_silent net_text task_text models raw bound spelled read answer other h =
     binding.no_fault (net_named models) (length (nets models)) raw bound h.0 h.2.told answer (moved net_text task_text models raw h.0 spelled read h.2)
-
--- tasks with the same trees are of the same kinds
-abbrev is_assertion_tree : TaskTree → Bool
-is_assertion_tree (assertion line name reset ant con) = true
-is_assertion_tree (graph line name reset vertices edges) = false
-
-assertion_is : (task : RawTask) → is_assertion task ≡ is_assertion_tree (task_tree task)
-assertion_is (Ste line name reset ant con) = refl
-assertion_is (Gste line name reset vertices edges) = refl
-
-assertions_are : (raw : List RawTask) → list_all is_assertion raw ≡ list_all is_assertion_tree (map task_tree raw)
-assertions_are [] = refl
-assertions_are (task ∷ raw) = ap (λ b. b && list_all is_assertion raw) (assertion_is task) ∙ ap (λ b. is_assertion_tree (task_tree task) && b) (assertions_are raw)
-
-checked_alike : (one other : RawTasks) → map task_tree one.tasks ≡ map task_tree other.tasks → is_checked_so_far one ≡ is_checked_so_far other
-checked_alike one other trees = assertions_are one.tasks ∙ (ap (list_all is_assertion_tree) trees ∙ sym (assertions_are other.tasks))
-
-unchecked_silent : (task_text : List ℕ) (raw : RawTasks) → AreTasks task_text raw → is_checked_so_far raw ≡ true → (other : Refusal) → ¬ IsUnchecked task_text other
-unchecked_silent task_text raw read checked other h =
-    let trees = tasks.same_tasks task_text h.raw raw h.spelled read in
-    let told = h.unchecked in
-    let wrong : true ≡ false = sym checked ∙ (sym (checked_alike h.raw raw trees.1) ∙ told) in
-    absurd (cc wrong)
 
 -- tasks with the same trees are as many
 steps_silent : (steps : Option ℕ) (task_text : List ℕ) (raw : RawTasks) → AreTasks task_text raw → are_too_many steps (length raw.tasks) ≡ false → (other : Refusal) → ¬ HasTooManySteps steps task_text other
@@ -181,10 +158,7 @@ check_silent steps cubes wave net_text task_text passes bytes written =
             loop_silent net_text written.models written.net n.netlist n.flat n.settled,
             (
               unbound_silent net_text task_text written.models h.raw written.tasks n.netlist h.spelled h.bound,
-              (
-                steps_silent steps task_text h.raw h.spelled written.few,
-                (unchecked_silent task_text h.raw h.spelled h.checked, tt),
-              ),
+              (steps_silent steps task_text h.raw h.spelled written.few, tt),
             ),
           ),
         ),
@@ -265,7 +239,7 @@ first_of_more net_text stages found (inr (inr (a, inr (b, inr (c, h))))) = absur
 
 -- the stages of a check behind both texts, and behind the netlist's
 abbrev bound_stages : Option ℕ → List ℕ → List ℕ → List (Refusal → Type 0)
-bound_stages steps net_text task_text = is_unbound net_text task_text ∷ HasTooManySteps steps task_text ∷ IsUnchecked task_text ∷ []
+bound_stages steps net_text task_text = is_unbound net_text task_text ∷ HasTooManySteps steps task_text ∷ []
 
 abbrev net_stages : Option ℕ → List ℕ → List ℕ → List (Refusal → Type 0)
 net_stages steps net_text task_text = has_faulty_hierarchy net_text ∷ has_loop net_text ∷ bound_stages steps net_text task_text
@@ -315,18 +289,9 @@ module _ (steps : Option ℕ) (net_text task_text : List ℕ) (models : List Mod
             behind_flat refusal.TooManySteps
             (inr (inr (unbound_silent net_text task_text models raw bound spelled read answer, inl (record { is = refl; raw = raw; spelled = read; many = many }))))
 
-        -- they are not checked so far
-        pub kinds_fail : are_too_many steps (length raw.tasks) ≡ false → is_checked_so_far raw ≡ false → OrMemory (IsFirst (check_stages steps net_text task_text)) refusal.NotYet
-        kinds_fail few unchecked =
-            behind_flat refusal.NotYet
-            (inr (inr (
-              unbound_silent net_text task_text models raw bound spelled read answer,
-              inr (steps_silent steps task_text raw read few, inl (record { is = refl; raw = raw; spelled = read; unchecked = unchecked })),
-            )))
-
-        -- they are checked
-        pub is_prepared : are_too_many steps (length raw.tasks) ≡ false → is_checked_so_far raw ≡ true → IsPrepared steps net_text task_text names.own net bound
-        is_prepared few checked = record {
+        -- they are not
+        pub is_prepared : are_too_many steps (length raw.tasks) ≡ false → IsPrepared steps net_text task_text names.own net bound
+        is_prepared few = record {
           models = models;
           named = of_net.named.own_known;
           reading = record {
@@ -334,7 +299,6 @@ module _ (steps : Option ℕ) (net_text task_text : List ℕ) (models : List Mod
             raw = raw;
             spelled = read;
             bound = answer;
-            checked = checked;
           };
           few = few;
         }

@@ -12,7 +12,8 @@ use Rattle.ste_model.specs.declared.task.Task.TheVariants.{Ste, Gste}
 use Rattle.ste_model.specs.declared.task.Tasks.{Tasks}
 use Rattle.ste_model.specs.declared.verdict.Verdict.{Verdict}
 use Rattle.ste_model.specs.declared.verdict.Verdict.TheVariants.{Pass, Weak, Strong, Vacuous, Budget}
-use Rattle.ste_model.specs.declared.task.Assertion.{Assertion}
+use Rattle.ste_model.specs.GraphNeed.{IsGraphNeed}
+use Rattle.ste_model.specs.GraphReport.{IsGraphReportOf}
 use Rattle.ste_model.specs.Need.{IsNeed}
 use Rattle.ste_model.specs.Report.{IsReportOf, budget_report}
 use Rattle.report_text.specs.Text.{report_text}
@@ -28,16 +29,18 @@ abbrev pub task_steps : Option ℕ → ℕ → ℕ
 task_steps (Some steps) tasks = steps
 task_steps None tasks = min 1000000 (16000000 / tasks)
 
--- the steps are fewer than the assertion needs
-abbrev pub AreTooFew : RawNet → ℕ → ℕ → Assertion → Type 0
-AreTooFew net vars steps task = (need : ℕ) → IsNeed net vars task need → steps < need
+-- the steps are fewer than the task needs
+abbrev pub AreTooFew : RawNet → ℕ → ℕ → Task → Type 0
+AreTooFew net vars steps (Ste task) = (need : ℕ) → IsNeed net vars task need → steps < need
+AreTooFew net vars steps (Gste graph) = (need : ℕ) → IsGraphNeed net vars graph need → steps < need
 
 -- What may be told of a task over so many variables, with so many steps and at most so many cubes in a list: its report; or budget,
--- where the steps are too few. Of a graph nothing is told so far.
+-- where the steps are too few.
 abbrev pub IsToldOf : RawNet → ℕ → ℕ → ℕ → Task → Report → Type 0
 IsToldOf net vars steps cubes (Ste task) report =
-    IsReportOf net vars cubes task report ⊎ ((report ≡ budget_report task.name) × AreTooFew net vars steps task)
-IsToldOf net vars steps cubes (Gste task) report = ⊥
+    IsReportOf net vars cubes task report ⊎ ((report ≡ budget_report task.name) × AreTooFew net vars steps (Ste task))
+IsToldOf net vars steps cubes (Gste graph) report =
+    IsGraphReportOf net vars cubes graph report ⊎ ((report ≡ budget_report graph.name) × AreTooFew net vars steps (Gste graph))
 
 -- A report on tasks over a net whose nets have these own names, with so many steps for each: what is told of each task, in order, its
 -- text, and whether each verdict is pass.

@@ -23,7 +23,6 @@ use Rattle.ste_io.specs.Outside.{FilesState, Store}
 use Rattle.ste_program.specs.Check.{are_too_many}
 use Rattle.ste_program.specs.Command.{file_of, is_undone, net_file, second_file}
 use Rattle.ste_program.specs.Netlist.{IsLoop, IsNetlist, IsNetlistFault}
-use Rattle.ste_program.specs.Reading.{is_checked_so_far}
 use Rattle.ste_program.specs.Report.{IsReport, greatest, text_at}
 use Rattle.ste_program.specs.TaskFile.{AreTasks, IsTasksFault}
 use Rattle.ste_program.specs.declared.refusal.File.{File}
@@ -94,19 +93,12 @@ pub record HasTooManySteps (steps : Option ℕ) (task_text : List ℕ) (found : 
   pub spelled : AreTasks task_text raw
   pub many : are_too_many steps (length raw.tasks) ≡ true
 
--- the tasks are not of the kinds that are checked so far
-pub record IsUnchecked (task_text : List ℕ) (found : Refusal) : Type 0 where
-  pub is : found ≡ refusal.NotYet
-  pub raw : RawTasks
-  pub spelled : AreTasks task_text raw
-  pub unchecked : is_checked_so_far raw ≡ false
-
 -- The stages of a check's texts, in their order: the netlist's lines, the tasks' lines, the hierarchy, loops of gates, the tasks'
--- nodes and sizes, the steps, what is not checked so far.
+-- nodes and sizes, the steps.
 abbrev pub check_stages : Option ℕ → List ℕ → List ℕ → List (Refusal → Type 0)
 check_stages steps net_text task_text =
     is_faulty net_text ∷ has_faulty_tasks task_text ∷ has_faulty_hierarchy net_text ∷ has_loop net_text
-    ∷ is_unbound net_text task_text ∷ HasTooManySteps steps task_text ∷ IsUnchecked task_text ∷ []
+    ∷ is_unbound net_text task_text ∷ HasTooManySteps steps task_text ∷ []
 
 -- those of the text of `info`: the netlist's lines, the hierarchy, loops of gates
 abbrev pub info_stages : List ℕ → List (Refusal → Type 0)

@@ -1,28 +1,16 @@
 -- Meaning, and a law. The reading of two texts: the netlist that the one spells, its flat net, and over this net the tasks that
 -- the other spells. Source: this project's own choice.
-use Rattle.std.specs.Prelude.{◌≡◌, ℕ, Bool, true, false, List, length, map, IsTrue, Ok}
-use Rattle.std.specs.List.{list_all}
+use Rattle.std.specs.Prelude.{◌≡◌, ℕ, List, length, map, Ok}
 use Rattle.blif_syntax.specs.declared.models.Model.{Model}
 use Rattle.hierarchy.specs.Names.{net_named}
 use Rattle.hierarchy.specs.Nets.{nets}
 use Rattle.net_core.specs.declared.raw.RawNet.{RawNet}
-use Rattle.assert_syntax.specs.declared.tasks.RawTask.{RawTask}
-use Rattle.assert_syntax.specs.declared.tasks.RawTask.TheVariants.{Ste, Gste}
 use Rattle.assert_syntax.specs.declared.tasks.RawTasks.{RawTasks}
 use Rattle.ste_model.specs.declared.task.Tasks.{Tasks}
 use Rattle.ste_model.specs.Trees.{task_tree}
 use Rattle.task_binding.specs.Answer.{IsAnswer}
 use Rattle.ste_program.specs.Netlist.{IsFlattened}
 use Rattle.ste_program.specs.TaskFile.{AreTasks}
-
--- the task is an assertion, not a graph
-abbrev pub is_assertion : RawTask → Bool
-is_assertion (Ste line name reset ant con) = true
-is_assertion (Gste line name reset vertices edges) = false
-
--- what is checked so far: assertions alone
-abbrev pub is_checked_so_far : RawTasks → Bool
-is_checked_so_far raw = list_all is_assertion raw.tasks
 
 -- The reading of two texts: the models that the one spells, with their flat net; and the tasks that the other spells, over this
 -- net: each of their nodes names one of its nets. An expression is known by its tree.
@@ -31,7 +19,6 @@ pub record IsReading (net_text task_text : List ℕ) (models : List Model) (net 
   pub raw : RawTasks
   pub spelled : AreTasks task_text raw
   pub bound : IsAnswer (net_named models) (length (nets models)) raw (Ok tasks)
-  pub checked : IsTrue (is_checked_so_far raw)
 
 -- Law: two texts have one reading at most: one netlist, the same variables, and tasks that say the same.
 abbrev pub OneReading : Type 0

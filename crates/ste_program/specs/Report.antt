@@ -3,15 +3,14 @@ use Rattle.std.specs.Prelude.{◌≡◌, ◌≤◌, ◌⊎◌, ⊤, ℕ, Bool, t
 use Rattle.std.specs.FinMap.{get}
 use Rattle.std.specs.List.{AllZip}
 use Rattle.command_line.specs.Command.{Action, Command, bench, check, info, sim}
-use Rattle.ste_model.specs.declared.task.Assertion.{Assertion}
-use Rattle.ste_model.specs.declared.task.Task.TheVariants.{Ste}
+use Rattle.ste_model.specs.declared.task.Task.{Task}
 use Rattle.ste_model.specs.declared.report.Report.{Report as TaskReport}
 use Rattle.ste_model.specs.declared.run.Run.{Run}
 use Rattle.ste_model.specs.declared.verdict.Verdict.TheVariants.{Budget, Pass, Vacuous}
 use Rattle.ste_io.specs.Outside.{FilesState, Store}
 use Rattle.ste_program.specs.Check.{IsCheck}
 use Rattle.ste_program.specs.Command.{is_undone, net_file, second_file}
-use Rattle.ste_program.specs.Holds.{BreaksIn, HoldsOf}
+use Rattle.ste_program.specs.Holds.{BreaksTask, TaskHoldsOf}
 use Rattle.ste_program.specs.Info.{IsInfo}
 use Rattle.ste_program.specs.Simulated.{IsSimulated}
 
@@ -48,35 +47,37 @@ pub record IsReport (command : Option Command) (files : FilesState) (passes : Bo
   pub second_small : length second_text ≤ greatest
   pub written : IsWritten asked.action asked net_text second_text passes bytes
 
--- where a check says pass, or contradictory antecedent, of an assertion, the assertion holds
+-- where a check says pass, or contradictory antecedent, of a task, the task holds
 abbrev pub PassesHold : (action : Action) (asked : Command) (net_text second_text : List ℕ) (passes : Bool) (bytes : List ℕ) → IsWritten action asked net_text second_text passes bytes → Type 0
 PassesHold (check net tasks) asked net_text second_text passes bytes written =
-    (place : ℕ) (task : Assertion) (report : TaskReport) →
-    slice_get written.tasks.tasks place ≡ Some (Ste task) → slice_get written.report.reports place ≡ Some report →
-    (report.verdict ≡ Pass) ⊎ (report.verdict ≡ Vacuous) → HoldsOf written.models (length written.tasks.vars) task
+    (place : ℕ) (task : Task) (report : TaskReport) →
+    slice_get written.tasks.tasks place ≡ Some task → slice_get written.report.reports place ≡ Some report →
+    (report.verdict ≡ Pass) ⊎ (report.verdict ≡ Vacuous) → TaskHoldsOf written.models (length written.tasks.vars) task
 PassesHold (info net) asked net_text second_text passes bytes written = ⊤
 PassesHold (sim net inputs) asked net_text second_text passes bytes written = ⊤
 PassesHold (bench stages) asked net_text second_text passes bytes written = ⊤
 
--- Law: where a report says pass, or contradictory antecedent, of an assertion, the assertion holds of the hierarchy as it was
--- written: for every assignment, each two-valued run of its depth that meets the antecedent meets the consequent.
+-- Law: where a report says pass, or contradictory antecedent, of a task, the task holds of the hierarchy as it was written: for every
+-- assignment, each two-valued run of its depth that meets the antecedent meets the consequent; of a graph, along every finite path.
 abbrev pub PassHolds : Option Command → FilesState → Type 0
 PassHolds command files =
     (passes : Bool) (bytes : List ℕ) (report : IsReport command files passes bytes) →
     PassesHold report.asked.action report.asked report.net_text report.second_text passes bytes report.written
 
--- where a check tells a run of an assertion, the run breaks the assertion under the least assignment that is told
+-- where a check tells a run of a task, the run breaks the task under the least assignment that is told, a graph along the path that is
+-- told
 abbrev pub TheyBreak : (action : Action) (asked : Command) (net_text second_text : List ℕ) (passes : Bool) (bytes : List ℕ) → IsWritten action asked net_text second_text passes bytes → Type 0
 TheyBreak (check net tasks) asked net_text second_text passes bytes written =
-    (place : ℕ) (task : Assertion) (report : TaskReport) (run : Run) →
-    slice_get written.tasks.tasks place ≡ Some (Ste task) → slice_get written.report.reports place ≡ Some report → report.run ≡ Some run →
-    (bits : List Bool) × (report.least ≡ Some bits) × (length bits ≡ length written.tasks.vars) × BreaksIn written.models task bits run
+    (place : ℕ) (task : Task) (report : TaskReport) (run : Run) →
+    slice_get written.tasks.tasks place ≡ Some task → slice_get written.report.reports place ≡ Some report → report.run ≡ Some run →
+    (bits : List Bool) × (report.least ≡ Some bits) × (length bits ≡ length written.tasks.vars)
+    × BreaksTask written.models task bits report.path run
 TheyBreak (info net) asked net_text second_text passes bytes written = ⊤
 TheyBreak (sim net inputs) asked net_text second_text passes bytes written = ⊤
 TheyBreak (bench stages) asked net_text second_text passes bytes written = ⊤
 
--- Law: each run that a report tells is a run of the hierarchy as it was written, meets the antecedent of its assertion and breaks the
--- consequent, under the least assignment that is told.
+-- Law: each run that a report tells is a run of the hierarchy as it was written, meets the antecedent of its task and breaks the
+-- consequent, under the least assignment that is told; of a graph, along the path that is told.
 abbrev pub RunsBreak : Option Command → FilesState → Type 0
 RunsBreak command files =
     (passes : Bool) (bytes : List ℕ) (report : IsReport command files passes bytes) →

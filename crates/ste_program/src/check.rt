@@ -8,7 +8,6 @@ ghost use Rattle.net_core.specs.Cases.{cases_of};
 ghost use Rattle.task_binding.specs.Answer.{IsAnswer};
 ghost use Rattle.ste_program.specs.Check.{IsCheck, IsReportOn, are_too_many, is_pass, task_steps};
 ghost use Rattle.ste_program.specs.Order.{IsFirst, check_stages, has_faulty_tasks};
-ghost use Rattle.ste_program.specs.Reading.{is_assertion, is_checked_so_far};
 ghost use Rattle.ste_program.specs.Report.{greatest};
 ghost use Rattle.ste_program.specs.TaskFile.{AreTasks};
 ghost use Rattle.ste_program.specs.private.Made.{IsCheckable, IsNetOf, IsNotBound};
@@ -19,7 +18,7 @@ use crate::judging::{is_pass, reports_of};
 use crate::netlist::{FlatNet, models_of, net_of};
 use crate::refusal::Refusal;
 use crate::report::Written;
-use assert_syntax::{RawTask, RawTasks, read_tasks};
+use assert_syntax::{RawTasks, read_tasks};
 use blif_lines::logical_lines;
 use report_text::render;
 use std::alloc::{AllocError, Global};
@@ -27,7 +26,7 @@ use ste_model::{Report, Tasks};
 use sym_step::GateRows;
 use task_binding::bind_tasks;
 
-/// What is checked: a net with the names of its nets, and assertions over it.
+/// What is checked: a net with the names of its nets, and tasks over it.
 #[derive(Drop)]
 struct Prepared {
     flat: FlatNet,
@@ -81,27 +80,6 @@ fn are_too_many(steps: Option<u64>, tasks: usize) -> bool
     }
 }
 
-/// Whether a task is an assertion.
-fn is_assertion(task: &RawTask) -> bool
-    ensures { result ≡ is_assertion task.now }
-{
-    matches!(task, RawTask::Ste { .. })
-}
-
-/// Whether all tasks are assertions.
-fn are_assertions(tasks: &[RawTask]) -> bool
-    ensures { result ≡ list_all is_assertion tasks.now }
-{
-    tasks.iter().all(|task| is_assertion(task))
-}
-
-/// Whether the tasks are of the kinds that are checked so far.
-fn is_checked_so_far(raw: &RawTasks) -> bool
-    ensures { result ≡ is_checked_so_far raw.now }
-{
-    are_assertions(raw.tasks.as_slice())
-}
-
 /// What a check with these node steps of each task needs, from its texts; or why there is nothing to check.
 fn prepare(
     alloc: Global,
@@ -135,11 +113,7 @@ fn prepare(
     if are_too_many(steps, raw.tasks.len()) {
         return Err(Refusal::TooManySteps);
     }
-    if is_checked_so_far(&raw) {
-        Ok(Prepared { flat, tasks })
-    } else {
-        Err(Refusal::NotYet)
-    }
+    Ok(Prepared { flat, tasks })
 }
 
 /// The node steps of each of so many tasks.

@@ -1,16 +1,17 @@
 //! What is told of tasks; begin with `reports_of`.
 ghost use Rattle.std.specs.Prelude.{◌≡◌, ◌≤◌, All, IfOk, map};
 ghost use Rattle.std.specs.List.{AllZip};
-ghost use Rattle.ste_model.specs.declared.task.Task.TheVariants.{Ste};
+ghost use Rattle.ste_model.specs.declared.task.Task.TheVariants.{Gste, Ste};
 ghost use Rattle.sym_step.specs.Step.{rows_of};
 ghost use Rattle.ste_program.specs.Check.{IsToldOf, is_pass};
 ghost use Rattle.ste_program.specs.private.Made.{IsCheckable};
 
 use dd_nodes::PlainNodes;
+use gste_engine::check_graph;
 use net_core::Net;
 use std::alloc::{AllocError, Global};
 use ste_engine::check_ste;
-use ste_model::{Assertion, Report, Task, Verdict};
+use ste_model::{Assertion, Graph, Report, Task, Verdict};
 use sym_step::GateRows;
 
 /// Whether the verdict is pass.
@@ -40,6 +41,26 @@ fn assertion_report(
     check_ste(alloc, &mut nodes, net, rows, task, cubes)
 }
 
+/// What is told of an assertion graph over so many variables, with so many steps.
+fn graph_report(
+    alloc: Global,
+    net: &Net,
+    rows: &GateRows,
+    vars: u32,
+    steps: u32,
+    cubes: u32,
+    graph: &Graph,
+) -> Result<Report, AllocError>
+    requires rows { rows.now.covers ≡ map rows_of net.now.raw.covers }
+    requires checkable { IsCheckable net.now.raw.nets vars (Gste graph.now) }
+    requires steps { steps ≤ 16000000 }
+    ensures { IfOk result (λ report.
+        IsToldOf net.now.raw vars steps cubes (Gste graph.now) report) }
+{
+    let mut nodes = PlainNodes::new(alloc, vars, steps)?;
+    check_graph(alloc, &mut nodes, net, rows, graph, cubes)
+}
+
 /// What is told of a task over so many variables, with so many steps.
 fn report_of(
     alloc: Global,
@@ -57,8 +78,7 @@ fn report_of(
 {
     match task {
         Task::Ste(task) => assertion_report(alloc, net, rows, vars, steps, cubes, task),
-        // A task that is a graph is no task that is checked.
-        Task::Gste(_) => unreachable!(),
+        Task::Gste(graph) => graph_report(alloc, net, rows, vars, steps, cubes, graph),
     }
 }
 

@@ -1,6 +1,6 @@
 //! The order of refusals: texts with several faults are refused for the first by the stages.
 
-use crate::tests::{NOT_YET, expect};
+use crate::tests::expect;
 use std::process::Abort;
 use std::test::Fail;
 use ste_program::run::Status;
@@ -43,7 +43,6 @@ fn order_of_refusals(rt: HostRuntime) -> Result<(), Fail> {
         (LOOP, UNKNOWN_NODE, "stework: n: loop at y\n"),
         (LOOP, GRAPH, "stework: n: loop at y\n"),
         (WIDE, UNKNOWN_NODE, "stework: t:3: unknown node z\n"),
-        (WIDE, GRAPH, NOT_YET),
     ] {
         expect(&rt, alloc, net, tasks, Status::Refused, "", message)?;
     }

@@ -1,6 +1,6 @@
 //! Task files over small netlists: what is read of them, and each refusal with its line.
 
-use crate::tests::{INVERTER, INVERTS, LATCH, NOT_YET, expect};
+use crate::tests::{INVERTER, INVERTS, LATCH, expect};
 use std::alloc::{AllocError, Global};
 use std::process::Abort;
 use std::test::Fail;
@@ -127,6 +127,20 @@ fn task_files_that_are_refused(rt: HostRuntime) -> Result<(), Fail> {
     Ok(())
 }
 
+/// A graph that goes round: what goes in comes out.
+const LOOP: &str = ".vars p\n.gste loop i\n.edge i v\n.ant d = p\n.edge v v\n.ant d = p\n.con q = p\n.end\n";
+
+/// Two ways to a vertex, on which the latch takes different bits.
+const JOIN: &str =
+    ".gste g i\n.edge i v\n.ant d = 0\n.edge i v\n.ant d = 1\n.edge v w\n.con q = 1\n.end\n";
+
+/// A path along which the latch is said to invert.
+const ALONG: &str = ".vars p\n.gste g i\n.edge i v\n.ant d = p\n.edge v w\n.con q = !p\n.end\n";
+
+/// An edge that only one assignment can take.
+const ONCE: &str =
+    ".vars p\n.gste g i\n.edge i v\n.ant d = 0\n.ant d = p\n.edge v w\n.con q = 1\n.end\n";
+
 /// The report of an inverter that is said to copy.
 const STRONG: &str =
     "t1: strong failure\n  strong: 1\n  least: p=0\n  fails: y at 0\n  run:\n    a: 0\n    y: 1\n";
@@ -187,13 +201,42 @@ fn sizes_of_tasks(rt: HostRuntime) -> Result<(), Fail> {
 }
 
 #[test]
-fn what_is_not_checked_yet(rt: HostRuntime) -> Result<(), Fail> {
+fn assertion_graphs(rt: HostRuntime) -> Result<(), Fail> {
     let alloc = rt.alloc();
-    for (net, tasks) in [
-        (INVERTER, ".gste g v\n.end\n"),
-        (INVERTER, ".ste e\n.end\n.gste g v\n.end\n"),
+    for (net, tasks, status, out) in [
+        (
+            INVERTER,
+            ".ste e\n.end\n.gste g v\n.end\n",
+            Status::NotPassed,
+            "e: pass\ng: contradictory antecedent\n  contradictory: 1\n",
+        ),
+        (LATCH, LOOP, Status::Passed, "loop: pass\n"),
+        (
+            LATCH,
+            JOIN,
+            Status::NotPassed,
+            "g: weak failure\n  weak: 1\n  least:\n  path: 0 2\n  fails: q at 1\n",
+        ),
+        (
+            LATCH,
+            ALONG,
+            Status::NotPassed,
+            "g: strong failure\n  strong: 1\n  least: p=0\n  path: 0 1\n  fails: q at 1\n  run:\n    d: 00\n    q: 00\n",
+        ),
+        (
+            LATCH,
+            ONCE,
+            Status::NotPassed,
+            "g: strong failure\n  strong: !p\n  contradictory: p\n  least: p=0\n  path: 0 1\n  fails: q at 1\n  run:\n    d: 00\n    q: 00\n",
+        ),
+        (
+            LATCH,
+            ".gste g i reset\n.edge i i\n.ant d = 0\n.con q = 1\n.end\n",
+            Status::NotPassed,
+            "g: weak failure\n  weak: 1\n  least:\n  path: 0\n  fails: q at 0\n",
+        ),
     ] {
-        expect(&rt, alloc, net, tasks, Status::Refused, "", NOT_YET)?;
+        expect(&rt, alloc, net, tasks, status, out, "")?;
     }
     Ok(())
 }

@@ -1,5 +1,5 @@
 -- For private functions. What the steps to a report know of the texts.
-use Rattle.std.specs.Prelude.{◌≡◌, ◌≢◌, ◌<◌, ◌≤◌, ◌⊎◌, ◌++◌, ℕ, Bool, true, false, IsTrue, List, [], length, All, Option, Err}
+use Rattle.std.specs.Prelude.{◌≡◌, ◌≢◌, ◌<◌, ◌≤◌, ◌⊎◌, ◌∷◌, ◌++◌, ℕ, Bool, true, false, IsTrue, List, [], length, All, Option, Err}
 use Rattle.blif_syntax.specs.declared.models.Model.{Model}
 use Rattle.command_line.specs.Command.{Command}
 use Rattle.hierarchy.specs.Faults.{IsFree, IsRefusal}
@@ -14,9 +14,13 @@ use Rattle.net_core.specs.declared.raw.RawNet.{RawNet}
 use Rattle.net_names.specs.Names.{AreNamesOf}
 use Rattle.net_names.specs.declared.names.NetNames.{NetNames}
 use Rattle.assert_syntax.specs.declared.tasks.RawTasks.{RawTasks}
+use Rattle.ste_model.specs.declared.task.Bind.{Bind}
+use Rattle.ste_model.specs.declared.task.Edge.{Edge}
+use Rattle.ste_model.specs.declared.task.Graph.{Graph}
 use Rattle.ste_model.specs.declared.task.Quint.{Quint}
 use Rattle.ste_model.specs.declared.task.Task.{Task}
 use Rattle.ste_model.specs.declared.task.Task.TheVariants.{Ste, Gste}
+use Rattle.ste_model.specs.GraphNeed.{BindsReadBelow}
 use Rattle.ste_model.specs.Need.{ReadBelow}
 use Rattle.task_binding.specs.Answer.{IsAnswer}
 use Rattle.task_binding.specs.declared.fault.BindFault.{BindFault}
@@ -50,19 +54,39 @@ IsNotBound models raw found =
     (fault : BindFault) × (found ≡ refusal.Binding fault) × (fault ≢ bind.OutOfMemory)
     × IsAnswer (net_named models) (length (nets models)) raw (Err fault)
 
--- the task is an assertion
-abbrev pub is_ste : Task → Bool
-is_ste (Ste task) = true
-is_ste (Gste task) = false
+-- the bindings name nets below this number
+abbrev pub AreBindsIn : ℕ → List Bind → Type 0
+AreBindsIn nets binds = All (λ bind. bind.node.0 < nets) binds
+
+-- an edge lies between two of so many vertices
+abbrev pub IsBetween : ℕ → Edge → Type 0
+IsBetween vertices edge = (edge.from < vertices) × (edge.to < vertices)
+
+-- the bindings of an edge name nets, and read variables, below these numbers
+abbrev pub IsEdgeFit : ℕ → ℕ → Edge → Type 0
+IsEdgeFit nets vars edge =
+    AreBindsIn nets edge.ant × AreBindsIn nets edge.con × BindsReadBelow vars edge.ant × BindsReadBelow vars edge.con
+
+-- a graph has a vertex, and each of its edges lies between its vertices, and is fit
+abbrev pub IsGraphFit : ℕ → ℕ → Graph → Type 0
+IsGraphFit nets vars graph =
+    (0 < length graph.vertices) × All (IsBetween (length graph.vertices)) graph.edges
+    × All (IsEdgeFit nets vars) graph.edges
 
 -- the quintuples of an assertion; a graph has none
 abbrev pub quints_in : Task → List Quint
 quints_in (Ste task) = task.ant ++ task.con
-quints_in (Gste task) = []
+quints_in (Gste graph) = []
 
--- the task is an assertion that speaks of nets and variables below these numbers
+-- the graph that a task is; an assertion is none
+abbrev pub graphs_in : Task → List Graph
+graphs_in (Ste task) = []
+graphs_in (Gste graph) = graph ∷ []
+
+-- the task may be checked: what it names there is, over nets and variables below these numbers
 abbrev pub IsCheckable : ℕ → ℕ → Task → Type 0
-IsCheckable nets vars task = IsTrue (is_ste task) × All (λ quint. quint.node.0 < nets) (quints_in task) × ReadBelow vars (quints_in task)
+IsCheckable nets vars task =
+    All (λ quint. quint.node.0 < nets) (quints_in task) × ReadBelow vars (quints_in task) × All (IsGraphFit nets vars) (graphs_in task)
 
 -- the report that a command asks for, with what its files were asked for
 pub record IsMade (command : Option Command) (files files' : FilesState) (passes : Bool) (bytes : List ℕ) : Type 0 where

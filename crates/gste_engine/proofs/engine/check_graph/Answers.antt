@@ -1,4 +1,4 @@
-use Rattle.std.proofs.Common.{◌≡◌, ◌≢◌, Contains, sym, ◌∙◌, ap, subst, Err}
+use Rattle.std.proofs.Common.{◌≡◌, ◌≢◌, List, length, Contains, sym, ◌∙◌, ap, subst, Err}
 use Rattle.std.proofs.lemmas.Result.{IfOk-weaker}
 use Rattle.dd_nodes.specs.Stores.{Store}
 use Rattle.dd_nodes.proofs.Spending.{Spends-out}
@@ -18,7 +18,8 @@ use Rattle.ste_model.proofs.GraphNeeds.{one_graph_need}
 use Rattle.ste_engine.proofs.Kept.{held_cofactor}
 use Rattle.ste_engine.proofs.PlaceTurns.{spends_same}
 use Rattle.gste_engine.specs.Engine.{IsGraphBudget, IsGraphKept}
-use Rattle.gste_engine.specs.Tables.{AreConsequentsOver, IsGraphOver}
+use Rattle.gste_engine.specs.declared.state.State.{State}
+use Rattle.gste_engine.specs.Tables.{AreConsequentsOver, HasStates, IsGraphOver}
 use Rattle.gste_engine.proofs.Reporting.{graph_results_tell, graph_short}
 use Rattle.gste_engine.proofs.engine.check_graph.Goals as goal
 
@@ -53,7 +54,7 @@ report_of-requires-clause-table g c =
     let settled : IsSettled net = settled_by_order net c.args.net.now.settled c.args.net.now.in_order in
     let w = (one_graph_need.some net s.vars graph settled).1 in
     let b = c.in-Ok.ensures w.0 w.1 w.2 in
-    record { tables = w.0; sets = w.1; whole = subst (λ v. AreWholeRounds net v graph w.0 w.1) (sym b.spends.keeps.vars) w.2; has = b.ok.states }
+    record { tables = w.0; sets = w.1; whole = subst (λ v. AreWholeRounds net v graph w.0 w.1) (sym b.spends.keeps.vars) w.2; has = subst (λ (states : List State). HasStates (w.0 (enough net graph)) (length graph.vertices) t states) (sym c.as_slice.ensures) b.ok.states }
 
 pub report_of-requires-clause-told : goal.report_of-requires-clause-told
 report_of-requires-clause-told g c =

@@ -1,5 +1,4 @@
-use Rattle.std.proofs.Common.{◌≡◌, ◌<◌, ◌≤◌, ◌-◌, ℕ, List, All, length, get_or, None, Some, sym, ◌∙◌, ap, subst, arith}
-use Rattle.std.specs.Prelude.{slice_get}
+use Rattle.std.proofs.Common.{◌≡◌, ◌<◌, List, All, length, None, Some, sym, ◌∙◌, subst, arith}
 use Rattle.dd_nodes.specs.Stores.{Store}
 use Rattle.graph_path.specs.declared.hop.Hop.{Hop}
 use Rattle.graph_path.specs.Routes.{IsPathOf}
@@ -9,7 +8,6 @@ use Rattle.ste_engine.specs.private.Places.{FailsBy}
 use Rattle.ste_model.specs.declared.task.Edge.{Edge}
 use Rattle.ste_model.specs.declared.task.Graph.{Graph}
 use Rattle.ste_model.specs.GraphHops.{AreEdgeHops, IsEdgeHop}
-use Rattle.ste_model.specs.GraphShown.{IsShownPath}
 use Rattle.gste_engine.specs.declared.state.State.{State}
 use Rattle.gste_engine.specs.private.Taken.{table_at}
 use Rattle.gste_engine.proofs.GraphPlaces.{candidate_by, hops_lead, last_states, least_closed, shown_by, table_refs}

@@ -1,16 +1,14 @@
-use Rattle.std.proofs.Common.{◌≡◌, ◌<◌, ◌+◌, ℕ, List, All, length, get_or, take, sym, ◌∙◌, subst, arith, ap}
-use Rattle.std.specs.List.{AllZip}
+use Rattle.std.proofs.Common.{◌≡◌, ◌<◌, List, All, length, get_or, sym, ◌∙◌, subst, arith, ap}
 use Rattle.std.proofs.lemmas.List.{take_all}
 use Rattle.dd_nodes.specs.Stores.{Store}
 use Rattle.graph_path.specs.declared.hop.Hop.{Hop}
 use Rattle.net_core.specs.declared.raw.RawNet.{RawNet}
-use Rattle.ste_engine.specs.private.Places.{FailsBy, MakesNothing}
+use Rattle.ste_engine.specs.private.Places.{FailsBy}
 use Rattle.ste_engine.proofs.PlaceTurns.{nothing_more}
 use Rattle.ste_model.specs.declared.task.Edge.{Edge}
 use Rattle.ste_model.specs.GraphHops.{AreEdgeHops, IsEdgeHop}
-use Rattle.ste_model.specs.GraphWork.{SymbolicState}
 use Rattle.gste_engine.specs.declared.state.State.{State}
-use Rattle.gste_engine.specs.Tables.{HasStates, IsEdgeOver}
+use Rattle.gste_engine.specs.Tables.{IsEdgeOver}
 use Rattle.gste_engine.specs.private.Taken.{table_at}
 use Rattle.gste_engine.proofs.EdgeHops.{more_hops, source_is}
 use Rattle.gste_engine.proofs.hops.hops_of.Goals as goal
@@ -53,8 +51,7 @@ loop-k-preserved g c =
       so = λ states has.
           let R : Edge → Hop → Type 0 = IsEdgeHop (FailsBy c.args.failure) net bits (table_at bits states) in
           let one : R edge hop = c.in_ok-hop.ensures.hop states (source_is s t gs gt p.same states (length c.args.graph.now.vertices) table has edge.from source inside c.index-table-edge.is) in
-          subst (λ (hs : List Hop). AllZip R (take (k + 1) edges) hs) (sym c.in_ok-push.ensures.items)
-          (more_hops R edges c.loop-k.hops.items k edge hop lt is (p.so states has) one);
+          more_hops R edges c.loop-k.hops.items c.push.new.self.items k edge hop lt is c.in_ok-push.ensures.items (p.so states has) one;
     }
 
 pub returns-clause-hops : goal.returns-clause-hops

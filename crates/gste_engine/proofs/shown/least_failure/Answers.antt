@@ -1,4 +1,4 @@
-use Rattle.std.proofs.Common.{◌≡◌, ℕ, Bool, List, Some, sym, ◌∙◌, ap, subst}
+use Rattle.std.proofs.Common.{ℕ, Bool, List, sym, ap, subst}
 use Rattle.std.specs.Prelude.{IsTrue}
 use Rattle.dd_nodes.specs.Stores.{Store, function}
 use Rattle.net_core.specs.declared.raw.RawNet.{RawNet}

@@ -2,7 +2,6 @@ use Rattle.std.proofs.Common.{◌≡◌, false, true, List, All, refl, sym, subs
 use Rattle.net_core.specs.declared.raw.RawNet.{RawNet}
 use Rattle.net_core.specs.Run.{IsUndriven}
 use Rattle.ste_model.specs.declared.task.Edge.{Edge}
-use Rattle.ste_model.specs.declared.task.Graph.{Graph}
 use Rattle.gste_engine.proofs.FailureShows.{numbered, run_is_due}
 use Rattle.gste_engine.proofs.shown.run_due.Goals as goal
 

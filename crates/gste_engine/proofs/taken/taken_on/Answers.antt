@@ -9,14 +9,13 @@ use Rattle.dual_rail.specs.Rail.{set_of}
 use Rattle.net_core.specs.declared.raw.RawNet.{RawNet}
 use Rattle.net_core.proofs.Possible.{one_possible}
 use Rattle.ste_base.specs.declared.id.NodeId.{NodeId}
-use Rattle.ste_model.specs.declared.task.Bind.{Bind}
 use Rattle.ste_model.specs.declared.task.Edge.{Edge}
 use Rattle.ste_model.specs.Edges.{asked_on}
 use Rattle.sym_step.specs.declared.cut.Cut.{Cut}
 use Rattle.ste_engine.specs.private.Places.{first_failing}
 use Rattle.gste_engine.specs.private.Taken.{IsStepOn, fixed_bind}
 use Rattle.gste_engine.proofs.EdgeFails.{contradicted, is_taken, some_sets}
-use Rattle.gste_engine.proofs.FixedSteps.{nodes_inside}
+use Rattle.gste_engine.proofs.FixedSteps.{cuts_as, nodes_inside}
 use Rattle.gste_engine.proofs.taken.taken_on.Goals as goal
 
 pub returns-then-eq-clause-taken : goal.returns-then-eq-clause-taken
@@ -50,7 +49,7 @@ first_failing-first-requires g c =
     let vars : t.vars ≡ s.vars = told.same.keeps.vars ∙ ap (λ (x : Store). x.vars) c.eval.ensures.store in
     let known = one_possible.some net (map (set_of s bits) source.latches) (asked_on edge bits) c.settles.ensures (length-map source.latches (set_of s bits) ∙ c.requires.source.long) in
     let n : length c.as_slice-2.result.now ≡ net.nets = ap (λ (xs : List Rails). length xs) c.as_slice-2.ensures ∙ (step known.0 known.1).long in
-    let wanted : c.as_slice-3.result.now ≡ map (fixed_bind bits) edge.con = c.as_slice-3.ensures.value ∙ (c.in_ok-wanted.ensures ∙ ap (λ (xs : List Bind). map (fixed_bind bits) xs) c.as_slice.ensures) in
+    let wanted : c.as_slice-3.result.now ≡ map (fixed_bind bits) edge.con = cuts_as bits c.as_slice-3.result.now c.in_ok-wanted.wanted.items c.as_slice.result.now edge.con c.as_slice-3.ensures.value c.in_ok-wanted.ensures c.as_slice.ensures in
     subst (λ (cs : List Cut). All (λ cut. cut.node.0 < length c.as_slice-2.result.now) cs) (sym wanted)
     (nodes_inside (length c.as_slice-2.result.now) bits edge.con (subst (λ k. All (λ bind. bind.node.0 < k) edge.con) (sym n) c.requires.con))
 
@@ -70,6 +69,6 @@ returns-clause-taken g c = λ states is.
     let known = some_sets c.args.failure net c.settles.ensures bits states edge s t source c.requires.long is c.requires.source.long in
     let reached : function s source.reached bits ≡ true = sym c.eval.ensures.value ∙ c.if-not-eval.false in
     let other = eqb-false _ _ (sym c.eq.ensures ∙ c.if-eq.false) in
-    let wanted : c.as_slice-3.result.now ≡ map (fixed_bind bits) edge.con = c.as_slice-3.ensures.value ∙ (c.in_ok-wanted.ensures ∙ ap (λ (xs : List Bind). map (fixed_bind bits) xs) c.as_slice.ensures) in
+    let wanted : c.as_slice-3.result.now ≡ map (fixed_bind bits) edge.con = cuts_as bits c.as_slice-3.result.now c.in_ok-wanted.wanted.items c.as_slice.result.now edge.con c.as_slice-3.ensures.value c.in_ok-wanted.ensures c.as_slice.ensures in
     let first = c.first_failing-first.ensures ∙ (ap (λ (xs : List Rails). first_failing c.args.failure xs c.as_slice-3.result.now) c.as_slice-2.ensures ∙ ap (λ (xs : List Cut). first_failing c.args.failure made.nets xs) wanted) in
     is_taken c.args.failure net c.settles.ensures bits states edge s t source c.requires.long is gt vars made step reached (λ e. other (ap (λ (r : Ref). r.0) e)) known _ c.requires.con (ap (λ (o : Option NodeId). record { feasible = true; first = o }) first)

@@ -3,9 +3,9 @@ use Rattle.std.proofs.lemmas.List.{length-map}
 use Rattle.hierarchy.specs.Names.{own_name}
 use Rattle.hierarchy.specs.Nets.{nets}
 use Rattle.ste_program.specs.Check.{are_too_many}
-use Rattle.ste_program.proofs.Declared.{quints_declared}
+use Rattle.ste_program.proofs.TasksDeclared.{tasks_declared}
 use Rattle.ste_program.proofs.TaskLists.{few_vars, promised, some_tasks}
-use Rattle.ste_program.proofs.TextStages.{check_net_fails, is_prepared, kinds_fail, netlist_text_fails, steps_fail, tasks_fail, unbound_fails}
+use Rattle.ste_program.proofs.TextStages.{check_net_fails, is_prepared, netlist_text_fails, steps_fail, tasks_fail, unbound_fails}
 use Rattle.ste_program.proofs.check.prepare.Goals as goal
 
 pub returns-in-Err : goal.returns-in-Err
@@ -37,29 +37,19 @@ invariant_of-result c =
     let raw = c.in-Ok-tasks_of.raw in
     let tasks = c.in-Ok-bound.tasks in
     let bound = c.in-Ok-bound.ensures models n in
-    let checked = sym c.is_checked_so_far.ensures ∙ c.if-is_checked_so_far.true in
-    let declared = quints_declared models c.args.task_text.items raw tasks c.in-Ok-tasks_of.ensures bound in
+    let declared = tasks_declared models c.args.task_text.items raw tasks c.in-Ok-tasks_of.ensures bound in
     record {
       named = ap (λ (own : List (List ℕ)). length own) n.named.own_known ∙ length-map (nets models) own_name ∙ sym n.flat.nets;
       inputs = n.inputs;
       cases = n.cases;
-      checkable = promised models raw c.in-Ok-net_of.flat.net.raw tasks n.flat bound checked declared;
+      checkable = promised models raw c.in-Ok-net_of.flat.net.raw tasks n.flat bound declared;
       some = some_tasks models c.args.task_text.items raw tasks c.in-Ok-tasks_of.ensures bound;
       few = few_vars models raw tasks raw.declared bound;
     }
 
-pub returns-then-is_checked_so_far : goal.returns-then-is_checked_so_far
-returns-then-is_checked_so_far c =
+pub returns : goal.returns
+returns c =
     let n = c.in-Ok-net_of.ensures in
     is_prepared c.args.steps c.args.net_text.items c.args.task_text.items c.in-Ok.models.models c.in-Ok.ensures.0 c.in-Ok-tasks_of.raw c.in-Ok-tasks_of.ensures
     c.in-Ok-net_of.flat.net.raw c.in-Ok-net_of.flat.names n c.in-Ok-bound.tasks (c.in-Ok-bound.ensures c.in-Ok.models.models n)
     (sym (ap (are_too_many c.args.steps) c.len.ensures) ∙ (sym c.are_too_many.ensures ∙ c.if-are_too_many.false))
-    (sym c.is_checked_so_far.ensures ∙ c.if-is_checked_so_far.true)
-
-pub returns : goal.returns
-returns c =
-    let n = c.in-Ok-net_of.ensures in
-    kinds_fail c.args.steps c.args.net_text.items c.args.task_text.items c.in-Ok.models.models c.in-Ok.ensures.0 c.in-Ok-tasks_of.raw c.in-Ok-tasks_of.ensures
-    c.in-Ok-net_of.flat.net.raw c.in-Ok-net_of.flat.names n c.in-Ok-bound.tasks (c.in-Ok-bound.ensures c.in-Ok.models.models n)
-    (sym (ap (are_too_many c.args.steps) c.len.ensures) ∙ (sym c.are_too_many.ensures ∙ c.if-are_too_many.false))
-    (sym c.is_checked_so_far.ensures ∙ c.if-is_checked_so_far.false)

@@ -1,5 +1,12 @@
+use Rattle.std.proofs.Common.{subst, sym}
+use Rattle.ste_model.specs.declared.task.Task.{Task}
+use Rattle.ste_program.specs.private.Made.{IsCheckable}
 use Rattle.ste_program.proofs.TaskLists.{told_all, told_more}
 use Rattle.ste_program.proofs.judging.reports_of.Goals as goal
+
+pub report_of-requires-clause-checkable : goal.report_of-requires-clause-checkable
+report_of-requires-clause-checkable c =
+    subst (λ (task : Task). IsCheckable c.args.net.now.raw.nets c.args.vars task) (sym c.task-item.is) (c.requires.checkable c.loop-task.task-index c.task-item.result c.loop-task-test.true)
 
 pub loop-task-preserved : goal.loop-task-preserved
 loop-task-preserved c =

@@ -1,0 +1,6 @@
+//! The texts of a pipeline, made from a number of stages; begin with `pipeline`.
+#![tactic(auto)]
+
+pub mod texts;
+
+pub use texts::pipeline;
