@@ -6,8 +6,7 @@ ghost use Rattle.net_core.specs.Flat.{HasOneDriver, IsInRange};
 ghost use Rattle.sym_step.specs.Step.{rows_of};
 ghost use Rattle.ste_model.specs.Expressions.{reads};
 ghost use Rattle.ste_model.specs.GraphNeed.{BindsReadBelow};
-ghost use Rattle.plain_check.specs.private.States.{IsGraphOver as IsPlainGraphOver};
-ghost use Rattle.gste_engine.specs.Tables.{AreConsequentsOver, AreEdgesOver, IsEdgeOver, IsGraphOver};
+ghost use Rattle.gste_engine_tests.specs.private.Cases.{IsCase, IsCaseEdge};
 
 use bool_expr::Expr;
 use dd_nodes::{Nodes, PlainNodes};
@@ -17,7 +16,7 @@ use plain_check::{GraphFound, Outcome, Shown, check_graph as check_plainly};
 use std::alloc::{AllocError, Global};
 use std::test::Fail;
 use ste_base::{Items, Name, NodeId, VarId};
-use ste_model::{Bind, CubeList, Edge, Graph, Report, Verdict};
+use ste_model::{Bind, CubeList, Edge, Graph, Report, Verdict, are_edges_free};
 use sym_step::GateRows;
 
 /// An expression over one variable p.
@@ -136,12 +135,7 @@ fn binds_of(alloc: Global, asked: &[Asked]) -> Result<Items<Bind>, Fail>
 
 /// An edge between so many vertices.
 fn edge_of(alloc: Global, vertices: u32, case: &EdgeCase) -> Result<Edge, Fail>
-    ensures from { IfOk result (λ edge. edge.from < vertices) }
-    ensures to { IfOk result (λ edge. edge.to < vertices) }
-    ensures nets { IfOk result (λ edge. All (λ bind. bind.node.0 < 2) edge.ant) }
-    ensures reads { IfOk result (λ edge. BindsReadBelow 1 edge.ant) }
-    ensures claims { IfOk result (λ edge. All (λ bind. bind.node.0 < 2) edge.con
-        × BindsReadBelow 1 edge.con) }
+    ensures { IfOk result (λ edge. IsCaseEdge vertices edge) }
 {
     let (from, to, ant, con) = case;
     if *from >= vertices || *to >= vertices {
@@ -159,13 +153,7 @@ fn edge_of(alloc: Global, vertices: u32, case: &EdgeCase) -> Result<Edge, Fail>
 
 /// The edges of a graph of so many vertices.
 fn edges_of(alloc: Global, vertices: u32, cases: &[EdgeCase]) -> Result<Items<Edge>, Fail>
-    ensures from { IfOk result (λ edges. All (λ edge. edge.from < vertices) edges) }
-    ensures to { IfOk result (λ edges. All (λ edge. edge.to < vertices) edges) }
-    ensures nets { IfOk result (λ edges.
-        All (λ edge. All (λ bind. bind.node.0 < 2) edge.ant) edges) }
-    ensures reads { IfOk result (λ edges. All (λ edge. BindsReadBelow 1 edge.ant) edges) }
-    ensures claims { IfOk result (λ edges. All (λ edge. All (λ bind. bind.node.0 < 2) edge.con
-        × BindsReadBelow 1 edge.con) edges) }
+    ensures { IfOk result (λ edges. All (IsCaseEdge vertices) edges) }
 {
     let mut edges = Items::new(alloc);
     for case in cases {
@@ -193,9 +181,7 @@ fn graph_of(
     vertices: u32,
     cases: &[EdgeCase],
 ) -> Result<Graph, Fail>
-    ensures graph { IfOk result (λ graph. IsGraphOver ready.now.net.raw 1 graph) }
-    ensures claims { IfOk result (λ graph. AreConsequentsOver ready.now.net.raw 1 graph) }
-    ensures plain { IfOk result (λ graph. IsPlainGraphOver ready.now.net.raw graph) }
+    ensures { IfOk result (λ graph. IsCase ready.now.net.raw graph) }
 {
     let _ = ready;
     if vertices == 0 {
@@ -219,8 +205,7 @@ fn report_of(
     steps: u32,
 ) -> Result<(Report, u32), AllocError>
     requires steps { steps ≤ 1000 }
-    requires graph { IsGraphOver ready.now.net.raw 1 graph.now }
-    requires claims { AreConsequentsOver ready.now.net.raw 1 graph.now }
+    requires graph { IsCase ready.now.net.raw graph.now }
 {
     let mut nodes = PlainNodes::new(alloc, 1, steps)?;
     let report = check_graph(alloc, &mut nodes, &ready.net, &ready.rows, graph, 8)?;
@@ -301,39 +286,45 @@ fn is_shown(report: &Report, graph: &Graph, bit: bool, found: &GraphFound) -> bo
         && net_shown(graph, shown) == Some(node)
 }
 
-/// Whether a report shows what is found with p = 0 and with p = 1.
-fn shows(report: &Report, graph: &Graph, zero: &GraphFound, one: &GraphFound) -> bool {
-    match report.verdict {
-        Verdict::Strong => {
-            if zero.outcome.is_strong() {
-                is_shown(report, graph, false, zero)
-            } else {
-                is_shown(report, graph, true, one)
-            }
-        }
-        Verdict::Weak => {
-            if zero.outcome.is_weak() {
-                is_shown(report, graph, false, zero)
-            } else {
-                is_shown(report, graph, true, one)
-            }
-        }
-        _ => report.least.is_none() && report.fails.is_none() && report.path.len() == 0,
+/// Whether an assignment is found as the verdict says.
+fn is_found(verdict: Verdict, found: &GraphFound) -> bool {
+    match verdict {
+        Verdict::Strong => found.outcome.is_strong(),
+        Verdict::Weak => found.outcome.is_weak(),
+        _ => false,
     }
+}
+
+/// Whether a report shows what is found with p = 0 and with p = 1, by the least of them that is as its verdict says.
+fn shows(report: &Report, graph: &Graph, zero: &GraphFound, one: &GraphFound) -> bool {
+    if is_found(report.verdict, zero) {
+        return is_shown(report, graph, false, zero);
+    }
+    if is_found(report.verdict, one) {
+        return is_shown(report, graph, true, one);
+    }
+    report.least.is_none() && report.fails.is_none() && report.path.len() == 0
+}
+
+/// Whether a report has a run just where one is due.
+fn has_run(report: &Report, net: &Net, graph: &Graph) -> bool
+    requires { IsCase net.now.raw graph.now }
+{
+    let is_free = are_edges_free(net, graph.edges.as_slice());
+    report.run.is_some() == (report.verdict == Verdict::Strong && is_free)
 }
 
 /// The report of a graph, and whether it is that of what is found with p = 0 and with p = 1.
 fn compared(alloc: Global, ready: &Ready, graph: &Graph) -> Result<(Report, bool), AllocError>
-    requires graph { IsGraphOver ready.now.net.raw 1 graph.now }
-    requires claims { AreConsequentsOver ready.now.net.raw 1 graph.now }
-    requires plain { IsPlainGraphOver ready.now.net.raw graph.now }
+    requires { IsCase ready.now.net.raw graph.now }
 {
     let (report, _) = report_of(alloc, ready, graph, 1000)?;
     let zero = check_plainly(alloc, &ready.net, graph, &[false])?;
     let one = check_plainly(alloc, &ready.net, graph, &[true])?;
     let alike = report.verdict == verdict_of(zero.outcome, one.outcome)
         && has_lists(&report, zero.outcome, one.outcome)
-        && shows(&report, graph, &zero, &one);
+        && shows(&report, graph, &zero, &one)
+        && has_run(&report, &ready.net, graph);
     Ok((report, alike))
 }
 
@@ -349,7 +340,7 @@ fn edge_case(ends: u32, kind: u64) -> Result<EdgeCase, Fail> {
 }
 
 /// How many ways there are to choose the ends of four edges on three vertices.
-const ENDS: u32 = 300;
+const ENDS: u32 = 6561;
 
 /// How many ways there are to choose what is given on four edges and what has to follow, with reset and without.
 const KINDS: u64 = 663552;
@@ -359,12 +350,10 @@ const TURNS: u32 = 1;
 
 /// The graph of a choice of ends, with a choice of kinds that varies with it.
 fn graph_by(alloc: Global, ready: &Ready, ends: u32, turn: u32) -> Result<Graph, Fail>
-    ensures graph { IfOk result (λ graph. IsGraphOver ready.now.net.raw 1 graph) }
-    ensures claims { IfOk result (λ graph. AreConsequentsOver ready.now.net.raw 1 graph) }
-    ensures plain { IfOk result (λ graph. IsPlainGraphOver ready.now.net.raw graph) }
+    ensures { IfOk result (λ graph. IsCase ready.now.net.raw graph) }
 {
-    let seed = ends as u64 * 4 + turn as u64;
-    let kinds = seed * 2654435761 % 4294967296 * KINDS / 4294967296;
+    let seed = ends.wrapping_mul(4).wrapping_add(turn);
+    let kinds = seed.wrapping_mul(2654435761) as u64 * KINDS / 4294967296;
     let cases = [
         edge_case(ends, kinds)?,
         edge_case(ends / 9, kinds / 24)?,
@@ -374,15 +363,116 @@ fn graph_by(alloc: Global, ready: &Ready, ends: u32, turn: u32) -> Result<Graph,
     graph_of(alloc, ready, kinds / 331776 == 1, 3, &cases)
 }
 
+/// The place of a verdict among four.
+fn place_of(verdict: Verdict) -> usize
+    ensures { result < 4 }
+{
+    match verdict {
+        Verdict::Pass => 0,
+        Verdict::Weak => 1,
+        Verdict::Strong => 2,
+        _ => 3,
+    }
+}
+
 #[test]
 fn graphs_of_four_edges(rt: HostRuntime) -> Result<(), Fail> {
     let alloc = rt.alloc();
     let ready = lat(alloc)?;
+    let mut met = [0u32; 4];
     for turn in 0..TURNS {
         for ends in 0..ENDS {
             let graph = graph_by(alloc, &ready, ends, turn)?;
             let (report, alike) = compared(alloc, &ready, &graph)?;
-            assert!(rt; alike, "{ends} {turn}: {graph:?}: {report:?}");
+            assert!(rt; alike, "{graph:?}: {report:?}");
+            let place = place_of(report.verdict);
+            met[place] = met[place].saturating_add(1);
+        }
+    }
+    assert!(rt; met.iter().all(|count| *count >= 100), "{met:?}");
+    Ok(())
+}
+
+/// A chain of so many vertices: d has p on each edge, and on the last one q has to be the opposite.
+fn chain(alloc: Global, vertices: u32) -> Result<Vec<EdgeCase>, AllocError> {
+    let mut cases: Vec<EdgeCase> = Vec::new(alloc);
+    for k in 1..vertices {
+        let claim: &[Asked] = if k == vertices - 1 {
+            &[(Q, Value::One, Value::NotP)]
+        } else {
+            &[]
+        };
+        cases.push((k - 1, k, &[(D, Value::One, Value::P)], claim))?;
+    }
+    Ok(cases)
+}
+
+#[test]
+fn a_chain_of_a_thousand_vertices(rt: HostRuntime) -> Result<(), Fail> {
+    let alloc = rt.alloc();
+    let ready = lat(alloc)?;
+    let cases = chain(alloc, 1000)?;
+    let graph = graph_of(alloc, &ready, false, 1000, &cases)?;
+    let (report, _) = report_of(alloc, &ready, &graph, 1000)?;
+    assert_eq!(rt; report.verdict, Verdict::Strong);
+    assert_eq!(rt; report.path.len(), 999);
+    let path = report.path.as_slice();
+    assert!(rt; path.iter().zip(0u32..999).all(|(number, k)| *number == k));
+    assert!(rt; report.fails == Some((NodeId(Q), 998)));
+    assert!(rt; has_cubes(&report.guards.strong, true, true));
+    Ok(())
+}
+
+/// So many edges from vertex 0 to vertex 1, on which d has 0 and 1 in turn, and one on which q has to be 1.
+fn parallel(alloc: Global, edges: u32) -> Result<Vec<EdgeCase>, AllocError> {
+    let mut cases: Vec<EdgeCase> = Vec::new(alloc);
+    for k in 0..edges {
+        let given: &[Asked] = if k % 2 == 0 {
+            &[(D, Value::One, Value::Zero)]
+        } else {
+            &[(D, Value::One, Value::One)]
+        };
+        cases.push((0, 1, given, &[]))?;
+    }
+    cases.push((1, 2, &[], &[(Q, Value::One, Value::One)]))?;
+    Ok(cases)
+}
+
+#[test]
+fn ten_thousand_parallel_edges(rt: HostRuntime) -> Result<(), Fail> {
+    let alloc = rt.alloc();
+    let ready = lat(alloc)?;
+    let cases = parallel(alloc, 10000)?;
+    let graph = graph_of(alloc, &ready, false, 3, &cases)?;
+    let (report, _) = report_of(alloc, &ready, &graph, 1000)?;
+    assert_eq!(rt; report.verdict, Verdict::Weak);
+    assert_eq!(rt; report.path.as_slice(), [0, 10000].as_slice());
+    assert!(rt; report.fails == Some((NodeId(Q), 1)));
+    assert!(rt; has_cubes(&report.guards.weak, true, true));
+    Ok(())
+}
+
+/// How many steps the chain of three vertices needs: one for p and one for its opposite.
+const NEED: u32 = 2;
+
+/// With as many steps as are needed, and with more, a graph has its verdict; with fewer it has its verdict, or it has used
+/// all of them.
+#[test]
+fn steps_at_the_need_suffice(rt: HostRuntime) -> Result<(), Fail> {
+    let alloc = rt.alloc();
+    let ready = lat(alloc)?;
+    let cases = chain(alloc, 3)?;
+    let graph = graph_of(alloc, &ready, false, 3, &cases)?;
+    let (none, _) = report_of(alloc, &ready, &graph, 0)?;
+    assert_eq!(rt; none.verdict, Verdict::Budget);
+    for steps in 0..10 {
+        let (report, used) = report_of(alloc, &ready, &graph, steps)?;
+        if report.verdict == Verdict::Budget {
+            assert!(rt; steps < NEED);
+            assert_eq!(rt; used, steps);
+            assert!(rt; report.least.is_none() && report.path.len() == 0 && report.run.is_none());
+        } else {
+            assert_eq!(rt; report.verdict, Verdict::Strong);
         }
     }
     Ok(())
