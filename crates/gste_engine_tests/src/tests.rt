@@ -438,15 +438,24 @@ fn parallel(alloc: Global, edges: u32) -> Result<Vec<EdgeCase>, AllocError> {
     Ok(cases)
 }
 
+/// Whether a path has these two edges.
+fn is_path(path: &[u32], first: u32, second: u32) -> bool {
+    match path {
+        [one, other] => *one == first && *other == second,
+        _ => false,
+    }
+}
+
 #[test]
 fn ten_thousand_parallel_edges(rt: HostRuntime) -> Result<(), Fail> {
     let alloc = rt.alloc();
     let ready = lat(alloc)?;
-    let cases = parallel(alloc, 10000)?;
+    let count = 10000;
+    let cases = parallel(alloc, count)?;
     let graph = graph_of(alloc, &ready, false, 3, &cases)?;
     let (report, _) = report_of(alloc, &ready, &graph, 1000)?;
     assert_eq!(rt; report.verdict, Verdict::Weak);
-    assert_eq!(rt; report.path.as_slice(), [0, 10000].as_slice());
+    assert!(rt; is_path(report.path.as_slice(), 0, count));
     assert!(rt; report.fails == Some((NodeId(Q), 1)));
     assert!(rt; has_cubes(&report.guards.weak, true, true));
     Ok(())

@@ -1,4 +1,4 @@
-use Rattle.std.proofs.Common.{◌<◌, length, All, subst, sym, arith}
+use Rattle.std.proofs.Common.{All, subst, sym, arith}
 use Rattle.gste_engine_tests.specs.private.Cases.{IsCaseEdge}
 use Rattle.gste_engine_tests.proofs.Casing.{a_case}
 use Rattle.gste_engine_tests.proofs.tests.graph_of.Goals as goal
