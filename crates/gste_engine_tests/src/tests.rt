@@ -438,6 +438,11 @@ fn parallel(alloc: Global, edges: u32) -> Result<Vec<EdgeCase>, AllocError> {
     Ok(cases)
 }
 
+/// How many parallel edges are tried. What is proved takes any number.
+fn many() -> u32 {
+    10000
+}
+
 /// Whether a path has these two edges.
 fn is_path(path: &[u32], first: u32, second: u32) -> bool {
     match path {
@@ -450,7 +455,7 @@ fn is_path(path: &[u32], first: u32, second: u32) -> bool {
 fn ten_thousand_parallel_edges(rt: HostRuntime) -> Result<(), Fail> {
     let alloc = rt.alloc();
     let ready = lat(alloc)?;
-    let count = 10000;
+    let count = many();
     let cases = parallel(alloc, count)?;
     let graph = graph_of(alloc, &ready, false, 3, &cases)?;
     let (report, _) = report_of(alloc, &ready, &graph, 1000)?;
