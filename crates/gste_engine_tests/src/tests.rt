@@ -1,0 +1,493 @@
+//! Graphs over an input and a latch, checked for all assignments at once and by the plain checker under each assignment;
+//! begin with `graphs_of_four_edges`.
+
+ghost use Rattle.std.specs.Prelude.{◌≡◌, ◌≤◌, ◌<◌, [], All, IfOk, IsTrue, length, map};
+ghost use Rattle.net_core.specs.Flat.{HasOneDriver, IsInRange};
+ghost use Rattle.sym_step.specs.Step.{rows_of};
+ghost use Rattle.ste_model.specs.Expressions.{reads};
+ghost use Rattle.ste_model.specs.GraphNeed.{BindsReadBelow};
+ghost use Rattle.gste_engine_tests.specs.private.Cases.{IsCase, IsCaseEdge};
+
+use bool_expr::Expr;
+use dd_nodes::{Nodes, PlainNodes};
+use gste_engine::check_graph;
+use net_core::{Init, Latch, Net, RawNet, order};
+use plain_check::{GraphFound, Outcome, Shown, check_graph as check_plainly};
+use std::alloc::{AllocError, Global};
+use std::test::Fail;
+use ste_base::{Items, Name, NodeId, VarId};
+use ste_model::{Bind, CubeList, Edge, Graph, Report, Verdict, are_edges_free};
+use sym_step::GateRows;
+
+/// An expression over one variable p.
+#[derive(Clone, Copy, Debug, Drop)]
+enum Value {
+    Zero,
+    One,
+    P,
+    NotP,
+}
+
+/// What is asked of a net, where a guard is 1.
+type Asked = (u32, Value, Value);
+
+/// An edge: its ends, what is given and what has to follow.
+type EdgeCase = (u32, u32, &'static [Asked], &'static [Asked]);
+
+const D: u32 = 0;
+
+const Q: u32 = 1;
+
+/// What an edge may be given.
+const GIVEN: &[&[Asked]] = &[
+    &[(D, Value::One, Value::Zero)],
+    &[(D, Value::One, Value::One)],
+    &[(D, Value::One, Value::P)],
+    &[(D, Value::One, Value::NotP)],
+    &[(Q, Value::One, Value::P)],
+    &[],
+];
+
+/// What may have to follow on it.
+const CLAIMS: &[&[Asked]] = &[
+    &[(Q, Value::One, Value::One)],
+    &[(Q, Value::One, Value::P)],
+    &[(Q, Value::P, Value::Zero)],
+    &[],
+];
+
+/// A net with its rows.
+#[derive(Drop)]
+struct Ready {
+    net: Net,
+    rows: GateRows,
+    ghost fit: { rows.covers ≡ map rows_of net.raw.covers },
+    ghost nets: { net.raw.nets ≡ 2 },
+    ghost gates: { net.raw.gates ≡ [] },
+}
+
+/// An input d, and a latch of d that drives q and has the initial value 1.
+fn latch(alloc: Global) -> Result<RawNet, AllocError>
+    ensures in_range { IfOk result (λ raw. IsInRange raw) }
+    ensures one_driver { IfOk result (λ raw. HasOneDriver raw) }
+    ensures nets { IfOk result (λ raw. raw.nets ≡ 2) }
+    ensures gates { IfOk result (λ raw. raw.gates ≡ []) }
+    ensures covers { IfOk result (λ raw. raw.covers ≡ []) }
+{
+    let latches = [Latch {
+        input: NodeId(0),
+        output: NodeId(1),
+        init: Init::One,
+    }];
+    Ok(RawNet {
+        nets: 2,
+        inputs: Items::from(Vec::from_array(alloc, [NodeId(0)])?),
+        outputs: Items::new(alloc),
+        gates: Items::new(alloc),
+        latches: Items::from(Vec::from_array(alloc, latches)?),
+        covers: Items::new(alloc),
+    })
+}
+
+/// That net, with its rows.
+fn lat(alloc: Global) -> Result<Ready, Fail> {
+    match order(alloc, latch(alloc)?) {
+        Ok(net) => {
+            let rows = GateRows::of(alloc, &net)?;
+            Ok(Ready { net, rows })
+        }
+        Err(_) => Err("no order".into()),
+    }
+}
+
+/// The expression of a value.
+fn expr_of(alloc: Global, value: Value) -> Result<Expr, AllocError>
+    ensures { IfOk result (λ expr. IsTrue (reads 1 expr)) }
+{
+    match value {
+        Value::Zero => Ok(Expr::Const(false)),
+        Value::One => Ok(Expr::Const(true)),
+        Value::P => Ok(Expr::Var(VarId(0))),
+        Value::NotP => Ok(Expr::Not(Box::new(alloc, Expr::Var(VarId(0)))?)),
+    }
+}
+
+/// The bindings of what is asked.
+fn binds_of(alloc: Global, asked: &[Asked]) -> Result<Items<Bind>, Fail>
+    ensures nets { IfOk result (λ binds. All (λ bind. bind.node.0 < 2) binds) }
+    ensures reads { IfOk result (λ binds. BindsReadBelow 1 binds) }
+{
+    let mut binds = Items::new(alloc);
+    for (node, guard, value) in asked {
+        if *node >= 2 {
+            return Err("no such net".into());
+        }
+        let guard = expr_of(alloc, *guard)?;
+        let value = expr_of(alloc, *value)?;
+        binds.push(Bind {
+            guard,
+            node: NodeId(*node),
+            value,
+        })?;
+    }
+    Ok(binds)
+}
+
+/// An edge between so many vertices.
+fn edge_of(alloc: Global, vertices: u32, case: &EdgeCase) -> Result<Edge, Fail>
+    ensures { IfOk result (λ edge. IsCaseEdge vertices edge) }
+{
+    let (from, to, ant, con) = case;
+    if *from >= vertices || *to >= vertices {
+        return Err("no such vertex".into());
+    }
+    let ant = binds_of(alloc, ant)?;
+    let con = binds_of(alloc, con)?;
+    Ok(Edge {
+        from: *from,
+        to: *to,
+        ant,
+        con,
+    })
+}
+
+/// The edges of a graph of so many vertices.
+fn edges_of(alloc: Global, vertices: u32, cases: &[EdgeCase]) -> Result<Items<Edge>, Fail>
+    ensures { IfOk result (λ edges. All (IsCaseEdge vertices) edges) }
+{
+    let mut edges = Items::new(alloc);
+    for case in cases {
+        edges.push(edge_of(alloc, vertices, case)?)?;
+    }
+    Ok(edges)
+}
+
+/// The names of so many vertices.
+fn names_of(alloc: Global, vertices: u32) -> Result<Items<Name>, AllocError>
+    ensures { IfOk result (λ names. length names ≡ vertices) }
+{
+    let mut names = Items::new(alloc);
+    for _ in 0..vertices {
+        names.push(Name::from_bytes(alloc, b"v")?)?;
+    }
+    Ok(names)
+}
+
+/// A graph over the net.
+fn graph_of(
+    alloc: Global,
+    ready: &Ready,
+    reset: bool,
+    vertices: u32,
+    cases: &[EdgeCase],
+) -> Result<Graph, Fail>
+    ensures { IfOk result (λ graph. IsCase ready.now.net.raw graph) }
+{
+    let _ = ready;
+    if vertices == 0 {
+        return Err("no vertex".into());
+    }
+    let names = names_of(alloc, vertices)?;
+    let edges = edges_of(alloc, vertices, cases)?;
+    Ok(Graph {
+        name: Name::from_bytes(alloc, b"g")?,
+        reset,
+        vertices: names,
+        edges,
+    })
+}
+
+/// The report with so many steps, and how many of them were used.
+fn report_of(
+    alloc: Global,
+    ready: &Ready,
+    graph: &Graph,
+    steps: u32,
+) -> Result<(Report, u32), AllocError>
+    requires steps { steps ≤ 1000 }
+    requires graph { IsCase ready.now.net.raw graph.now }
+{
+    let mut nodes = PlainNodes::new(alloc, 1, steps)?;
+    let report = check_graph(alloc, &mut nodes, &ready.net, &ready.rows, graph, 8)?;
+    Ok((report, nodes.used()))
+}
+
+/// The verdict, from what is found with p = 0 and with p = 1.
+fn verdict_of(zero: Outcome, one: Outcome) -> Verdict {
+    if zero.is_strong() || one.is_strong() {
+        Verdict::Strong
+    } else if zero.is_weak() || one.is_weak() {
+        Verdict::Weak
+    } else if zero.is_contradictory() && one.is_contradictory() {
+        Verdict::Vacuous
+    } else {
+        Verdict::Pass
+    }
+}
+
+/// Whether a cube has p = 0 just where it should, and p = 1 likewise.
+fn is_cube(cube: &[(VarId, bool)], zero: bool, one: bool) -> bool {
+    match cube {
+        [] => zero && one,
+        [(variable, bit)] => variable.0 == 0 && zero != one && *bit == one,
+        _ => false,
+    }
+}
+
+/// Whether a list has p = 0 just where it should, and p = 1 likewise.
+fn has_cubes(list: &CubeList, zero: bool, one: bool) -> bool {
+    match list.cubes.as_slice() {
+        [] => !list.more && !zero && !one,
+        [cube] => !list.more && is_cube(cube.as_slice(), zero, one),
+        _ => false,
+    }
+}
+
+/// Whether the lists of a report are those of what is found with p = 0 and with p = 1.
+fn has_lists(report: &Report, zero: Outcome, one: Outcome) -> bool {
+    let guards = &report.guards;
+    has_cubes(&guards.strong, zero.is_strong(), one.is_strong())
+        && has_cubes(&guards.weak, zero.is_weak(), one.is_weak())
+        && has_cubes(
+            &guards.contradictory,
+            zero.is_contradictory(),
+            one.is_contradictory(),
+        )
+}
+
+/// The net of a shown consequent.
+fn net_shown(graph: &Graph, shown: &Shown) -> Option<NodeId> {
+    let last = shown.path.as_slice().last()?;
+    let edge = graph.edges.as_slice().get(*last)?;
+    let bind = edge.con.as_slice().get(shown.consequent)?;
+    Some(bind.node)
+}
+
+/// Whether a report shows what is found with p = `bit`.
+fn is_shown(report: &Report, graph: &Graph, bit: bool, found: &GraphFound) -> bool {
+    let Some(shown) = &found.shown else {
+        return false;
+    };
+    let Some(least) = &report.least else {
+        return false;
+    };
+    let Some((node, time)) = report.fails else {
+        return false;
+    };
+    least.as_slice() == [bit].as_slice()
+        && report.path.len() == shown.path.len()
+        && report
+            .path
+            .as_slice()
+            .iter()
+            .zip(shown.path.as_slice())
+            .all(|(number, edge)| *number as usize == *edge)
+        && time as usize == shown.time
+        && net_shown(graph, shown) == Some(node)
+}
+
+/// Whether an assignment is found as the verdict says.
+fn is_found(verdict: Verdict, found: &GraphFound) -> bool {
+    match verdict {
+        Verdict::Strong => found.outcome.is_strong(),
+        Verdict::Weak => found.outcome.is_weak(),
+        _ => false,
+    }
+}
+
+/// Whether a report shows what is found with p = 0 and with p = 1, by the least of them that is as its verdict says.
+fn shows(report: &Report, graph: &Graph, zero: &GraphFound, one: &GraphFound) -> bool {
+    if is_found(report.verdict, zero) {
+        return is_shown(report, graph, false, zero);
+    }
+    if is_found(report.verdict, one) {
+        return is_shown(report, graph, true, one);
+    }
+    report.least.is_none() && report.fails.is_none() && report.path.len() == 0
+}
+
+/// Whether a report has a run just where one is due.
+fn has_run(report: &Report, net: &Net, graph: &Graph) -> bool
+    requires { IsCase net.now.raw graph.now }
+{
+    let is_free = are_edges_free(net, graph.edges.as_slice());
+    report.run.is_some() == (report.verdict == Verdict::Strong && is_free)
+}
+
+/// The report of a graph, and whether it is that of what is found with p = 0 and with p = 1.
+fn compared(alloc: Global, ready: &Ready, graph: &Graph) -> Result<(Report, bool), AllocError>
+    requires { IsCase ready.now.net.raw graph.now }
+{
+    let (report, _) = report_of(alloc, ready, graph, 1000)?;
+    let zero = check_plainly(alloc, &ready.net, graph, &[false])?;
+    let one = check_plainly(alloc, &ready.net, graph, &[true])?;
+    let alike = report.verdict == verdict_of(zero.outcome, one.outcome)
+        && has_lists(&report, zero.outcome, one.outcome)
+        && shows(&report, graph, &zero, &one)
+        && has_run(&report, &ready.net, graph);
+    Ok((report, alike))
+}
+
+/// An edge by the numbers of its ends, of what is given and of what has to follow, each a digit.
+fn edge_case(ends: u32, kind: u64) -> Result<EdgeCase, Fail> {
+    let Some(given) = GIVEN.get((kind % 6) as usize) else {
+        return Err("no such antecedent".into());
+    };
+    let Some(claim) = CLAIMS.get((kind / 6 % 4) as usize) else {
+        return Err("no such consequent".into());
+    };
+    Ok((ends / 3 % 3, ends % 3, *given, *claim))
+}
+
+/// How many ways there are to choose the ends of four edges on three vertices.
+const ENDS: u32 = 6561;
+
+/// How many ways there are to choose what is given on four edges and what has to follow, with reset and without.
+const KINDS: u64 = 663552;
+
+/// How often each choice of the ends is tried, with another choice of kinds each time.
+const TURNS: u32 = 1;
+
+/// The graph of a choice of ends, with a choice of kinds that varies with it.
+fn graph_by(alloc: Global, ready: &Ready, ends: u32, turn: u32) -> Result<Graph, Fail>
+    ensures { IfOk result (λ graph. IsCase ready.now.net.raw graph) }
+{
+    let seed = ends.wrapping_mul(4).wrapping_add(turn);
+    let kinds = seed.wrapping_mul(2654435761) as u64 * KINDS / 4294967296;
+    let cases = [
+        edge_case(ends, kinds)?,
+        edge_case(ends / 9, kinds / 24)?,
+        edge_case(ends / 81, kinds / 576)?,
+        edge_case(ends / 729, kinds / 13824)?,
+    ];
+    graph_of(alloc, ready, kinds / 331776 == 1, 3, &cases)
+}
+
+/// The place of a verdict among four.
+fn place_of(verdict: Verdict) -> usize
+    ensures { result < 4 }
+{
+    match verdict {
+        Verdict::Pass => 0,
+        Verdict::Weak => 1,
+        Verdict::Strong => 2,
+        _ => 3,
+    }
+}
+
+#[test]
+fn graphs_of_four_edges(rt: HostRuntime) -> Result<(), Fail> {
+    let alloc = rt.alloc();
+    let ready = lat(alloc)?;
+    let mut met = [0u32; 4];
+    for turn in 0..TURNS {
+        for ends in 0..ENDS {
+            let graph = graph_by(alloc, &ready, ends, turn)?;
+            let (report, alike) = compared(alloc, &ready, &graph)?;
+            assert!(rt; alike, "{graph:?}: {report:?}");
+            let place = place_of(report.verdict);
+            met[place] = met[place].saturating_add(1);
+        }
+    }
+    assert!(rt; met.iter().all(|count| *count >= 100), "{met:?}");
+    Ok(())
+}
+
+/// A chain of so many vertices: d has p on each edge, and on the last one q has to be the opposite.
+fn chain(alloc: Global, vertices: u32) -> Result<Vec<EdgeCase>, AllocError> {
+    let mut cases: Vec<EdgeCase> = Vec::new(alloc);
+    for k in 1..vertices {
+        let claim: &[Asked] = if k == vertices - 1 {
+            &[(Q, Value::One, Value::NotP)]
+        } else {
+            &[]
+        };
+        cases.push((k - 1, k, &[(D, Value::One, Value::P)], claim))?;
+    }
+    Ok(cases)
+}
+
+#[test]
+fn a_chain_of_a_thousand_vertices(rt: HostRuntime) -> Result<(), Fail> {
+    let alloc = rt.alloc();
+    let ready = lat(alloc)?;
+    let cases = chain(alloc, 1000)?;
+    let graph = graph_of(alloc, &ready, false, 1000, &cases)?;
+    let (report, _) = report_of(alloc, &ready, &graph, 1000)?;
+    assert_eq!(rt; report.verdict, Verdict::Strong);
+    assert_eq!(rt; report.path.len(), 999);
+    let path = report.path.as_slice();
+    assert!(rt; path.iter().zip(0u32..999).all(|(number, k)| *number == k));
+    assert!(rt; report.fails == Some((NodeId(Q), 998)));
+    assert!(rt; has_cubes(&report.guards.strong, true, true));
+    Ok(())
+}
+
+/// So many edges from vertex 0 to vertex 1, on which d has 0 and 1 in turn, and one on which q has to be 1.
+fn parallel(alloc: Global, edges: u32) -> Result<Vec<EdgeCase>, AllocError> {
+    let mut cases: Vec<EdgeCase> = Vec::new(alloc);
+    for k in 0..edges {
+        let given: &[Asked] = if k % 2 == 0 {
+            &[(D, Value::One, Value::Zero)]
+        } else {
+            &[(D, Value::One, Value::One)]
+        };
+        cases.push((0, 1, given, &[]))?;
+    }
+    cases.push((1, 2, &[], &[(Q, Value::One, Value::One)]))?;
+    Ok(cases)
+}
+
+/// How many parallel edges are tried. What is proved takes any number.
+fn many() -> u32 {
+    10000
+}
+
+/// Whether a path has these two edges.
+fn is_path(path: &[u32], first: u32, second: u32) -> bool {
+    match path {
+        [one, other] => *one == first && *other == second,
+        _ => false,
+    }
+}
+
+#[test]
+fn ten_thousand_parallel_edges(rt: HostRuntime) -> Result<(), Fail> {
+    let alloc = rt.alloc();
+    let ready = lat(alloc)?;
+    let count = many();
+    let cases = parallel(alloc, count)?;
+    let graph = graph_of(alloc, &ready, false, 3, &cases)?;
+    let (report, _) = report_of(alloc, &ready, &graph, 1000)?;
+    assert_eq!(rt; report.verdict, Verdict::Weak);
+    assert!(rt; is_path(report.path.as_slice(), 0, count));
+    assert!(rt; report.fails == Some((NodeId(Q), 1)));
+    assert!(rt; has_cubes(&report.guards.weak, true, true));
+    Ok(())
+}
+
+/// How many steps the chain of three vertices needs: one for p and one for its opposite.
+const NEED: u32 = 2;
+
+/// With as many steps as are needed, and with more, a graph has its verdict; with fewer it has its verdict, or it has used
+/// all of them.
+#[test]
+fn steps_at_the_need_suffice(rt: HostRuntime) -> Result<(), Fail> {
+    let alloc = rt.alloc();
+    let ready = lat(alloc)?;
+    let cases = chain(alloc, 3)?;
+    let graph = graph_of(alloc, &ready, false, 3, &cases)?;
+    let (none, _) = report_of(alloc, &ready, &graph, 0)?;
+    assert_eq!(rt; none.verdict, Verdict::Budget);
+    for steps in 0..10 {
+        let (report, used) = report_of(alloc, &ready, &graph, steps)?;
+        if report.verdict == Verdict::Budget {
+            assert!(rt; steps < NEED);
+            assert_eq!(rt; used, steps);
+            assert!(rt; report.least.is_none() && report.path.len() == 0 && report.run.is_none());
+        } else {
+            assert_eq!(rt; report.verdict, Verdict::Strong);
+        }
+    }
+    Ok(())
+}
