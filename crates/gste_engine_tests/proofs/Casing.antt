@@ -3,7 +3,6 @@ use Rattle.std.proofs.Common.{◌≡◌, ◌<◌, ℕ, length, subst, sym}
 use Rattle.std.specs.Prelude.{All}
 use Rattle.std.proofs.lemmas.List.Elements.{All-weaker}
 use Rattle.net_core.specs.declared.raw.RawNet.{RawNet}
-use Rattle.ste_model.specs.declared.task.Edge.{Edge}
 use Rattle.ste_model.specs.declared.task.Graph.{Graph}
 use Rattle.ste_model.specs.GraphNeed.{BindsReadBelow}
 use Rattle.gste_engine.specs.Tables.{IsEdgeOver}

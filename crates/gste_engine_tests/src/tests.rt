@@ -346,7 +346,7 @@ const ENDS: u32 = 6561;
 const KINDS: u64 = 663552;
 
 /// How often each choice of the ends is tried, with another choice of kinds each time.
-const TURNS: u32 = 1;
+const TURNS: u32 = 4;
 
 /// The graph of a choice of ends, with a choice of kinds that varies with it.
 fn graph_by(alloc: Global, ready: &Ready, ends: u32, turn: u32) -> Result<Graph, Fail>

@@ -1,5 +1,5 @@
 -- For private functions. What both programs ask of an edge and of a graph, over a net of two nets and one variable.
-use Rattle.std.specs.Prelude.{◌<◌, ℕ, All, length}
+use Rattle.std.specs.Prelude.{◌<◌, ℕ, All}
 use Rattle.net_core.specs.declared.raw.RawNet.{RawNet}
 use Rattle.ste_model.specs.declared.task.Edge.{Edge}
 use Rattle.ste_model.specs.declared.task.Graph.{Graph}
