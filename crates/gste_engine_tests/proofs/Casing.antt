@@ -6,7 +6,7 @@ use Rattle.net_core.specs.declared.raw.RawNet.{RawNet}
 use Rattle.ste_model.specs.declared.task.Graph.{Graph}
 use Rattle.ste_model.specs.GraphNeed.{BindsReadBelow}
 use Rattle.gste_engine.specs.Tables.{IsEdgeOver}
-use Rattle.gste_engine_tests.specs.private.Cases.{IsCase, IsCaseEdge}
+use Rattle.gste_engine_tests.specs.Cases.{IsCase, IsCaseEdge}
 
 pub a_case : (net : RawNet) (graph : Graph) → net.nets ≡ 2 → 0 < length graph.vertices → All (IsCaseEdge (length graph.vertices)) graph.edges → IsCase net graph
 a_case net graph two some edges =

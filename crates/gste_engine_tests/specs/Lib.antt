@@ -1,1 +1,1 @@
-pub mod private
+pub mod Cases

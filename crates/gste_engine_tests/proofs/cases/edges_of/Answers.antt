@@ -1,7 +1,7 @@
 use Rattle.std.proofs.Common.{All, subst, sym}
 use Rattle.std.proofs.lemmas.List.Elements.{All-push}
-use Rattle.gste_engine_tests.specs.private.Cases.{IsCaseEdge}
-use Rattle.gste_engine_tests.proofs.tests.edges_of.Goals as goal
+use Rattle.gste_engine_tests.specs.Cases.{IsCaseEdge}
+use Rattle.gste_engine_tests.proofs.cases.edges_of.Goals as goal
 
 pub loop-case-preserved : goal.loop-case-preserved
 loop-case-preserved c =

@@ -1,7 +1,7 @@
 use Rattle.std.proofs.Common.{All, subst, sym, arith}
-use Rattle.gste_engine_tests.specs.private.Cases.{IsCaseEdge}
+use Rattle.gste_engine_tests.specs.Cases.{IsCaseEdge}
 use Rattle.gste_engine_tests.proofs.Casing.{a_case}
-use Rattle.gste_engine_tests.proofs.tests.graph_of.Goals as goal
+use Rattle.gste_engine_tests.proofs.cases.graph_of.Goals as goal
 
 pub returns : goal.returns
 returns c =

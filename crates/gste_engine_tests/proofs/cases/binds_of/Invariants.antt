@@ -1,6 +1,6 @@
 use Rattle.std.proofs.Common.{All, ◌<◌}
 use Rattle.ste_model.specs.GraphNeed.{BindsReadBelow}
-use Rattle.gste_engine_tests.proofs.tests.binds_of.Given as goal
+use Rattle.gste_engine_tests.proofs.cases.binds_of.Given as goal
 
 -- the bindings so far are over the net and the variable
 abbrev pub invariant-loop-node : goal.invariant-loop-node
