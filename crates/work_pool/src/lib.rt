@@ -4,6 +4,8 @@
 pub mod gate;
 mod pool;
 pub mod run;
+#[cfg(test)]
+mod tests;
 mod turns;
 
 pub use gate::{Gate, NoGate};
