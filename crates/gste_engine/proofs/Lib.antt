@@ -14,6 +14,7 @@ pub mod FixedSteps
 pub mod GraphPlaces
 pub mod Joins
 pub mod Judging
+pub mod KeptGivens
 pub mod KeptRefs
 pub mod Lists
 pub mod NextSums

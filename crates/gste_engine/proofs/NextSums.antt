@@ -103,14 +103,14 @@ module _ (net : RawNet) (bits : List Bool) where
       ap (λ (x : BitSet). x ∷ map (set_at bits) (map (λ latch. gated_set (sets latch.input.0) f) ls)) (set_same (w.zero bits && f bits) (w.one bits && f bits) (w.zero bits) (w.one bits) (and_one (w.zero bits) (f bits) e) (and_one (w.one bits) (f bits) e))
       ∙ ap (λ (xs : List BitSet). set_at bits w ∷ xs) (all_given f sets ls e)
 
-  none_given : (f : Function) (sets : ℕ → SymbolicSet) (latches : List Latch) → f bits ≡ false → map (set_at bits) (map (λ latch. gated_set (sets latch.input.0) f) latches) ≡ map (λ latch. neither) latches
+  pub none_given : (f : Function) (sets : ℕ → SymbolicSet) (latches : List Latch) → f bits ≡ false → map (set_at bits) (map (λ latch. gated_set (sets latch.input.0) f) latches) ≡ map (λ latch. neither) latches
   none_given f sets [] e = refl
   none_given f sets (l ∷ ls) e =
       let w : SymbolicSet = sets l.input.0 in
       ap (λ (x : BitSet). x ∷ map (set_at bits) (map (λ latch. gated_set (sets latch.input.0) f) ls)) (set_same (w.zero bits && f bits) (w.one bits && f bits) false false (and_none (w.zero bits) (f bits) e) (and_none (w.one bits) (f bits) e))
       ∙ ap (λ (xs : List BitSet). neither ∷ xs) (none_given f sets ls e)
 
-  nevers_here : (latches : List Latch) → map (set_at bits) (map (λ latch. no_set) latches) ≡ map (λ latch. neither) latches
+  pub nevers_here : (latches : List Latch) → map (set_at bits) (map (λ latch. no_set) latches) ≡ map (λ latch. neither) latches
   nevers_here [] = refl
   nevers_here (l ∷ ls) = ap (λ (xs : List BitSet). neither ∷ xs) (nevers_here ls)
 

@@ -1,5 +1,5 @@
 -- From the table of one round to that of the next, and from one that does not change to the one that settles.
-use Rattle.std.proofs.Common.{◌≡◌, ℕ, suc, ◌<◌, Bool, false, List, [], ◌∷◌, length, get_or, map, replicate, refl, sym, ◌∙◌, ap, subst, arith, Result, Vec, Global}
+use Rattle.std.proofs.Common.{◌≡◌, ℕ, suc, ◌<◌, Bool, false, List, [], ◌∷◌, length, get_or, map, replicate, refl, sym, ◌∙◌, ap, subst, arith, Result}
 use Rattle.std.specs.List.{AllZip}
 use Rattle.std.proofs.lemmas.List.{length-replicate}
 use Rattle.dd_nodes.specs.Diagram.{Function}
@@ -24,9 +24,10 @@ use Rattle.ste_model.proofs.Rounds.{below, long, same_least, settle_all, states_
 use Rattle.dual_rail.specs.declared.rails.Rails.{Rails}
 use Rattle.dual_rail.specs.Rail.{AreRails, Built}
 use Rattle.dual_rail.proofs.Works.{Built-good, SoFar}
+use Rattle.gste_engine.specs.declared.rounds.Turn.{Turn}
 use Rattle.gste_engine.specs.declared.state.State.{State}
 use Rattle.gste_engine.specs.Tables.{HasStates, IsState, rounds_work}
-use Rattle.gste_engine.specs.private.Rounds.{one_round_work}
+use Rattle.gste_engine.specs.private.Rounds.{AreGivenFrom, IsTurn, one_round_work}
 use Rattle.gste_engine.specs.private.Sums.{summed_at}
 use Rattle.gste_engine.proofs.AllGiven.{ArePossibleOn, given_of}
 use Rattle.gste_engine.proofs.NextSums.{sums_next}
@@ -82,7 +83,7 @@ zips_alike t bits l (w ∷ ws) (x ∷ xs) (r ∷ rs) h g =
     ∙ ap (λ (sets : List BitSet). set_at bits x ∷ sets) (zips_alike t bits l ws xs rs h.1 g.1)
 
 -- two functions of one reference have the same values
-one_state : (t : Store) (x y : SymbolicState) (r : State) (bits : List Bool) → length bits ≡ t.vars → IsState t x r → IsState t y r → state_at bits x ≡ state_at bits y
+pub one_state : (t : Store) (x y : SymbolicState) (r : State) (bits : List Bool) → length bits ≡ t.vars → IsState t x r → IsState t y r → state_at bits x ≡ state_at bits y
 one_state t x y r bits l h g =
     ap (λ b. state_of b (map (set_at bits) x.latches)) (sym (h.reached.value bits l) ∙ g.reached.value bits l)
     ∙ ap (λ sets. state_of (y.reached bits) sets) (zips_alike t bits l x.latches y.latches r.latches h.latches g.latches)
@@ -144,19 +145,21 @@ pub record RoundsSoFar (net : RawNet) (graph : Graph) (tables : ℕ → ℕ → 
   pub so : SoFar (rounds_work net graph tables sets) s t
   pub has : HasStates (tables m) (length graph.vertices) t rs
 
-abbrev pub IsTableAt : Graph → (ℕ → ℕ → SymbolicState) → ℕ → Store → Vec State Global → Type 0
-IsTableAt graph tables m t next = HasStates (tables m) (length graph.vertices) t next.items
-
 -- what is promised of one round
-abbrev pub GivesNext : RawNet → Graph → List State → Store → Store → Result (Vec State Global) OpFault → Type 0
+abbrev pub GivesNext : RawNet → Graph → List State → Store → Store → Result Turn OpFault → Type 0
 GivesNext net graph table t u result = (states : ℕ → SymbolicState) (sets : Edge → ℕ → SymbolicSet) → HasStates states (length graph.vertices) t table → ArePossibleOn t.vars net states sets graph.edges
-    → Built (one_round_work net graph states sets) (λ w (next : Vec State Global). HasStates (summed_at net graph.reset (given_of net states sets) graph.edges) (length graph.vertices) w next.items) t u result
+    → Built (one_round_work net graph states sets) (IsTurn net graph table states sets) t u result
 
-pub round_turn : (net : RawNet) (graph : Graph) (tables : ℕ → ℕ → SymbolicState) (sets : ℕ → Edge → ℕ → SymbolicSet) (s t u : Store) (m : ℕ) (table : List State) (result : Result (Vec State Global) OpFault) → IsSettled net → IsGood t → IsGood u → AreWholeRounds net s.vars graph tables sets → m < suc (enough net graph)
-    → Keeps s t → RoundsSoFar net graph tables sets s t m table → GivesNext net graph table t u result → Built (rounds_work net graph tables sets) (IsTableAt graph tables (suc m)) s u result
+-- the same of the round that it is
+pub record IsTurnAt (net : RawNet) (graph : Graph) (table : List State) (tables : ℕ → ℕ → SymbolicState) (m : ℕ) (t : Store) (r : Turn) : Type 0 where
+  pub givens : AreGivenFrom t net graph.edges table r.givens.items
+  pub next : HasStates (tables m) (length graph.vertices) t r.next.items
+
+pub round_turn : (net : RawNet) (graph : Graph) (tables : ℕ → ℕ → SymbolicState) (sets : ℕ → Edge → ℕ → SymbolicSet) (s t u : Store) (m : ℕ) (table : List State) (result : Result Turn OpFault) → IsSettled net → IsGood t → IsGood u → AreWholeRounds net s.vars graph tables sets → m < suc (enough net graph)
+    → Keeps s t → RoundsSoFar net graph tables sets s t m table → GivesNext net graph table t u result → Built (rounds_work net graph tables sets) (IsTurnAt net graph table tables (suc m)) s u result
 round_turn net graph tables sets s t u m table result settled gt gu whole lt keeps p call =
     let work : List Function = rounds_work net graph tables sets in
-    let Sums : Store → Vec State Global → Type 0 = λ w next. HasStates (summed_at net graph.reset (given_of net (tables m) (sets m)) graph.edges) (length graph.vertices) w next.items in
+    let Good : Store → Turn → Type 0 = IsTurn net graph table (tables m) (sets m) in
     let here : ArePossibleOn t.vars net (tables m) (sets m) graph.edges = subst (λ v. ArePossibleOn v net (tables m) (sets m) graph.edges) (sym keeps.vars) (possible_each net s.vars graph tables sets whole m) in
-    let b : Built work Sums s u result = turned work (one_round_work net graph (tables m) (sets m)) Sums s t u result gt gu (round_in net graph tables sets m lt) p.so (call (tables m) (sets m) p.has here) in
-    Built-good work Sums (IsTableAt graph tables (suc m)) s u result (λ next h. states_next net s.vars graph tables sets whole settled u m next.items b.spends.keeps.vars h) b
+    let b : Built work Good s u result = turned work (one_round_work net graph (tables m) (sets m)) Good s t u result gt gu (round_in net graph tables sets m lt) p.so (call (tables m) (sets m) p.has here) in
+    Built-good work Good (IsTurnAt net graph table tables (suc m)) s u result (λ turn h. record { givens = h.givens; next = states_next net s.vars graph tables sets whole settled u m turn.next.items b.spends.keeps.vars h.next }) b

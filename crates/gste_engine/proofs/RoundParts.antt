@@ -1,7 +1,7 @@
 -- One round: the functions of its parts, and what it says of all edges.
 use Rattle.std.proofs.Common.{ℕ, suc, ◌<◌, List, [], ◌∷◌, ◌++◌, length, Result, Vec, Global, Contains, inl, inr, ⊎_elim}
 use Rattle.std.specs.Prelude.{◌⊎◌}
-use Rattle.std.specs.List.{AllZip, flat_map}
+use Rattle.std.specs.List.{flat_map}
 use Rattle.std.proofs.lemmas.List.Elements.{Contains-append_cases, Contains-append_left, Contains-append_right}
 use Rattle.dd_nodes.specs.Diagram.{Function}
 use Rattle.dd_nodes.specs.Stores.{Store}
@@ -17,19 +17,19 @@ use Rattle.ste_model.specs.Work.{over_times}
 use Rattle.dual_rail.specs.Rail.{Built}
 use Rattle.dual_rail.proofs.Works.{Within}
 use Rattle.gste_engine.specs.declared.state.State.{State}
-use Rattle.gste_engine.specs.Tables.{HasStates, IsState, antecedents_work, rounds_work}
-use Rattle.gste_engine.specs.private.Rounds.{edges_work, one_round_work}
+use Rattle.gste_engine.specs.Tables.{HasStates, antecedents_work, rounds_work}
+use Rattle.gste_engine.specs.private.Rounds.{AreGivenFrom, edges_work, one_round_work}
 use Rattle.gste_engine.specs.private.Sums.{arrivals_work}
 use Rattle.gste_engine.proofs.AllGiven.{ArePossibleOn, given_of}
 use Rattle.gste_engine.proofs.Comings.{through}
 
-abbrev pub AreGivens : RawNet → (ℕ → SymbolicState) → (Edge → ℕ → SymbolicSet) → List Edge → Store → Vec State Global → Type 0
-AreGivens net states sets edges t givens = AllZip (λ edge r. IsState t (given_of net states sets edge) r) edges givens.items
+abbrev pub IsRefreshed : RawNet → List State → List Edge → Store → Vec State Global → Type 0
+IsRefreshed net table edges t givens = AreGivenFrom t net edges table givens.items
 
 -- what is promised of all edges of a list
 abbrev pub GivesAll : RawNet → List State → Store → Store → Result (Vec State Global) OpFault → List Edge → Type 0
 GivesAll net table s t result edges = (states : ℕ → SymbolicState) (sets : Edge → ℕ → SymbolicSet) → HasStates states (length table) s table → ArePossibleOn s.vars net states sets edges
-    → Built (edges_work net states sets edges) (AreGivens net states sets edges) s t result
+    → Built (edges_work net states sets edges) (IsRefreshed net table edges) s t result
 
 module _ (net : RawNet) (graph : Graph) (states : ℕ → SymbolicState) (sets : Edge → ℕ → SymbolicSet) where
   pub edges_in : Within (edges_work net states sets graph.edges) (one_round_work net graph states sets)

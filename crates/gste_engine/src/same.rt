@@ -21,7 +21,7 @@ fn same_sets(one: &[Rails], other: &[Rails]) -> bool
 }
 
 /// Whether two states have the same references.
-fn same_state(one: &State, other: &State) -> bool
+pub fn same_state(one: &State, other: &State) -> bool
     ensures { IsTrue result → one.now ≡ other.now }
 {
     one.reached == other.reached && same_sets(one.latches.as_slice(), other.latches.as_slice())

@@ -58,6 +58,19 @@ pub fn nothing(alloc: Global, net: &Net, graph: &Graph) -> Result<Vec<State>, Al
     Ok(table)
 }
 
+/// What each edge gives where nothing is reached: nothing.
+pub fn nothing_given(alloc: Global, net: &Net, graph: &Graph) -> Result<Vec<State>, AllocError>
+    ensures { IfOk result (λ givens. givens.items
+        ≡ replicate (length graph.now.edges) (unreached net.now.raw)) }
+{
+    let mut givens = Vec::new(alloc);
+    for _ in 0..graph.edges.len() {
+        let state = unreached(alloc, net)?;
+        givens.push(state)?;
+    }
+    Ok(givens)
+}
+
 /// What comes to each vertex before any edge: to vertex 0 the first values, and nothing to the others.
 fn begun(alloc: Global, net: &Net, graph: &Graph) -> Result<Vec<State>, AllocError>
     requires { 0 < length graph.now.vertices }

@@ -1,4 +1,5 @@
-use Rattle.std.proofs.Common.{◌≡◌, ◌+◌, ◌*◌, ◌<◌, ◌≤◌, ℕ, Bool, true, false, List, length, refl, sym, subst, arith, Ok, Err, Result}
+use Rattle.std.proofs.Common.{◌≡◌, ◌+◌, ◌*◌, ◌<◌, ◌≤◌, ℕ, Bool, true, false, List, length, refl, sym, ◌∙◌, ap, subst, arith, Ok, Err, Result}
+use Rattle.std.proofs.lemmas.List.{length-replicate}
 use Rattle.dd_nodes.specs.Diagram.{Function}
 use Rattle.dd_nodes.specs.Stores.{Store}
 use Rattle.dd_nodes.proofs.Stores.{Keeps-refl, Keeps-trans}
@@ -18,7 +19,9 @@ use Rattle.ste_model.specs.GraphWork.{SymbolicState}
 use Rattle.gste_engine.specs.declared.rounds.Progress.{Progress}
 use Rattle.gste_engine.specs.declared.state.State.{State}
 use Rattle.gste_engine.specs.Tables.{HasStates, IsGraphOver, rounds_work}
-use Rattle.gste_engine.specs.private.Rounds.{IsProgress}
+use Rattle.gste_engine.specs.private.Rounds.{AtStart, IsProgress}
+use Rattle.gste_engine.specs.private.Sums.{unreached}
+use Rattle.gste_engine.proofs.KeptGivens.{starts_given}
 use Rattle.gste_engine.proofs.NextTables.{RoundsSoFar}
 use Rattle.gste_engine.proofs.Starts.{all_rounds, group_below, next_group, starts_are, tables_refs, whole_exists}
 use Rattle.gste_engine.proofs.rounds.settle.Goals as goal
@@ -46,9 +49,14 @@ loop-init g c =
     let gs = g.met.N.Nodes.diagram c.args.nodes.now in
     let net : RawNet = c.args.net.now.raw in
     let graph : Graph = c.args.graph.now in
+    let settled : IsSettled net = settled_by_order net c.args.net.now.settled c.args.net.now.in_order in
+    let start : Progress = c.in-Ok.progress in
+    let h : AtStart net graph start = c.in-Ok.ensures in
     record {
       keeps = Keeps-refl s;
-      so = λ tables sets whole. record { so = So-start (rounds_work net graph tables sets) s; has = subst (λ (n : ℕ). HasStates (tables n) (length graph.vertices) s c.in-Ok.table.items) (let e : 0 ≡ 0 * (length net.latches * 2 + 1) = omega arith in e) (starts_are net graph s tables sets whole c.in-Ok.table.items gs c.in-Ok.ensures) };
+      before = ap (λ (xs : List State). length xs) h.before ∙ length-replicate (length graph.vertices) (unreached net);
+      givens = starts_given s net graph start.before.items start.givens.items settled gs (λ k d lt. (c.requires.graph.edges k d lt).start) h.before h.givens;
+      so = λ tables sets whole. record { so = So-start (rounds_work net graph tables sets) s; has = subst (λ (n : ℕ). HasStates (tables n) (length graph.vertices) s start.table.items) (let e : 0 ≡ 0 * (length net.latches * 2 + 1) = omega arith in e) (starts_are net graph s tables sets whole start.table.items gs h.table) };
     }
 
 pub loop-preserved : goal.loop-preserved
@@ -60,7 +68,7 @@ loop-preserved g c =
     let net : RawNet = c.args.net.now.raw in
     let graph : Graph = c.args.graph.now in
     let settled : IsSettled net = settled_by_order net c.args.net.now.settled c.args.net.now.in_order in
-    let table : List State = c.loop.table.items in
+    let table : List State = c.loop.progress.table.items in
     let i = c.loop.counter in
     let e = length net.latches * 2 + 1 in
     let p = c.loop.invariant in
@@ -71,9 +79,11 @@ loop-preserved g c =
     let w = whole_exists net s.vars graph settled in
     let q = p.so w.0 w.1 w.2 in
     let progress : Progress = c.in_ok-progress.progress in
-    let keeps = ((subst (Promises net graph table t u (Ok c.in_ok-progress.progress)) c.latches.ensures c.in_ok-progress.ensures) w.0 w.1 (i * e) (subst (λ v. AreWholeRounds net v graph w.0 w.1) (sym p.keeps.vars) w.2) within q.has).spends.keeps in
+    let mine = (subst (Promises net graph table t u (Ok c.in_ok-progress.progress)) c.latches.ensures c.in_ok-progress.ensures) w.0 w.1 (i * e) (subst (λ v. AreWholeRounds net v graph w.0 w.1) (sym p.keeps.vars) w.2) within q.has in
     record {
-      keeps = Keeps-trans s t u p.keeps keeps;
+      keeps = Keeps-trans s t u p.keeps mine.spends.keeps;
+      before = mine.ok.before;
+      givens = mine.ok.givens;
       so = λ tables sets whole.
           let q = p.so tables sets whole in
           let work : List Function = rounds_work net graph tables sets in
@@ -82,7 +92,7 @@ loop-preserved g c =
           let progress : Progress = c.in_ok-progress.progress in
           let b : Built work Good t u (Ok progress) = (subst (Promises net graph table t u (Ok c.in_ok-progress.progress)) c.latches.ensures c.in_ok-progress.ensures) tables sets (i * e) there within q.has in
           let so = more work Good s t u (Ok progress) gt gu q.so b in
-          record { so = so; has = subst (λ m. HasStates (tables m) (length graph.vertices) u progress.table.items) (next_group i e) (b.ok.more c.if-settled.false) };
+          record { so = so; has = subst (λ m. HasStates (tables m) (length graph.vertices) u progress.table.items) (next_group i e) (b.ok.more c.if-progress.false) };
     }
 
 pub returns-in_err-progress : goal.returns-in_err-progress
@@ -94,7 +104,7 @@ returns-in_err-progress g c = λ tables sets whole.
     let net : RawNet = c.args.net.now.raw in
     let graph : Graph = c.args.graph.now in
     let settled : IsSettled net = settled_by_order net c.args.net.now.settled c.args.net.now.in_order in
-    let table : List State = c.loop.table.items in
+    let table : List State = c.loop.progress.table.items in
     let i = c.loop.counter in
     let e = length net.latches * 2 + 1 in
     let p = c.loop.invariant in
@@ -109,8 +119,8 @@ returns-in_err-progress g c = λ tables sets whole.
     let fault = c.in_err-progress.field-0.0 in
     pass work Good (IsLast net graph tables) s t u fault c.from_residual.result gt gu q.so ((subst (Promises net graph table t u (Err fault)) c.latches.ensures c.in_err-progress.ensures) tables sets (i * e) there within q.has) c.from_residual.ensures.1
 
-pub returns-then-settled : goal.returns-then-settled
-returns-then-settled g c = λ tables sets whole.
+pub returns-then-progress : goal.returns-then-progress
+returns-then-progress g c = λ tables sets whole.
     let s : Store = g.N.Nodes.store c.args.nodes.now in
     let t : Store = g.N.Nodes.store c.loop.nodes in
     let gs = g.met.N.Nodes.diagram c.args.nodes.now in
@@ -118,7 +128,7 @@ returns-then-settled g c = λ tables sets whole.
     let net : RawNet = c.args.net.now.raw in
     let graph : Graph = c.args.graph.now in
     let settled : IsSettled net = settled_by_order net c.args.net.now.settled c.args.net.now.in_order in
-    let table : List State = c.loop.table.items in
+    let table : List State = c.loop.progress.table.items in
     let i = c.loop.counter in
     let e = length net.latches * 2 + 1 in
     let p = c.loop.invariant in
@@ -133,7 +143,7 @@ returns-then-settled g c = λ tables sets whole.
     let progress : Progress = c.in_ok-progress.progress in
     let b : Built work Good t u (Ok progress) = (subst (Promises net graph table t u (Ok c.in_ok-progress.progress)) c.latches.ensures c.in_ok-progress.ensures) tables sets (i * e) there within q.has in
     let so = more work Good s t u (Ok progress) gt gu q.so b in
-    Built-made work (IsLast net graph tables) s u c.from.result so (subst (λ (rs : List State). IsLast net graph tables u rs) (sym {A = List State} c.from.ensures) (b.ok.done c.if-settled.true))
+    Built-made work (IsLast net graph tables) s u c.from.result so (subst (λ (rs : List State). IsLast net graph tables u rs) (sym {A = List State} c.from.ensures) (b.ok.done c.if-progress.true))
 
 pub returns-in_err-last : goal.returns-in_err-last
 returns-in_err-last g c = λ tables sets whole.
@@ -144,7 +154,7 @@ returns-in_err-last g c = λ tables sets whole.
     let net : RawNet = c.args.net.now.raw in
     let graph : Graph = c.args.graph.now in
     let settled : IsSettled net = settled_by_order net c.args.net.now.settled c.args.net.now.in_order in
-    let table : List State = c.loop.table.items in
+    let table : List State = c.loop.progress.table.items in
     let i = c.loop.counter in
     let e = length net.latches * 2 + 1 in
     let p = c.loop.invariant in
@@ -170,7 +180,7 @@ returns g c = λ tables sets whole.
     let net : RawNet = c.args.net.now.raw in
     let graph : Graph = c.args.graph.now in
     let settled : IsSettled net = settled_by_order net c.args.net.now.settled c.args.net.now.in_order in
-    let table : List State = c.loop.table.items in
+    let table : List State = c.loop.progress.table.items in
     let i = c.loop.counter in
     let e = length net.latches * 2 + 1 in
     let p = c.loop.invariant in
@@ -199,7 +209,7 @@ more_rounds-requires-clause-graph g c =
     let net : RawNet = c.args.net.now.raw in
     let graph : Graph = c.args.graph.now in
     let settled : IsSettled net = settled_by_order net c.args.net.now.settled c.args.net.now.in_order in
-    let table : List State = c.loop.table.items in
+    let table : List State = c.loop.progress.table.items in
     let i = c.loop.counter in
     let e = length net.latches * 2 + 1 in
     let p = c.loop.invariant in
@@ -214,7 +224,7 @@ more_rounds-requires-clause-long g c =
     let net : RawNet = c.args.net.now.raw in
     let graph : Graph = c.args.graph.now in
     let settled : IsSettled net = settled_by_order net c.args.net.now.settled c.args.net.now.in_order in
-    let table : List State = c.loop.table.items in
+    let table : List State = c.loop.progress.table.items in
     let i = c.loop.counter in
     let e = length net.latches * 2 + 1 in
     let p = c.loop.invariant in
@@ -231,7 +241,7 @@ more_rounds-requires-clause-table g c =
     let net : RawNet = c.args.net.now.raw in
     let graph : Graph = c.args.graph.now in
     let settled : IsSettled net = settled_by_order net c.args.net.now.settled c.args.net.now.in_order in
-    let table : List State = c.loop.table.items in
+    let table : List State = c.loop.progress.table.items in
     let i = c.loop.counter in
     let e = length net.latches * 2 + 1 in
     let p = c.loop.invariant in
@@ -248,7 +258,7 @@ more_rounds-requires-2-clause-graph g c =
     let net : RawNet = c.args.net.now.raw in
     let graph : Graph = c.args.graph.now in
     let settled : IsSettled net = settled_by_order net c.args.net.now.settled c.args.net.now.in_order in
-    let table : List State = c.loop.table.items in
+    let table : List State = c.loop.progress.table.items in
     let i = c.loop.counter in
     let e = length net.latches * 2 + 1 in
     let p = c.loop.invariant in
@@ -263,7 +273,7 @@ more_rounds-requires-2-clause-long g c =
     let net : RawNet = c.args.net.now.raw in
     let graph : Graph = c.args.graph.now in
     let settled : IsSettled net = settled_by_order net c.args.net.now.settled c.args.net.now.in_order in
-    let table : List State = c.loop.table.items in
+    let table : List State = c.loop.progress.table.items in
     let i = c.loop.counter in
     let e = length net.latches * 2 + 1 in
     let p = c.loop.invariant in
@@ -280,10 +290,22 @@ more_rounds-requires-2-clause-table g c =
     let net : RawNet = c.args.net.now.raw in
     let graph : Graph = c.args.graph.now in
     let settled : IsSettled net = settled_by_order net c.args.net.now.settled c.args.net.now.in_order in
-    let table : List State = c.loop.table.items in
+    let table : List State = c.loop.progress.table.items in
     let i = c.loop.counter in
     let e = length net.latches * 2 + 1 in
     let p = c.loop.invariant in
     let w = whole_exists net s.vars graph settled in
     let q = p.so w.0 w.1 w.2 in
     tables_refs net graph s w.0 w.1 w.2 settled t (i * e) table q.has
+
+pub more_rounds-requires-clause-before : goal.more_rounds-requires-clause-before
+more_rounds-requires-clause-before g c = c.loop.invariant.before
+
+pub more_rounds-requires-clause-givens : goal.more_rounds-requires-clause-givens
+more_rounds-requires-clause-givens g c = c.loop.invariant.givens
+
+pub more_rounds-requires-2-clause-before : goal.more_rounds-requires-2-clause-before
+more_rounds-requires-2-clause-before g c = c.loop.invariant.before
+
+pub more_rounds-requires-2-clause-givens : goal.more_rounds-requires-2-clause-givens
+more_rounds-requires-2-clause-givens g c = c.loop.invariant.givens
