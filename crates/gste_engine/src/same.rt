@@ -1,13 +1,13 @@
 //! Whether two tables have the same references; begin with `same_table`.
 
-ghost use Rattle.std.specs.Prelude.{◌≡◌, IsTrue};
+ghost use Rattle.std.specs.Prelude.{◌≡◌, ◌↔◌, IsTrue};
 
 use crate::state::State;
 use dual_rail::Rails;
 
 /// Whether two lists of sets have the same references.
 fn same_sets(one: &[Rails], other: &[Rails]) -> bool
-    ensures { IsTrue result → one.now ≡ other.now }
+    ensures { IsTrue result ↔ one.now ≡ other.now }
 {
     if one.len() != other.len() {
         return false;
@@ -22,14 +22,14 @@ fn same_sets(one: &[Rails], other: &[Rails]) -> bool
 
 /// Whether two states have the same references.
 pub fn same_state(one: &State, other: &State) -> bool
-    ensures { IsTrue result → one.now ≡ other.now }
+    ensures { IsTrue result ↔ one.now ≡ other.now }
 {
     one.reached == other.reached && same_sets(one.latches.as_slice(), other.latches.as_slice())
 }
 
 /// Whether two tables have the same references, vertex by vertex.
 pub fn same_table(one: &[State], other: &[State]) -> bool
-    ensures { IsTrue result → one.now ≡ other.now }
+    ensures { IsTrue result ↔ one.now ≡ other.now }
 {
     if one.len() != other.len() {
         return false;

@@ -116,7 +116,7 @@ returns-then-settled g c = λ tables sets n whole most has.
     let mine = call own_states (own_sets t net table gt p.refs settled) (record { long = p.long; each = (own_has t net table gt p.refs).each }) (own_possible t net table gt p.refs settled graph.edges) in
     let keeps = mine.spends.keeps in
     let b = round_turn net graph tables sets s t u (n + k) table (Ok turn) settled gt gu whole below p.keeps q call in
-    let same : table ≡ next.items = sym c.as_slice-in-loop.ensures.value ∙ c.same_table-settled.ensures c.if-settled.true ∙ c.as_slice-in-loop-2.ensures.value in
+    let same : table ≡ next.items = sym c.as_slice-in-loop.ensures.value ∙ c.same_table-settled.ensures.0 c.if-settled.true ∙ c.as_slice-in-loop-2.ensures.value in
     let old = States-keep (tables (n + k)) (length graph.vertices) t u table gt gu keeps q.has in
     let now = subst (λ (xs : List State). HasStates (tables (n + k)) (length graph.vertices) u xs) same old in
     let done = early net s.vars graph tables sets whole settled c.requires.graph.sound u (n + k) next.items b.spends.keeps.vars now b.ok.next in

@@ -34,7 +34,7 @@ returns-then-same_state g c = λ states sets has possible.
     let work : List Function = edges_work net states sets edges in
     let Good : Store → Vec State Global → Type 0 = λ t r. AreRenewed t net edges before table (k + 1) r.items in
     Built-made work Good s s c.args.known (So-start work s)
-    (renewed_same s net edges before table known k edge old source lt is inside over.start c.index-before-edge.is is_source (c.same_state.ensures c.if-same_state.true) c.requires.known)
+    (renewed_same s net edges before table known k edge old source lt is inside over.start c.index-before-edge.is is_source (c.same_state.ensures.0 c.if-same_state.true) c.requires.known)
 
 pub returns-in_err-found : goal.returns-in_err-found
 returns-in_err-found g c = λ states sets has possible.
