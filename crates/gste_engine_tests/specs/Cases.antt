@@ -1,4 +1,4 @@
--- What both programs ask of an edge and of a graph, over a net of two nets and one variable.
+-- Meaning. What both programs ask of an edge and of a graph, over a net of two nets and one variable.
 use Rattle.std.specs.Prelude.{◌<◌, ℕ, All}
 use Rattle.net_core.specs.declared.raw.RawNet.{RawNet}
 use Rattle.ste_model.specs.declared.task.Edge.{Edge}
