@@ -15,3 +15,4 @@ pub mod Unions
 pub mod Stores
 pub mod Counts
 pub mod Closes
+pub mod HeldNodes

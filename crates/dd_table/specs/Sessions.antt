@@ -7,7 +7,9 @@ use Rattle.std.specs.FinMap.{FinMap, get}
 use Rattle.atomic_table.specs.Seated.{TableId, table_id_coded}
 use Rattle.dd_nodes.specs.declared.node.Ref.{Ref}
 use Rattle.dd_nodes.specs.declared.node.Node.{Node}
-use Rattle.dd_nodes.specs.Stores.{Store}
+use Rattle.dd_nodes.specs.Diagram.{Function}
+use Rattle.dd_nodes.specs.Functions.{IsCofactorOf}
+use Rattle.dd_nodes.specs.Stores.{Means, Store}
 use Rattle.dd_nodes.specs.Plain.{var_or}
 use Rattle.dd_table.specs.Codes.{ref, ref_code, node_code}
 use Rattle.dd_table.specs.Layout.{node_in_word, walk_slot}
@@ -46,6 +48,10 @@ store_of k = record {
   vars = k.vars;
   table = table_name k.table;
 }
+
+-- each node of some functions has a reference
+abbrev pub AreHeld : Store → List Function → Type 0
+AreHeld t fs = (f : Function) → IsCofactorOf t.vars fs f → (r : Ref) × Means t f r
 
 -- a session that gives up q of its steps
 abbrev pub gives_quota : ℕ → SessionValue → SessionValue

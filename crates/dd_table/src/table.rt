@@ -1,10 +1,13 @@
 //! The table that threads share: `SharedTable::open` and `SharedTable::close`.
 
-ghost use Rattle.std.specs.Prelude.{◌≡◌, ℕ, ◌<◌, ◌≤◌, ◌/◌, [], length, IfOk};
+ghost use Rattle.std.specs.Prelude.{◌≡◌, ℕ, ◌<◌, ◌≤◌, ◌/◌, List, [], length, IfOk};
 ghost use Rattle.std.specs.Mem.Slots.{slots_len, slots_items, IsFull};
 ghost use Rattle.std.specs.FinMap as map;
+ghost use Rattle.dd_nodes.specs.Diagram.{Function};
+ghost use Rattle.dd_nodes.specs.Functions.{node_count};
 ghost use Rattle.dd_table.specs.Layout.{most_vars, most_slots};
 ghost use Rattle.dd_table.specs.Rules.{taken_slots};
+ghost use Rattle.dd_table.specs.Sessions.{AreHeld, store_of};
 
 use crate::rule::{NodeTable, Sizes};
 use crate::session::Session;
@@ -71,14 +74,18 @@ impl SharedTable {
     }
 
     /// Ends the table, and gives the number of its taken slots. That is the number of nodes that were made in all, at
-    /// least those that this session made or holds. A session that has all steps made them all.
+    /// least those that this session made or holds, and at least the nodes of any functions whose nodes all have references in
+    /// it. A session that has all steps made them all.
     pub fn close(self, session: Session) -> u32
         requires { session.table ≡ self }
         ensures half { result ≤ session.slots / 2 }
         ensures used { length session.made ≤ result }
         ensures held { map.len session.held ≤ result }
+        ensures nodes { (fs : List Function) → AreHeld (store_of session) fs
+            → node_count session.vars fs ≤ result }
         ensures whole { session.limit ≡ session.slots / 2 → result ≡ length session.made }
     {
+        session.shown();
         let Session {
             seat,
             vars: _,

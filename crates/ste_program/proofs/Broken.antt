@@ -44,7 +44,8 @@ use Rattle.ste_model.proofs.GraphReports.{same_edges}
 use Rattle.ste_model.proofs.Passes.{pass_holds}
 use Rattle.ste_model.proofs.Paths.{graph_pass_holds}
 use Rattle.ste_io.specs.Outside.{FilesState}
-use Rattle.ste_program.specs.Check.{IsCheck, IsToldOf, task_steps}
+use Rattle.work_pool.specs.Told.{IsToldOf}
+use Rattle.ste_program.specs.Check.{IsCheck, task_steps}
 use Rattle.ste_program.specs.Holds.{BreaksAlong, BreaksIn, BreaksTask, GraphHoldsOf, HoldsOf, TaskHoldsOf}
 use Rattle.ste_program.specs.Report.{CheckBreaks, CheckHolds, IsWritten, PassHolds, PassesHold, RunsBreak, TheyBreak}
 use Rattle.ste_program.specs.private.Made.{AreBindsIn, IsCheckable}
@@ -95,8 +96,8 @@ task_holds models net vars steps cubes (Gste graph) report sound flat settled ch
 task_holds models net vars steps cubes (Gste graph) report sound flat settled checkable says (inr over) = absurd (no_budget graph.name report says over.0)
 
 -- where a check says pass, the task holds
-check_holds : (steps : Option ℕ) (cubes : ℕ) (wave : Bool) (net_text task_text : List ℕ) (passes : Bool) (bytes : List ℕ) (written : IsCheck steps cubes wave net_text task_text passes bytes) → CheckHolds steps cubes wave net_text task_text passes bytes written
-check_holds given cubes wave net_text task_text passes bytes written = λ place task report here there says.
+check_holds : (steps : Option ℕ) (cubes : ℕ) (wave nodes : Bool) (net_text task_text : List ℕ) (passes : Bool) (bytes : List ℕ) (written : IsCheck steps cubes wave nodes net_text task_text passes bytes) → CheckHolds steps cubes wave nodes net_text task_text passes bytes written
+check_holds given cubes wave nodes net_text task_text passes bytes written = λ place task report here there says.
     let r = written.reading in
     let n = r.flattened in
     let vars = length written.tasks.vars in
@@ -108,10 +109,10 @@ check_holds given cubes wave net_text task_text passes bytes written = λ place 
     task_holds written.models written.net vars steps cubes task report n.sound n.flat n.settled checkable says told
 
 action_holds : (action : Action) (asked : Command) (net_text second_text : List ℕ) (passes : Bool) (bytes : List ℕ) (written : IsWritten action asked net_text second_text passes bytes) → PassesHold action asked net_text second_text passes bytes written
-action_holds (check net tasks) asked net_text second_text passes bytes written = check_holds asked.steps asked.cubes asked.wave net_text second_text passes bytes written
+action_holds (check net tasks) asked net_text second_text passes bytes written = check_holds asked.steps asked.cubes asked.wave asked.nodes net_text second_text passes bytes written
 action_holds (info net) asked net_text second_text passes bytes written = tt
 action_holds (sim net inputs) asked net_text second_text passes bytes written = tt
-action_holds (bench stages) asked net_text second_text passes bytes written = check_holds asked.steps asked.cubes asked.wave (pipeline_net stages) (pipeline_tasks stages) passes written.report written.check
+action_holds (bench stages) asked net_text second_text passes bytes written = check_holds asked.steps asked.cubes asked.wave asked.nodes (pipeline_net stages) (pipeline_tasks stages) passes written.report written.check
 
 pub passes_hold : (command : Option Command) (files : FilesState) → PassHolds command files
 passes_hold command files passes bytes report = action_holds report.asked.action report.asked report.net_text report.second_text passes bytes report.written
@@ -231,8 +232,8 @@ task_breaks models net vars steps cubes (Gste graph) report run sound flat settl
 task_breaks models net vars steps cubes (Gste graph) report run sound flat settled checkable is (inr over) = absurd (no_run graph.name report run is over.0)
 
 -- where a check tells a run, it breaks its task
-check_breaks : (steps : Option ℕ) (cubes : ℕ) (wave : Bool) (net_text task_text : List ℕ) (passes : Bool) (bytes : List ℕ) (written : IsCheck steps cubes wave net_text task_text passes bytes) → CheckBreaks steps cubes wave net_text task_text passes bytes written
-check_breaks given cubes wave net_text task_text passes bytes written = λ place task report run here there is.
+check_breaks : (steps : Option ℕ) (cubes : ℕ) (wave nodes : Bool) (net_text task_text : List ℕ) (passes : Bool) (bytes : List ℕ) (written : IsCheck steps cubes wave nodes net_text task_text passes bytes) → CheckBreaks steps cubes wave nodes net_text task_text passes bytes written
+check_breaks given cubes wave nodes net_text task_text passes bytes written = λ place task report run here there is.
     let r = written.reading in
     let n = r.flattened in
     let vars = length written.tasks.vars in
@@ -244,10 +245,10 @@ check_breaks given cubes wave net_text task_text passes bytes written = λ place
     task_breaks written.models written.net vars steps cubes task report run n.sound n.flat n.settled checkable is told
 
 action_breaks : (action : Action) (asked : Command) (net_text second_text : List ℕ) (passes : Bool) (bytes : List ℕ) (written : IsWritten action asked net_text second_text passes bytes) → TheyBreak action asked net_text second_text passes bytes written
-action_breaks (check net tasks) asked net_text second_text passes bytes written = check_breaks asked.steps asked.cubes asked.wave net_text second_text passes bytes written
+action_breaks (check net tasks) asked net_text second_text passes bytes written = check_breaks asked.steps asked.cubes asked.wave asked.nodes net_text second_text passes bytes written
 action_breaks (info net) asked net_text second_text passes bytes written = tt
 action_breaks (sim net inputs) asked net_text second_text passes bytes written = tt
-action_breaks (bench stages) asked net_text second_text passes bytes written = check_breaks asked.steps asked.cubes asked.wave (pipeline_net stages) (pipeline_tasks stages) passes written.report written.check
+action_breaks (bench stages) asked net_text second_text passes bytes written = check_breaks asked.steps asked.cubes asked.wave asked.nodes (pipeline_net stages) (pipeline_tasks stages) passes written.report written.check
 
 pub runs_break : (command : Option Command) (files : FilesState) → RunsBreak command files
 runs_break command files passes bytes report = action_breaks report.asked.action report.asked report.net_text report.second_text passes bytes report.written

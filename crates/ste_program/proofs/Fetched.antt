@@ -6,8 +6,8 @@ use Rattle.command_line.specs.Command.{Action, Command}
 use Rattle.ste_io.specs.Causes.{Rose}
 use Rattle.ste_io.specs.Outside.{FilesState, IsFetched, IsTooLarge, Store, asked_for, with_name, with_names}
 use Rattle.ste_program.specs.Answer.{AskedSome, WhyNoReport, status_of}
-use Rattle.ste_program.specs.Command.{file_of, files_of, files_up_to, is_undone, net_file, second_file}
-use Rattle.ste_program.specs.Order.{AllSilent, IsFirst, is_large, is_missing, is_not_done, refusals, stages_before}
+use Rattle.ste_program.specs.Command.{file_of, files_of, files_up_to, net_file, second_file}
+use Rattle.ste_program.specs.Order.{AllSilent, IsFirst, is_large, is_missing, refusals, stages_before}
 use Rattle.ste_program.specs.Report.{IsRead, greatest, text_at}
 use Rattle.ste_program.specs.private.Texts.{AreTexts, FileFails, IsAtHand, WhyNoFile}
 use Rattle.ste_program.specs.declared.refusal.File.{File}
@@ -90,10 +90,6 @@ of_text P held text e h = subst (λ (found : Option (List ℕ)). IsSomeAnd found
 not_missing : (held : Option (List ℕ)) (P : List ℕ → Type 0) → IsSomeAnd held P → held ≡ None → ⊥
 not_missing held P some none = subst (λ (found : Option (List ℕ)). IsSomeAnd found P) none some
 
--- a command that is done is not refused for that
-pub done_silent : (command : Command) → is_undone command ≡ false → (other : Refusal) → ¬ is_not_done command other
-done_silent command done other h = let is = h.1 in absurd (cc (done, is))
-
 -- a file that is read is neither missing nor too large
 pub held_silent : (which : File) (action : Action) (store : Store) (text : List ℕ) → text_at (file_of action which) store ≡ Some text → length text ≤ greatest →
     ((other : Refusal) → ¬ is_missing which action store other) × ((other : Refusal) → ¬ is_large which action store other)
@@ -104,7 +100,6 @@ held_silent which action store text held small = (
 
 -- What a step that asks for a file behind names that were asked for has to know of it.
 record IsNext (command : Command) (before between : FilesState) (which : File) (names : List (List ℕ)) : Type 0 where
-  pub done : is_undone command ≡ false
   pub before_is : between ≡ asked before names
   pub some : (n : ℕ) × (names ≡ take n (files_of (Some command)))
   pub up_to : names ++ option_to_list (file_of command.action which) ≡ files_up_to command which
@@ -136,7 +131,6 @@ fails command before between after which names found next (name, named, why) =
       failed = record {
         name = name;
         named = named;
-        done = next.done;
         same = failed.same ∙ ap (λ (s : FilesState). s.holds) next.before_is;
         asking = failed.asking ∙ ap (λ (s : FilesState). s.asked) asking;
         rose = subst (λ (s : FilesState). Rose s.faults after.faults) next.before_is failed.rose;
@@ -151,40 +145,36 @@ fails command before between after which names found next (name, named, why) =
           subst (λ (o : Option (List ℕ)). IsSomeAnd (text_at o store) (λ bytes. greatest < length bytes)) (sym named)
           (large_told name between.holds large store (ap (λ (s : FilesState). s.holds) next.before_is ∙ told)) in
           next.placed store told found (is, held) (λ other h. not_missing (text_at (file_of command.action which) store) (λ bytes. greatest < length bytes) held h.1);
-      grounded = inr (next.done, inl (which, name, named, is, subst (λ (s : FilesState). IsTooLarge s.holds name greatest) next.before_is large));
+      grounded = inl (which, name, named, is, subst (λ (s : FilesState). IsTooLarge s.holds name greatest) next.before_is large);
       asking = some_asked after same;
     }))
 
 -- the netlist's file cannot be had
-pub first_fails : (command : Command) (before after : FilesState) (found : Refusal) → is_undone command ≡ false → WhyNoFile file.Net (net_file command.action) before after found → WhyNoReport (Some command) before after found
-first_fails command before after found done why =
-    let silent = done_silent command done in
+pub first_fails : (command : Command) (before after : FilesState) (found : Refusal) → WhyNoFile file.Net (net_file command.action) before after found → WhyNoReport (Some command) before after found
+first_fails command before after found why =
     fails command before before after file.Net [] found (record {
-      done = done;
       before_is = asked_none before;
       some = (0, refl);
       up_to = refl;
       all = first_names (net_file command.action) (second_file command.action);
-      reached = λ store told. (silent, tt);
-      placed = λ store told found large not_missing. inr (silent, inr (not_missing, inl large));
+      reached = λ store told. tt;
+      placed = λ store told found large not_missing. inr (not_missing, inl large);
     }) why
 
 -- the second file cannot be had, behind the netlist's, which is at hand
-pub second_fails : (command : Command) (before between after : FilesState) (text : List ℕ) (found : Refusal) → is_undone command ≡ false → IsAtHand (net_file command.action) before between text →
+pub second_fails : (command : Command) (before between after : FilesState) (text : List ℕ) (found : Refusal) → IsAtHand (net_file command.action) before between text →
     WhyNoFile file.Second (second_file command.action) between after found → WhyNoReport (Some command) before after found
-second_fails command before between after text found done net why =
-    let silent = done_silent command done in
+second_fails command before between after text found net why =
     let net_silent = λ (store : Store) (told : before.holds ≡ Some store).
     held_silent file.Net command.action store text (read_told (net_file command.action) before.holds text net.read store told) net.small in
     fails command before between after file.Second (option_to_list (net_file command.action)) found (record {
-      done = done;
       before_is = net.asking;
       some = first_names (net_file command.action) (second_file command.action);
       up_to = refl;
       all = (2, all_names (net_file command.action) (second_file command.action));
-      reached = λ store told. (silent, ((net_silent store told).0, ((net_silent store told).1, tt)));
+      reached = λ store told. ((net_silent store told).0, ((net_silent store told).1, tt));
       placed = λ store told found large not_missing.
-          inr (silent, inr ((net_silent store told).0, inr ((net_silent store told).1, inr (not_missing, inl large))));
+          inr ((net_silent store told).0, inr ((net_silent store told).1, inr (not_missing, inl large)));
     }) why
 
 -- both texts are at hand

@@ -24,7 +24,7 @@ use Rattle.ste_model.specs.declared.task.Task.TheVariants.{Ste, Gste}
 use Rattle.ste_model.specs.declared.verdict.Verdict.{Verdict}
 use Rattle.ste_model.proofs.Due.{asks_of_nets}
 use Rattle.ste_model.proofs.DueAlong.{of_cuts}
-use Rattle.ste_program.specs.Check.{IsToldOf}
+use Rattle.work_pool.specs.Told.{IsToldOf}
 use Rattle.ste_program.specs.private.Made.{AreBindsIn, IsCheckable}
 use Rattle.ste_program.proofs.Broken.{all_at}
 use Rattle.ste_program.proofs.TaskLists.{checkable_con, cons_in}

@@ -20,7 +20,9 @@ use Rattle.ste_program.specs.Bench.{IsBench}
 use Rattle.ste_program.specs.Check.{IsCheck}
 use Rattle.ste_program.specs.Command.{net_file, second_file}
 use Rattle.ste_program.specs.Info.{IsInfo, count_line, free_below, info_text, is_free}
-use Rattle.ste_program.specs.Report.{Agree, IsWritten, OneReport, reports_in, text_at}
+use Rattle.ste_io.specs.Outside.{FilesState}
+use Rattle.work_pool.specs.Told.{Agree}
+use Rattle.ste_program.specs.Report.{AskAlike, IsReport, IsWritten, OneReport, reports_in, shared_in, text_at}
 use Rattle.ste_program.specs.Simulated.{IsSimulated, sim_text}
 use Rattle.ste_program.proofs.Fetched.{read_told}
 use Rattle.ste_program.proofs.NetlistText.{one_netlist}
@@ -34,17 +36,19 @@ abbrev verdict_in : Report → Verdict
 verdict_in report = report.verdict
 
 -- what two reports on the same texts have in common
-abbrev AreOne : (action : Action) (asked : Command) (net_text second_text : List ℕ) (passes others : Bool) (bytes others_bytes : List ℕ) → IsWritten action asked net_text second_text passes bytes → IsWritten action asked net_text second_text others others_bytes → Type 0
-AreOne action asked net_text second_text passes others bytes others_bytes one two =
-    AllZip Agree (reports_in action asked net_text second_text passes bytes one) (reports_in action asked net_text second_text others others_bytes two)
-    × (map verdict_in (reports_in action asked net_text second_text passes bytes one) ≡ map verdict_in (reports_in action asked net_text second_text others others_bytes two) → (passes ≡ others) × (bytes ≡ others_bytes))
+abbrev AreOne : (action : Action) (asked twin : Command) (net_text second_text : List ℕ) (passes others : Bool) (bytes others_bytes : List ℕ) → IsWritten action asked net_text second_text passes bytes → IsWritten action twin net_text second_text others others_bytes → Type 0
+AreOne action asked twin net_text second_text passes others bytes others_bytes one two =
+    AllZip Agree (reports_in action asked net_text second_text passes bytes one) (reports_in action twin net_text second_text others others_bytes two)
+    × (map verdict_in (reports_in action asked net_text second_text passes bytes one) ≡ map verdict_in (reports_in action twin net_text second_text others others_bytes two) →
+    (passes ≡ others) × (shared_in action asked net_text second_text passes bytes one ≡ shared_in action twin net_text second_text others others_bytes two → bytes ≡ others_bytes))
 
-checks_same : (steps : Option ℕ) (cubes : ℕ) (wave : Bool) (net_text task_text : List ℕ) (passes others : Bool) (bytes others_bytes : List ℕ) (one : IsCheck steps cubes wave net_text task_text passes bytes) (two : IsCheck steps cubes wave net_text task_text others others_bytes) →
-    AllZip Agree one.report.reports two.report.reports × (map verdict_in one.report.reports ≡ map verdict_in two.report.reports → (passes ≡ others) × (bytes ≡ others_bytes))
-checks_same steps cubes wave net_text task_text passes others bytes others_bytes one two =
+checks_same : (steps more : Option ℕ) (cubes : ℕ) (wave nodes : Bool) (net_text task_text : List ℕ) (passes others : Bool) (bytes others_bytes : List ℕ) (one : IsCheck steps cubes wave nodes net_text task_text passes bytes) (two : IsCheck more cubes wave nodes net_text task_text others others_bytes) →
+    AllZip Agree one.report.reports two.report.reports
+    × (map verdict_in one.report.reports ≡ map verdict_in two.report.reports → (passes ≡ others) × (one.report.shared ≡ two.report.shared → bytes ≡ others_bytes))
+checks_same steps more cubes wave nodes net_text task_text passes others bytes others_bytes one two =
     let readings = one_reading net_text task_text one.models two.models one.net two.net one.tasks two.tasks one.reading two.reading in
     let n = two.reading.flattened in
-    reports_agree two.models one.net two.net _ _ _ _ cubes wave one.tasks two.tasks passes others bytes others_bytes
+    reports_agree two.models one.net two.net _ _ _ _ cubes wave nodes one.tasks two.tasks passes others bytes others_bytes
     (subst (λ (ms : List Model). IsFlat ms one.net) readings.0 one.reading.flattened.flat) n.flat n.in_range n.settled
     (ap (λ (ms : List Model). map own_name (nets ms)) readings.0) readings.1 readings.2 one.report two.report
 
@@ -93,57 +97,74 @@ simulations_same net_text input_text bytes others_bytes one two =
     (subst (λ (ms : List Model). IsAnswer (net_named ms) one.net (lines_of input_text) (Ok one.inputs)) same one.given) two.given one.run two.run in
     one.written ∙ (ap (λ (ms : List Model). sim_text (outputs_of (top ms)) one.rows) same ∙ (ap (sim_text (outputs_of (top two.models))) rows ∙ sym two.written))
 
-benches_same : (steps : Option ℕ) (cubes : ℕ) (wave : Bool) (stages : ℕ) (passes others : Bool) (bytes others_bytes : List ℕ) (one : IsBench steps cubes wave stages passes bytes) (two : IsBench steps cubes wave stages others others_bytes) →
-    AllZip Agree one.check.report.reports two.check.report.reports × (map verdict_in one.check.report.reports ≡ map verdict_in two.check.report.reports → (passes ≡ others) × (bytes ≡ others_bytes))
-benches_same steps cubes wave stages passes others bytes others_bytes one two =
+benches_same : (steps more : Option ℕ) (cubes : ℕ) (wave nodes : Bool) (stages : ℕ) (passes others : Bool) (bytes others_bytes : List ℕ) (one : IsBench steps cubes wave nodes stages passes bytes) (two : IsBench more cubes wave nodes stages others others_bytes) →
+    AllZip Agree one.check.report.reports two.check.report.reports
+    × (map verdict_in one.check.report.reports ≡ map verdict_in two.check.report.reports → (passes ≡ others) × (one.check.report.shared ≡ two.check.report.shared → bytes ≡ others_bytes))
+benches_same steps more cubes wave nodes stages passes others bytes others_bytes one two =
     let net_text = pipeline_net stages in
     let task_text = pipeline_tasks stages in
-    let both = checks_same steps cubes wave net_text task_text passes others one.report two.report one.check two.check in
+    let both = checks_same steps more cubes wave nodes net_text task_text passes others one.report two.report one.check two.check in
     let readings = one_reading net_text task_text one.check.models two.check.models one.check.net two.check.net one.check.tasks two.check.tasks one.check.reading two.check.reading in
     let same_nets : one.check.net.nets ≡ two.check.net.nets =
     (flats_same two.check.models one.check.net two.check.net (subst (λ (ms : List Model). IsFlat ms one.check.net) readings.0 one.check.reading.flattened.flat) two.check.reading.flattened.flat).nets in (
       both.0,
       (λ v. let same = both.1 v in (
         same.0,
-        one.written
-            ∙ (ap (λ (text : List ℕ). text ++ count_line (codes "nets") one.check.net.nets) same.1
-            ∙ (ap (λ (n : ℕ). two.report ++ count_line (codes "nets") n) same_nets ∙ sym two.written)),
+        (λ shared. one.written
+            ∙ (ap (λ (text : List ℕ). text ++ count_line (codes "nets") one.check.net.nets) (same.1 shared)
+            ∙ (ap (λ (n : ℕ). two.report ++ count_line (codes "nets") n) same_nets ∙ sym two.written))),
       )),
     )
 
-written_same : (action : Action) (asked : Command) (net_text second_text : List ℕ) (passes others : Bool) (bytes others_bytes : List ℕ) (one : IsWritten action asked net_text second_text passes bytes) (two : IsWritten action asked net_text second_text others others_bytes) →
-    AreOne action asked net_text second_text passes others bytes others_bytes one two
-written_same (check net tasks) asked net_text second_text passes others bytes others_bytes one two = checks_same asked.steps asked.cubes asked.wave net_text second_text passes others bytes others_bytes one two
-written_same (info net) asked net_text second_text passes others bytes others_bytes one two = (tt, (λ same. (one.0 ∙ sym two.0, infos_same net_text bytes others_bytes one.1 two.1)))
-written_same (sim net inputs) asked net_text second_text passes others bytes others_bytes one two = (tt, (λ same. (one.0 ∙ sym two.0, simulations_same net_text second_text bytes others_bytes one.1 two.1)))
-written_same (bench stages) asked net_text second_text passes others bytes others_bytes one two = benches_same asked.steps asked.cubes asked.wave stages passes others bytes others_bytes one two
+-- a command with other workers and steps
+abbrev likened : Command → ℕ → Option ℕ → Command
+likened twin workers steps = record twin { workers = workers; steps = steps }
+
+likened_is : (command twin : Command) → AskAlike command twin → likened twin command.workers command.steps ≡ command
+likened_is command twin alike = sym (
+    ap (λ (a : Action). record command { action = a }) alike.action
+    ∙ (ap (λ (n : ℕ). record command { action = twin.action; cubes = n }) alike.cubes
+    ∙ (ap (λ (b : Bool). record command { action = twin.action; cubes = twin.cubes; wave = b }) alike.wave
+    ∙ ap (λ (b : Bool). record command { action = twin.action; cubes = twin.cubes; wave = twin.wave; nodes = b }) alike.nodes)))
+
+written_same : (action : Action) (twin : Command) (workers : ℕ) (steps : Option ℕ) (net_text second_text : List ℕ) (passes others : Bool) (bytes others_bytes : List ℕ) (one : IsWritten action (likened twin workers steps) net_text second_text passes bytes) (two : IsWritten action twin net_text second_text others others_bytes) →
+    AreOne action (likened twin workers steps) twin net_text second_text passes others bytes others_bytes one two
+written_same (check net tasks) twin workers steps net_text second_text passes others bytes others_bytes one two = checks_same steps twin.steps twin.cubes twin.wave twin.nodes net_text second_text passes others bytes others_bytes one two
+written_same (info net) twin workers steps net_text second_text passes others bytes others_bytes one two = (tt, (λ same. (one.0 ∙ sym two.0, (λ shared. infos_same net_text bytes others_bytes one.1 two.1))))
+written_same (sim net inputs) twin workers steps net_text second_text passes others bytes others_bytes one two = (tt, (λ same. (one.0 ∙ sym two.0, (λ shared. simulations_same net_text second_text bytes others_bytes one.1 two.1))))
+written_same (bench stages) twin workers steps net_text second_text passes others bytes others_bytes one two = benches_same steps twin.steps twin.cubes twin.wave twin.nodes stages passes others bytes others_bytes one two
 
 -- what is read of a file is one text
 one_text : (held : Option (List ℕ)) (one other : List ℕ) → held ≡ Some one → held ≡ Some other → one ≡ other
 one_text held one other f g = let both : Some one ≡ Some other = sym f ∙ g in let same : one ≡ other = cc in same
 
 -- a report on texts that are the same
-module _ (asked : Command) (net_text second_text : List ℕ) (passes others : Bool) (bytes others_bytes : List ℕ) (two : IsWritten asked.action asked net_text second_text others others_bytes) where
+module _ (twin : Command) (workers : ℕ) (steps : Option ℕ) (net_text second_text : List ℕ) (passes others : Bool) (bytes others_bytes : List ℕ) (two : IsWritten twin.action twin net_text second_text others others_bytes) where
   abbrev IsOne : (command : Command) (one_net one_second : List ℕ) → IsWritten command.action command one_net one_second passes bytes → Type 0
   IsOne command one_net one_second written =
-      AllZip Agree (reports_in command.action command one_net one_second passes bytes written) (reports_in asked.action asked net_text second_text others others_bytes two)
-      × (map verdict_in (reports_in command.action command one_net one_second passes bytes written) ≡ map verdict_in (reports_in asked.action asked net_text second_text others others_bytes two) → (passes ≡ others) × (bytes ≡ others_bytes))
+      AllZip Agree (reports_in command.action command one_net one_second passes bytes written) (reports_in twin.action twin net_text second_text others others_bytes two)
+      × (map verdict_in (reports_in command.action command one_net one_second passes bytes written) ≡ map verdict_in (reports_in twin.action twin net_text second_text others others_bytes two) →
+      (passes ≡ others) × (shared_in command.action command one_net one_second passes bytes written ≡ shared_in twin.action twin net_text second_text others others_bytes two → bytes ≡ others_bytes))
 
-  moved : (command : Command) (one_net one_second : List ℕ) → asked ≡ command → net_text ≡ one_net → second_text ≡ one_second → (written : IsWritten command.action command one_net one_second passes bytes) → IsOne command one_net one_second written
+  moved : (command : Command) (one_net one_second : List ℕ) → likened twin workers steps ≡ command → net_text ≡ one_net → second_text ≡ one_second → (written : IsWritten command.action command one_net one_second passes bytes) → IsOne command one_net one_second written
   moved command one_net one_second same net second =
       subst (λ (c : Command). (written : IsWritten c.action c one_net one_second passes bytes) → IsOne c one_net one_second written) same
-      (subst (λ (n : List ℕ). (written : IsWritten asked.action asked n one_second passes bytes) → IsOne asked n one_second written) net
-      (subst (λ (t : List ℕ). (written : IsWritten asked.action asked net_text t passes bytes) → IsOne asked net_text t written) second
-      (λ written. written_same asked.action asked net_text second_text passes others bytes others_bytes written two)))
+      (subst (λ (n : List ℕ). (written : IsWritten twin.action (likened twin workers steps) n one_second passes bytes) → IsOne (likened twin workers steps) n one_second written) net
+      (subst (λ (t : List ℕ). (written : IsWritten twin.action (likened twin workers steps) net_text t passes bytes) → IsOne (likened twin workers steps) net_text t written) second
+      (λ written. written_same twin.action twin workers steps net_text second_text passes others bytes others_bytes written two)))
 
--- a command has one report at most on what the files hold
+-- the command that a report is of
+asked_is : (command : Command) (files : FilesState) (passes : Bool) (bytes : List ℕ) (report : IsReport (Some command) files passes bytes) → report.asked ≡ command
+asked_is command files passes bytes report = let both : Some report.asked ≡ Some command = sym report.is in cc both
+
+-- commands that ask for the same have one report at most on what the files hold
 pub one_report : OneReport
-one_report command files store told passes others bytes others_bytes one two =
-    let same : two.asked ≡ one.asked = let both : Some two.asked ≡ Some one.asked = sym two.is ∙ one.is in cc in
+one_report command twin alike files twins store told also passes others bytes others_bytes one two =
+    let same : AskAlike one.asked two.asked = subst (λ (c : Command). AskAlike c two.asked) (sym (asked_is command files passes bytes one)) (subst (λ (c : Command). AskAlike command c) (sym (asked_is twin twins others others_bytes two)) alike) in
     let net = one_text (text_at (net_file one.asked.action) store) two.net_text one.net_text
-    (ap (λ (c : Command). text_at (net_file c.action) store) (sym same) ∙ read_told (net_file two.asked.action) files.holds two.net_text two.net_read store told)
+    (ap (λ (a : Action). text_at (net_file a) store) same.action ∙ read_told (net_file two.asked.action) twins.holds two.net_text two.net_read store also)
     (read_told (net_file one.asked.action) files.holds one.net_text one.net_read store told) in
     let second = one_text (text_at (second_file one.asked.action) store) two.second_text one.second_text
-    (ap (λ (c : Command). text_at (second_file c.action) store) (sym same) ∙ read_told (second_file two.asked.action) files.holds two.second_text two.second_read store told)
+    (ap (λ (a : Action). text_at (second_file a) store) same.action ∙ read_told (second_file two.asked.action) twins.holds two.second_text two.second_read store also)
     (read_told (second_file one.asked.action) files.holds one.second_text one.second_read store told) in
-    moved two.asked two.net_text two.second_text passes others bytes others_bytes two.written one.asked one.net_text one.second_text same net second one.written
+    moved two.asked one.asked.workers one.asked.steps two.net_text two.second_text passes others bytes others_bytes two.written one.asked one.net_text one.second_text (likened_is one.asked two.asked same) net second one.written

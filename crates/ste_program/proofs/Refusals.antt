@@ -5,7 +5,7 @@ use Rattle.std.specs.Prelude.{IsSomeAnd, MatchResult}
 use Rattle.command_line.specs.Command.{Action, Command}
 use Rattle.ste_io.specs.Outside.{FilesState, Store}
 use Rattle.ste_program.specs.Answer.{IsFound, WhyNoReport}
-use Rattle.ste_program.specs.Command.{is_undone, net_file, second_file}
+use Rattle.ste_program.specs.Command.{net_file, second_file}
 use Rattle.ste_program.specs.Order.{AllSilent, IsFirst, OneRefusal, ReportedIsNotRefused, refusals, text_stages}
 use Rattle.ste_program.specs.Report.{IsReport, IsWritten, text_at}
 use Rattle.ste_program.specs.private.Made.{IsMade}
@@ -13,7 +13,7 @@ use Rattle.ste_program.specs.private.Texts.{AreTexts, OrMemory}
 use Rattle.ste_program.specs.declared.refusal.File.TheVariants as file
 use Rattle.ste_program.specs.declared.refusal.Refusal.{Refusal}
 use Rattle.ste_program.specs.declared.refusal.Refusal.TheVariants as refusal
-use Rattle.ste_program.proofs.Fetched.{all_names, asked, asked_none, done_silent, held_silent, of_held, of_text, read_told}
+use Rattle.ste_program.proofs.Fetched.{all_names, asked, asked_none, held_silent, of_held, of_text, read_told}
 use Rattle.ste_program.proofs.Stages.{AllOnce, first_told, none_first, one_first}
 use Rattle.ste_program.proofs.TextStages.{text_once, text_silent, text_told}
 
@@ -38,10 +38,7 @@ all_once (Some command) store = (
       (λ one other f g. same _ one other f.0 g.0),
       (
         (λ one other f g. same _ one other f.0 g.0),
-        (
-          (λ one other f g. same _ one other f.0 g.0),
-          ((λ one other f g. one_in_texts command.action command.steps (text_at (net_file command.action) store) (text_at (second_file command.action) store) one other f g), tt),
-        ),
+        ((λ one other f g. one_in_texts command.action command.steps (text_at (net_file command.action) store) (text_at (second_file command.action) store) one other f g), tt),
       ),
     ),
   ),
@@ -52,9 +49,9 @@ pub one_refusal : OneRefusal
 one_refusal command store one other f g = one_first (refusals command store) one other (all_once command store) f g
 
 -- the first refusal of both texts is the first
-found_in_texts : (command : Command) (before after : FilesState) (net_text second_text : List ℕ) (found : Refusal) → is_undone command ≡ false → AreTexts command before after net_text second_text →
+found_in_texts : (command : Command) (before after : FilesState) (net_text second_text : List ℕ) (found : Refusal) → AreTexts command before after net_text second_text →
     IsFirst (text_stages command.action command.steps net_text second_text) found → IsFound (Some command) before after found
-found_in_texts command before after net_text second_text found done texts first = record {
+found_in_texts command before after net_text second_text found texts first = record {
   kind = first_told (text_stages command.action command.steps net_text second_text) found (text_told command.action command.steps net_text second_text) first;
   first = λ store told.
       let net = read_told (net_file command.action) before.holds net_text texts.net_read store told in
@@ -62,41 +59,37 @@ found_in_texts command before after net_text second_text found done texts first 
       let one = held_silent file.Net command.action store net_text net texts.net_small in
       let two = held_silent file.Second command.action store second_text second texts.second_small in
       inr (
-        done_silent command done,
+        one.0,
         inr (
-          one.0,
+          one.1,
           inr (
-            one.1,
+            two.0,
             inr (
-              two.0,
-              inr (
-                two.1,
-                inl (of_held (λ text. IsSomeAnd (text_at (second_file command.action) store) (λ t. IsFirst (text_stages command.action command.steps text t) found)) (text_at (net_file command.action) store) net_text net
-                    (of_held (λ t. IsFirst (text_stages command.action command.steps net_text t) found) (text_at (second_file command.action) store) second_text second first)),
-              ),
+              two.1,
+              inl (of_held (λ text. IsSomeAnd (text_at (second_file command.action) store) (λ t. IsFirst (text_stages command.action command.steps text t) found)) (text_at (net_file command.action) store) net_text net
+                  (of_held (λ t. IsFirst (text_stages command.action command.steps net_text t) found) (text_at (second_file command.action) store) second_text second first)),
             ),
           ),
         ),
       );
-  grounded = inr (done, inr (net_text, second_text, texts.net_read, texts.second_read, texts.net_small, texts.second_small, first));
+  grounded = inr (net_text, second_text, texts.net_read, texts.second_read, texts.net_small, texts.second_small, first);
   asking = (2, texts.asking ∙ ap (asked before) (all_names (net_file command.action) (second_file command.action)));
 }
 
 -- the texts that were fetched are refused
-unreported : (command : Command) (before after : FilesState) (net_text second_text : List ℕ) (found : Refusal) → is_undone command ≡ false → AreTexts command before after net_text second_text →
+unreported : (command : Command) (before after : FilesState) (net_text second_text : List ℕ) (found : Refusal) → AreTexts command before after net_text second_text →
     OrMemory (IsFirst (text_stages command.action command.steps net_text second_text)) found → WhyNoReport (Some command) before after found
-unreported command before after net_text second_text found done texts (inl memory) =
+unreported command before after net_text second_text found texts (inl memory) =
     inr (inl (memory, (2, texts.asking ∙ ap (asked before) (all_names (net_file command.action) (second_file command.action)))))
-unreported command before after net_text second_text found done texts (inr first) = inr (inr (found_in_texts command before after net_text second_text found done texts first))
+unreported command before after net_text second_text found texts (inr first) = inr (inr (found_in_texts command before after net_text second_text found texts first))
 
 -- a report is made of them
-made_of : (command : Command) (before after : FilesState) (net_text second_text : List ℕ) (passes : Bool) (bytes : List ℕ) → is_undone command ≡ false → AreTexts command before after net_text second_text →
+made_of : (command : Command) (before after : FilesState) (net_text second_text : List ℕ) (passes : Bool) (bytes : List ℕ) → AreTexts command before after net_text second_text →
     IsWritten command.action command net_text second_text passes bytes → IsMade (Some command) before after passes bytes
-made_of command before after net_text second_text passes bytes done texts written = record {
+made_of command before after net_text second_text passes bytes texts written = record {
   report = record {
     asked = command;
     is = refl;
-    done = done;
     net_text = net_text;
     second_text = second_text;
     net_read = texts.net_read;
@@ -110,23 +103,18 @@ made_of command before after net_text second_text passes bytes done texts writte
 
 -- a report, or why there is none, with the texts that were fetched for it
 pub made_or_not : {T : Type 0} (result : Result T Refusal) (passes : T → Bool) (bytes : T → List ℕ) (given : Option Command) (command : Command) (before after : FilesState) (net_text second_text : List ℕ) →
-    given ≡ Some command → is_undone command ≡ false → AreTexts command before after net_text second_text →
+    given ≡ Some command → AreTexts command before after net_text second_text →
     MatchResult result (λ made. IsWritten command.action command net_text second_text (passes made) (bytes made)) (λ found. OrMemory (IsFirst (text_stages command.action command.steps net_text second_text)) found) →
     MatchResult result (λ made. IsMade given before after (passes made) (bytes made)) (λ found. WhyNoReport given before after found)
-made_or_not (Ok made) passes bytes given command before after net_text second_text is done texts h =
-    subst (λ (c : Option Command). IsMade c before after (passes made) (bytes made)) (sym is) (made_of command before after net_text second_text (passes made) (bytes made) done texts h)
-made_or_not (Err found) passes bytes given command before after net_text second_text is done texts h =
-    subst (λ (c : Option Command). WhyNoReport c before after found) (sym is) (unreported command before after net_text second_text found done texts h)
+made_or_not (Ok made) passes bytes given command before after net_text second_text is texts h =
+    subst (λ (c : Option Command). IsMade c before after (passes made) (bytes made)) (sym is) (made_of command before after net_text second_text (passes made) (bytes made) texts h)
+made_or_not (Err found) passes bytes given command before after net_text second_text is texts h =
+    subst (λ (c : Option Command). WhyNoReport c before after found) (sym is) (unreported command before after net_text second_text found texts h)
 
 -- the words are no command
 pub is_usage : (given : Option Command) (before : FilesState) → given ≡ None → WhyNoReport given before before refusal.Usage
 is_usage given before is = subst (λ (c : Option Command). WhyNoReport c before before refusal.Usage) (sym is)
     (inr (inr (record { kind = refl; first = λ store told. inl refl; grounded = refl; asking = (0, asked_none before) })))
-
--- the command is not done so far
-pub is_not_yet : (given : Option Command) (command : Command) (before : FilesState) → given ≡ Some command → is_undone command ≡ true → WhyNoReport given before before refusal.NotYet
-is_not_yet given command before is undone = subst (λ (c : Option Command). WhyNoReport c before before refusal.NotYet) (sym is)
-    (inr (inr (record { kind = refl; first = λ store told. inl (refl, undone); grounded = inl (refl, undone); asking = (0, asked_none before) })))
 
 -- the texts cannot be had
 pub texts_fail : (given : Option Command) (command : Command) (before after : FilesState) (found : Refusal) → given ≡ Some command → WhyNoReport (Some command) before after found → WhyNoReport given before after found
@@ -140,21 +128,18 @@ reported_silent_of command files store passes bytes told r is =
     let second = read_told (second_file c.action) files.holds r.second_text r.second_read store told in
     let one = held_silent file.Net c.action store r.net_text net r.net_small in
     let two = held_silent file.Second c.action store r.second_text second r.second_small in (
-      done_silent c r.done,
+      one.0,
       (
-        one.0,
+        one.1,
         (
-          one.1,
+          two.0,
           (
-            two.0,
+            two.1,
             (
-              two.1,
-              (
-                (λ other h. none_first (text_stages c.action c.steps r.net_text r.second_text) other (text_silent c.action c r.net_text r.second_text passes bytes r.written)
-                    (of_text (λ t. IsFirst (text_stages c.action c.steps r.net_text t) other) (text_at (second_file c.action) store) r.second_text second
-                    (of_text (λ text. IsSomeAnd (text_at (second_file c.action) store) (λ t. IsFirst (text_stages c.action c.steps text t) other)) (text_at (net_file c.action) store) r.net_text net h))),
-                tt,
-              ),
+              (λ other h. none_first (text_stages c.action c.steps r.net_text r.second_text) other (text_silent c.action c r.net_text r.second_text passes bytes r.written)
+                  (of_text (λ t. IsFirst (text_stages c.action c.steps r.net_text t) other) (text_at (second_file c.action) store) r.second_text second
+                  (of_text (λ text. IsSomeAnd (text_at (second_file c.action) store) (λ t. IsFirst (text_stages c.action c.steps text t) other)) (text_at (net_file c.action) store) r.net_text net h))),
+              tt,
             ),
           ),
         ),

@@ -31,9 +31,9 @@ use Rattle.ste_model.specs.Shown.{IsFilled, IsFirst, IsLatchOutput, IsPrinted, I
 use Rattle.ste_model.specs.Trees.{QuintTree, quint_tree, task_tree}
 use Rattle.ste_model.proofs.GraphReports.{one_graph_report_of}
 use Rattle.ste_model.proofs.Reports.{one_report_of}
-use Rattle.report_text.specs.Text.{fails_line, guards_text, least_line, names_net, net_line, path_line, report_text, run_text, task_text, verdict_words}
-use Rattle.ste_program.specs.Check.{IsReportOn, IsToldOf, is_pass}
-use Rattle.ste_program.specs.Report.{Agree}
+use Rattle.report_text.specs.Text.{fails_line, guards_text, least_line, names_net, net_line, nodes_line, path_line, report_text, run_text, task_text, verdict_words}
+use Rattle.work_pool.specs.Told.{Agree, IsToldOf}
+use Rattle.ste_program.specs.Check.{IsReportOn, is_pass}
 use Rattle.ste_program.proofs.SameInputs.{run_moved, undriven_moved}
 use Rattle.ste_program.proofs.SameGraphs.{GraphSaysSame, graph_named_alike, graph_report_moved, graph_says_same}
 use Rattle.ste_program.proofs.SameMoved.{cubes_moved, least_moved}
@@ -267,19 +267,20 @@ reports_alike net other names vars wave cubes m n same back range settled (t ∷
     )
 
 -- two reports on tasks that say the same
-pub reports_agree : (models : List Model) (net other : RawNet) (ones twos : List (List ℕ)) (m n cubes : ℕ) (wave : Bool) (tasks twins : Tasks) (passes others : Bool) (bytes others_bytes : List ℕ) → IsFlat models net → IsFlat models other → IsInRange other → IsSettled other →
+pub reports_agree : (models : List Model) (net other : RawNet) (ones twos : List (List ℕ)) (m n cubes : ℕ) (wave nodes : Bool) (tasks twins : Tasks) (passes others : Bool) (bytes others_bytes : List ℕ) → IsFlat models net → IsFlat models other → IsInRange other → IsSettled other →
     ones ≡ twos → tasks.vars ≡ twins.vars → map task_tree tasks.tasks ≡ map task_tree twins.tasks →
-    (one : IsReportOn ones net m cubes wave tasks passes bytes) (two : IsReportOn twos other n cubes wave twins others others_bytes) →
-    AllZip Agree one.reports two.reports × (map verdict_in one.reports ≡ map verdict_in two.reports → (passes ≡ others) × (bytes ≡ others_bytes))
-reports_agree models net other ones twos m n cubes wave tasks twins passes others bytes others_bytes f g range settled names vars trees one two =
+    (one : IsReportOn ones net m cubes wave nodes tasks passes bytes) (two : IsReportOn twos other n cubes wave nodes twins others others_bytes) →
+    AllZip Agree one.reports two.reports × (map verdict_in one.reports ≡ map verdict_in two.reports → (passes ≡ others) × (one.shared ≡ two.shared → bytes ≡ others_bytes))
+reports_agree models net other ones twos m n cubes wave nodes tasks twins passes others bytes others_bytes f g range settled names vars trees one two =
     let told = subst (λ (vs : List (List ℕ)). AllZip (IsToldOf net (length vs) m cubes) tasks.tasks one.reports) vars one.told in
     let alike = reports_alike net other twos twins.vars wave cubes m n (flats_same models net other f g) (flats_same models other net g f) range settled tasks.tasks twins.tasks one.reports two.reports trees told two.told in (
       alike.0,
       (λ v. let same = alike.1 v in (
         one.passing ∙ (ap (list_all (λ (report : Report). is_pass report.verdict)) same.0 ∙ sym two.passing),
-        one.written
-            ∙ (ap (λ (ns : List (List ℕ)). report_text ns tasks.vars wave None tasks.tasks one.reports) names
-            ∙ (ap (λ (vs : List (List ℕ)). report_text twos vs wave None tasks.tasks one.reports) vars
-            ∙ (ap (λ (x : List ℕ). x ++ []) same.1 ∙ sym two.written))),
+        (λ shared. one.written
+            ∙ (ap (λ (ns : List (List ℕ)). report_text ns tasks.vars wave one.shared tasks.tasks one.reports) names
+            ∙ (ap (λ (vs : List (List ℕ)). report_text twos vs wave one.shared tasks.tasks one.reports) vars
+            ∙ (ap (λ (x : List ℕ). x ++ nodes_line one.shared) same.1
+            ∙ (ap (λ (k : Option ℕ). flat_map (task_text twos twins.vars wave) (zip twins.tasks two.reports) ++ nodes_line k) shared ∙ sym two.written))))),
       )),
     )

@@ -1,10 +1,10 @@
 -- Tasks, their verdicts and their nets, as the loops over them see them.
 use Rattle.std.proofs.Common.{◌≡◌, ◌≤◌, ◌<◌, ℕ, zero, suc, ◌+◌, ◌*◌, List, [], ◌∷◌, ◌++◌, length, map, take, get_or, Bool, false, Option, None, Some, Result, Ok, Err, refl, ap, sym, ◌∙◌, subst, arith, add-one, inl, inr}
-use Rattle.std.specs.Prelude.{◌≢◌, ◌&&◌, All, IfOk, IsSome, IsTrue, unwrap_or}
+use Rattle.std.specs.Prelude.{◌&&◌, ◌/◌, All, IfSome, IsSome, IsTrue, unwrap_or}
 use Rattle.std.specs.List.{AllZip, flat_map}
 use Rattle.std.proofs.lemmas.List.Elements.{All-cons}
-use Rattle.std.proofs.lemmas.List.{length-map, take_all}
-use Rattle.std.proofs.Math.Seq.{take-suc}
+use Rattle.std.proofs.lemmas.List.{length-map}
+use Rattle.std.proofs.Math.Nat.{le-div_iff_mul-le, mul-div-le, mul-le-mul_left, mul_comm}
 use Rattle.blif_syntax.specs.declared.models.Model.{Model}
 use Rattle.hierarchy.specs.Names.{net_named}
 use Rattle.hierarchy.specs.Nets.{nets}
@@ -27,23 +27,15 @@ use Rattle.task_binding.specs.Answer.{IsAnswer}
 use Rattle.task_binding.specs.Bound.{bind_bound, edge_bound, net_by, quint_bound, task_bound}
 use Rattle.task_binding.specs.Mentions.{AllNamed, bind_mention, edge_mentions, mentions_of, quint_mention, task_mentions}
 use Rattle.task_binding.specs.declared.unknown.Mention.{Mention}
-use Rattle.ste_model.specs.declared.verdict.Verdict.{Verdict}
 use Rattle.assert_syntax.specs.Spelled.{task_tree}
 use Rattle.assert_syntax.proofs.Whole.{a_parse}
 use Rattle.ste_program.specs.TaskFile.{AreTasks}
-use Rattle.ste_model.specs.declared.verdict.Verdict.TheVariants.{Pass, Weak, Strong, Vacuous, Budget}
-use Rattle.ste_model.specs.Report.{IsReportOf, budget_report}
-use Rattle.ste_model.specs.declared.report.Report.{Report}
-use Rattle.std.specs.declared.alloc.AllocError.{AllocError}
-use Rattle.dd_nodes.specs.Stores.{Store, empty_store}
-use Rattle.ste_engine.specs.Engine.{IsBudget}
-use Rattle.ste_program.specs.Check.{IsReportOn, IsToldOf, are_too_many, task_steps}
+use Rattle.work_pool.specs.Pool.{IsTaskOver}
+use Rattle.ste_program.specs.Check.{IsReportOn, are_too_many, task_steps}
 use Rattle.ste_program.specs.private.Made.{AreBindsIn, IsCheckable, IsEdgeFit, IsGraphFit}
-use Rattle.ste_model.specs.GraphReport.{IsGraphReportOf}
 use Rattle.ste_model.specs.declared.task.Bind.{Bind}
 use Rattle.ste_model.specs.declared.task.Edge.{Edge}
 use Rattle.ste_model.specs.declared.task.Graph.{Graph}
-use Rattle.gste_engine.specs.Engine.{IsGraphBudget}
 use Rattle.gste_engine.specs.Tables.{AreConsequentsOver, IsGraphOver}
 use Rattle.assert_syntax.specs.declared.tasks.RawBind.{RawBind}
 use Rattle.assert_syntax.specs.declared.tasks.RawEdge.{RawEdge}
@@ -77,30 +69,6 @@ declared_ant nets vars task h = all_left (λ (quint : Quint). IsTrue (reads vars
 pub declared_con : (nets vars : ℕ) (task : Assertion) → IsCheckable nets vars (Ste task) → ReadBelow vars task.con
 declared_con nets vars task h = all_right (λ (quint : Quint). IsTrue (reads vars quint.guard && reads vars quint.value)) task.ant task.con h.1
 
--- the engine's answer over a store that holds nothing
-pub engine_told : (net : RawNet) (vars steps cubes : ℕ) (task : Assertion) (before after : Store) (result : Result Report AllocError) → before ≡ empty_store steps vars →
-    IfOk result (λ report. report.verdict ≢ Budget → IsReportOf net before.vars cubes task report) → IfOk result (λ report. report.verdict ≡ Budget → (report ≡ budget_report task.name) × IsBudget net task before after) →
-    IfOk result (λ report. IsToldOf net vars steps cubes (Ste task) report)
-engine_told net vars steps cubes task before after (Err fault) is told short = tt
-engine_told net vars steps cubes task before after (Ok report) is told short = by report.verdict refl
-  where
-    told_by : report.verdict ≢ Budget → IsToldOf net vars steps cubes (Ste task) report
-    told_by other = inl (subst (λ (s : Store). IsReportOf net s.vars cubes task report) is (told other))
-
-    by : (verdict : Verdict) → report.verdict ≡ verdict → IsToldOf net vars steps cubes (Ste task) report
-    by Pass e = told_by (λ f. let both : Pass ≡ Budget = sym e ∙ f in absurd (cc both))
-    by Weak e = told_by (λ f. let both : Weak ≡ Budget = sym e ∙ f in absurd (cc both))
-    by Strong e = told_by (λ f. let both : Strong ≡ Budget = sym e ∙ f in absurd (cc both))
-    by Vacuous e = told_by (λ f. let both : Vacuous ≡ Budget = sym e ∙ f in absurd (cc both))
-    by Budget e =
-        let answer = short e in
-        inr (
-          answer.0,
-          (λ need is_need.
-              let spent = subst (λ (s : Store). IsBudget net task s after) is answer.1 in
-              let few = spent.few need is_need in omega (arith, few)),
-        )
-
 -- a graph that may be checked, as the engine asks for it
 fit_graph : (nets vars : ℕ) (graph : Graph) → IsCheckable nets vars (Gste graph) → IsGraphFit nets vars graph
 fit_graph nets vars graph h = h.2 0 graph (omega arith)
@@ -123,47 +91,13 @@ ants_in nets vars graph h = λ k d l. ((fit_graph nets vars graph h).2 k d l).0
 pub cons_in : (nets vars : ℕ) (graph : Graph) → IsCheckable nets vars (Gste graph) → All (λ edge. AreBindsIn nets edge.con) graph.edges
 cons_in nets vars graph h = λ k d l. ((fit_graph nets vars graph h).2 k d l).1
 
--- the engine's answer on a graph over a store that holds nothing
-pub graph_told : (net : RawNet) (vars steps cubes : ℕ) (graph : Graph) (before after : Store) (result : Result Report AllocError) → before ≡ empty_store steps vars →
-    IfOk result (λ report. report.verdict ≢ Budget → IsGraphReportOf net before.vars cubes graph report) → IfOk result (λ report. report.verdict ≡ Budget → (report ≡ budget_report graph.name) × IsGraphBudget net graph before after) →
-    IfOk result (λ report. IsToldOf net vars steps cubes (Gste graph) report)
-graph_told net vars steps cubes graph before after (Err fault) is told short = tt
-graph_told net vars steps cubes graph before after (Ok report) is told short = by report.verdict refl
-  where
-    told_by : report.verdict ≢ Budget → IsToldOf net vars steps cubes (Gste graph) report
-    told_by other = inl (subst (λ (s : Store). IsGraphReportOf net s.vars cubes graph report) is (told other))
+-- a task that may be checked, as the pool asks for it
+over_one : (net : RawNet) (vars : ℕ) (task : Task) → IsCheckable net.nets vars task → IsTaskOver net vars task
+over_one net vars (Ste task) h = (checkable_ant net.nets vars task h, checkable_con net.nets vars task h, declared_ant net.nets vars task h, declared_con net.nets vars task h)
+over_one net vars (Gste graph) h = (graph_over net vars graph h, consequents_over net vars graph h)
 
-    by : (verdict : Verdict) → report.verdict ≡ verdict → IsToldOf net vars steps cubes (Gste graph) report
-    by Pass e = told_by (λ f. let both : Pass ≡ Budget = sym e ∙ f in absurd (cc both))
-    by Weak e = told_by (λ f. let both : Weak ≡ Budget = sym e ∙ f in absurd (cc both))
-    by Strong e = told_by (λ f. let both : Strong ≡ Budget = sym e ∙ f in absurd (cc both))
-    by Vacuous e = told_by (λ f. let both : Vacuous ≡ Budget = sym e ∙ f in absurd (cc both))
-    by Budget e =
-        let answer = short e in
-        inr (
-          answer.0,
-          (λ need is_need.
-              let spent = subst (λ (s : Store). IsGraphBudget net graph s after) is answer.1 in
-              let few = spent.few need is_need in omega (arith, few)),
-        )
-
--- one more task with its report
-told_end : (net : RawNet) (vars steps cubes : ℕ) (tasks : List Task) (reports : List Report) (task : Task) (report : Report) → AllZip (IsToldOf net vars steps cubes) tasks reports → IsToldOf net vars steps cubes task report →
-    AllZip (IsToldOf net vars steps cubes) (tasks ++ task ∷ []) (reports ++ report ∷ [])
-told_end net vars steps cubes [] [] task report all one = (one, tt)
-told_end net vars steps cubes [] (y ∷ ys) task report all one = absurd all
-told_end net vars steps cubes (x ∷ xs) [] task report all one = absurd all
-told_end net vars steps cubes (x ∷ xs) (y ∷ ys) task report all one = (all.0, told_end net vars steps cubes xs ys task report all.1 one)
-
-pub told_more : (net : RawNet) (vars steps cubes : ℕ) (tasks : List Task) (reports after : List Report) (i : ℕ) (task : Task) (report : Report) → i < length tasks → task ≡ get_or tasks i task →
-    AllZip (IsToldOf net vars steps cubes) (take i tasks) reports → IsToldOf net vars steps cubes task report → after ≡ reports ++ report ∷ [] → AllZip (IsToldOf net vars steps cubes) (take (i + 1) tasks) after
-told_more net vars steps cubes tasks reports after i task report l is before one pushed =
-    let grown : take (i + 1) tasks ≡ take i tasks ++ task ∷ [] = ap (λ k. take k tasks) (add-one i) ∙ take-suc tasks i task l ∙ ap (λ x. take i tasks ++ x ∷ []) (sym is) in
-    subst (λ ts. AllZip (IsToldOf net vars steps cubes) ts after) (sym grown)
-    (subst (λ rs. AllZip (IsToldOf net vars steps cubes) (take i tasks ++ task ∷ []) rs) (sym pushed) (told_end net vars steps cubes (take i tasks) reports task report before one))
-
-pub told_all : (net : RawNet) (vars steps cubes : ℕ) (tasks : List Task) (reports : List Report) (i : ℕ) → length tasks ≤ i → AllZip (IsToldOf net vars steps cubes) (take i tasks) reports → AllZip (IsToldOf net vars steps cubes) tasks reports
-told_all net vars steps cubes tasks reports i l h = subst (λ ts. AllZip (IsToldOf net vars steps cubes) ts reports) (take_all i tasks l) h
+pub over_all : (net : RawNet) (vars : ℕ) (tasks : List Task) → All (IsCheckable net.nets vars) tasks → All (IsTaskOver net vars) tasks
+over_all net vars tasks all = λ k d l. over_one net vars (get_or tasks k d) (all k d l)
 
 -- a number that a text names is that of a net
 in_range : (models : List Model) (text : List ℕ) (found : Option ℕ) → net_named models text ≡ found → IsSome found → unwrap_or found 0 < length (nets models)
@@ -279,33 +213,48 @@ some_tasks models task_text raws tasks read bound =
 pub few_vars : (models : List Model) (raws : RawTasks) (tasks : Tasks) → length raws.vars ≤ 1000 → IsAnswer (net_named models) (length (nets models)) raws (Ok tasks) → length tasks.vars ≤ 1000
 few_vars models raws tasks few bound = subst (λ (vars : List (List ℕ)). length vars ≤ 1000) (sym bound.2.0) few
 
--- the steps of each task are bounded where those of all together are
-pub steps_bounded : (steps : Option ℕ) (raws tasks : ℕ) → are_too_many steps raws ≡ false → raws ≡ tasks → 0 < tasks → task_steps steps tasks ≤ 16000000
-steps_bounded None raws tasks few same some = omega arith
-steps_bounded (Some steps) zero tasks few same some = absurd (omega (arith, same, some))
-steps_bounded (Some steps) (suc raws) tasks few same some =
-    let within : steps * suc raws ≤ 16000000 = grind (arith, few) in
-    let least : steps ≤ steps * suc raws = grind arith in
-    omega (arith, within, least)
+-- the steps of all tasks together are bounded
+all_steps : (steps : Option ℕ) (raws tasks : ℕ) → are_too_many steps raws ≡ false → raws ≡ tasks → 0 < tasks → tasks * task_steps steps tasks ≤ 16000000
+all_steps None raws tasks few same some =
+    let least : task_steps None tasks ≤ 16000000 / tasks = omega arith in
+    let more : tasks * task_steps None tasks ≤ tasks * (16000000 / tasks) = mul-le-mul_left tasks least in
+    let share : tasks * (16000000 / tasks) ≤ 16000000 = mul-div-le 16000000 tasks in
+    omega (arith, more, share)
+all_steps (Some steps) raws tasks few same some =
+    let within : steps * raws ≤ 16000000 = grind (arith, few) in
+    let product : steps * raws ≡ tasks * steps = ap (λ n. steps * n) same ∙ mul_comm steps tasks in
+    omega (arith, within, product)
 
--- the steps of each task, in what is prepared
-pub each_bounded : (steps : Option ℕ) (net_text task_text : List ℕ) (names : List (List ℕ)) (net : RawNet) (tasks : Tasks) (each count : ℕ) → IsPrepared steps net_text task_text names net tasks → 0 < length tasks.tasks → each ≡ task_steps steps count → count ≡ length tasks.tasks → each ≤ 16000000
-each_bounded steps net_text task_text names net tasks each count made some is counted =
-    subst (λ n. n ≤ 16000000) (sym (is ∙ ap (task_steps steps) counted))
-    (steps_bounded steps (length made.reading.raw.tasks) (length tasks.tasks) made.few (as_many made.models made.reading.raw tasks made.reading.bound) some)
+-- the steps of all tasks, in what is prepared
+pub all_bounded : (steps : Option ℕ) (net_text task_text : List ℕ) (names : List (List ℕ)) (net : RawNet) (tasks : Tasks) (each count : ℕ) → IsPrepared steps net_text task_text names net tasks → 0 < length tasks.tasks → each ≡ task_steps steps count → count ≡ length tasks.tasks → length tasks.tasks * each ≤ 16000000
+all_bounded steps net_text task_text names net tasks each count made some is counted =
+    subst (λ n. length tasks.tasks * n ≤ 16000000) (sym (is ∙ ap (task_steps steps) counted))
+    (all_steps steps (length made.reading.raw.tasks) (length tasks.tasks) made.few (as_many made.models made.reading.raw tasks made.reading.bound) some)
+
+-- the steps of a task are no more than those of all
+pub each_bounded : (tasks each : ℕ) → 0 < tasks → tasks * each ≤ 16000000 → each ≤ 16000000
+each_bounded zero each some within = absurd (omega (arith, some))
+each_bounded (suc tasks) each some within = let least : each ≤ suc tasks * each = grind arith in omega (arith, within, least)
+
+-- each of at most 256 tasks has a step
+pub each_some : (steps : Option ℕ) (tasks : ℕ) → IfSome steps (λ (n : ℕ). (1 ≤ n) × (n ≤ 16000000)) → 0 < tasks → tasks ≤ 256 → 1 ≤ task_steps steps tasks
+each_some None tasks given some few =
+    let share : 1 ≤ 16000000 / tasks = (le-div_iff_mul-le {k = tasks} {x = 1} {y = 16000000} some).1 (omega (arith, few)) in
+    omega (arith, share)
+each_some (Some steps) tasks given some few = given.0
 
 -- what a check writes, over so many nets
-pub is_check_over : (steps : Option ℕ) (cubes : ℕ) (wave : Bool) (net_text task_text : List ℕ) (names : List (List ℕ)) (net : RawNet) (tasks : Tasks) (each count : ℕ) (passes : Bool) (bytes : List ℕ) (many : ℕ) → IsPrepared steps net_text task_text names net tasks → each ≡ task_steps steps count → count ≡ length tasks.tasks →
-    IsReportOn names net each cubes wave tasks passes bytes → many ≡ net.nets → IsCheckOver steps cubes wave net_text task_text passes bytes many
-is_check_over steps cubes wave net_text task_text names net tasks each count passes bytes many made is counted report same = (
+pub is_check_over : (steps : Option ℕ) (cubes : ℕ) (wave nodes : Bool) (net_text task_text : List ℕ) (names : List (List ℕ)) (net : RawNet) (tasks : Tasks) (each count : ℕ) (passes : Bool) (bytes : List ℕ) (many : ℕ) → IsPrepared steps net_text task_text names net tasks → each ≡ task_steps steps count → count ≡ length tasks.tasks →
+    IsReportOn names net each cubes wave nodes tasks passes bytes → many ≡ net.nets → IsCheckOver steps cubes wave nodes net_text task_text passes bytes many
+is_check_over steps cubes wave nodes net_text task_text names net tasks each count passes bytes many made is counted report same = (
   record {
     models = made.models;
     net = net;
     tasks = tasks;
     reading = made.reading;
     few = made.few;
-    report = subst (λ ns. IsReportOn ns net (task_steps steps (length tasks.tasks)) cubes wave tasks passes bytes) made.named
-        (subst (λ n. IsReportOn names net n cubes wave tasks passes bytes) (is ∙ ap (task_steps steps) counted) report);
+    report = subst (λ ns. IsReportOn ns net (task_steps steps (length tasks.tasks)) cubes wave nodes tasks passes bytes) made.named
+        (subst (λ n. IsReportOn names net n cubes wave nodes tasks passes bytes) (is ∙ ap (task_steps steps) counted) report);
   },
   same,
 )

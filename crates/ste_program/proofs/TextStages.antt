@@ -146,8 +146,8 @@ inputs_silent : (net_text input_text : List ℕ) (models : List Model) (net : Ra
 inputs_silent net_text input_text models net given spelled flat answer other h =
     spelled_has_no_fault (net_named models) net (lines_of input_text) given h.0 h.2.told answer (input_fault_moved net_text input_text models net h.0 spelled flat h.2)
 
-check_silent : (steps : Option ℕ) (cubes : ℕ) (wave : Bool) (net_text task_text : List ℕ) (passes : Bool) (bytes : List ℕ) → IsCheck steps cubes wave net_text task_text passes bytes → AllSilent (check_stages steps net_text task_text)
-check_silent steps cubes wave net_text task_text passes bytes written =
+check_silent : (steps : Option ℕ) (cubes : ℕ) (wave nodes : Bool) (net_text task_text : List ℕ) (passes : Bool) (bytes : List ℕ) → IsCheck steps cubes wave nodes net_text task_text passes bytes → AllSilent (check_stages steps net_text task_text)
+check_silent steps cubes wave nodes net_text task_text passes bytes written =
     let h = written.reading in
     let n = h.flattened in (
       faulty_silent net_text written.models n.netlist,
@@ -168,7 +168,7 @@ check_silent steps cubes wave net_text task_text passes bytes written =
 
 -- what is written is not refused
 pub text_silent : (action : Action) (asked : Command) (net_text second_text : List ℕ) (passes : Bool) (bytes : List ℕ) → IsWritten action asked net_text second_text passes bytes → AllSilent (text_stages action asked.steps net_text second_text)
-text_silent (check net tasks) asked net_text second_text passes bytes written = check_silent asked.steps asked.cubes asked.wave net_text second_text passes bytes written
+text_silent (check net tasks) asked net_text second_text passes bytes written = check_silent asked.steps asked.cubes asked.wave asked.nodes net_text second_text passes bytes written
 text_silent (info net) asked net_text second_text passes bytes written =
     let h = written.1 in
     let n = h.flattened in
@@ -177,7 +177,7 @@ text_silent (sim net inputs) asked net_text second_text passes bytes written =
     let h = written.1 in
     let n = h.flattened in
     (faulty_silent net_text h.models n.netlist, (hierarchy_silent net_text h.models n.netlist n.sound, (loop_silent net_text h.models h.net n.netlist n.flat n.settled, (inputs_silent net_text second_text h.models h.net h.inputs n.netlist n.flat h.given, tt))))
-text_silent (bench stages) asked net_text second_text passes bytes written = check_silent asked.steps asked.cubes asked.wave (pipeline_net stages) (pipeline_tasks stages) passes written.report written.check
+text_silent (bench stages) asked net_text second_text passes bytes written = check_silent asked.steps asked.cubes asked.wave asked.nodes (pipeline_net stages) (pipeline_tasks stages) passes written.report written.check
 
 -- two texts have one reading at most
 pub one_reading : OneReading

@@ -4,9 +4,9 @@ use Rattle.std.specs.Prelude.{◌≡◌, ◌<◌, ◌≤◌, ◌⊎◌, ℕ, Boo
 use Rattle.command_line.specs.Command.{Command}
 use Rattle.ste_io.specs.Causes.{Rose}
 use Rattle.ste_io.specs.Outside.{FilesState, IsTooLarge, SinkState, Store, WriteFailed, took, with_names}
-use Rattle.ste_program.specs.Command.{file_of, files_of, files_up_to, is_undone, net_file, second_file}
+use Rattle.ste_program.specs.Command.{file_of, files_of, files_up_to, net_file, second_file}
 use Rattle.ste_program.specs.Message.{cannot_write, message_of, out_of_memory}
-use Rattle.ste_program.specs.Order.{AllSilent, IsFirst, is_not_done, refusals, stages_before, text_stages}
+use Rattle.ste_program.specs.Order.{AllSilent, IsFirst, refusals, stages_before, text_stages}
 use Rattle.ste_program.specs.Report.{IsRead, IsReport, greatest}
 use Rattle.ste_program.specs.declared.refusal.File.{File}
 use Rattle.ste_program.specs.declared.refusal.Refusal.{Refusal}
@@ -44,7 +44,7 @@ status_of (refusal.CannotRead which) = status.Faulted
 status_of refusal.OutOfMemory = status.NoMemory
 status_of found = status.Refused
 
--- What a refusal of a command that is done stands on: a file of its own that is too large; or two texts, neither of them too large,
+-- What a refusal of a command stands on: a file of its own that is too large; or two texts, neither of them too large,
 -- which stand under the names of its files where it is told, and whose first refusal it is.
 abbrev pub IsGroundedIn : Command → FilesState → Refusal → Type 0
 IsGroundedIn command files found =
@@ -54,18 +54,16 @@ IsGroundedIn command files found =
     × IsRead files.holds (second_file command.action) second_text × (length net_text ≤ greatest) × (length second_text ≤ greatest)
     × IsFirst (text_stages command.action command.steps net_text second_text) found)
 
--- What a refusal stands on, whether or not the files tell what they hold: the words; that the command is not done; or its files.
+-- What a refusal stands on, whether or not the files tell what they hold: the words, or the command's files.
 abbrev pub IsGrounded : Option Command → FilesState → Refusal → Type 0
 IsGrounded None files found = found ≡ refusal.Usage
-IsGrounded (Some command) files found =
-    is_not_done command found ⊎ ((is_undone command ≡ false) × IsGroundedIn command files found)
+IsGrounded (Some command) files found = IsGroundedIn command files found
 
 -- a file of the command could not be read: the count of faults rose; the files were asked for the names up to its own,
--- the command is done, and no earlier file is missing or too large
+-- and no earlier file is missing or too large
 pub record CannotRead (command : Command) (which : File) (files files' : FilesState) : Type 0 where
   pub name : List ℕ
   pub named : file_of command.action which ≡ Some name
-  pub done : is_undone command ≡ false
   pub same : files'.holds ≡ files.holds
   pub asking : files'.asked ≡ with_names files.asked (files_up_to command which)
   pub rose : Rose files.faults files'.faults

@@ -1,5 +1,5 @@
--- Meaning. The files that a command reads, and which commands are not done so far. Source: this project's own choice.
-use Rattle.std.specs.Prelude.{ℕ, Bool, false, List, [], ◌++◌, Option, Some, None, option_to_list, unwrap_or}
+-- Meaning. The files that a command reads. Source: this project's own choice.
+use Rattle.std.specs.Prelude.{ℕ, List, [], ◌++◌, Option, Some, None, option_to_list, unwrap_or}
 use Rattle.command_line.specs.Command.{Action, Command, bench, check, info, sim}
 use Rattle.ste_program.specs.declared.refusal.File.{File}
 use Rattle.ste_program.specs.declared.refusal.File.TheVariants.{Net, Second}
@@ -37,14 +37,3 @@ files_of (Some command) = option_to_list (net_file command.action) ++ option_to_
 abbrev pub files_up_to : Command → File → List (List ℕ)
 files_up_to command Net = option_to_list (net_file command.action)
 files_up_to command Second = files_of (Some command)
-
--- what is not done so far: a check, and `bench`, with `--nodes`
-abbrev pub is_undone_action : Action → Bool → Bool
-is_undone_action (check net tasks) nodes = nodes
-is_undone_action (info net) nodes = false
-is_undone_action (sim net inputs) nodes = false
-is_undone_action (bench stages) nodes = nodes
-
--- what the command asks for is not done so far
-abbrev pub is_undone : Command → Bool
-is_undone command = is_undone_action command.action command.nodes

@@ -16,7 +16,7 @@ use Rattle.command_line.specs.Command.{Command}
 use Rattle.ste_program.specs.Command.{file_name}
 use Rattle.ste_program.specs.declared.refusal.File.TheVariants as file
 use Rattle.ste_program.specs.declared.refusal.Refusal.{Refusal}
-use Rattle.ste_program.specs.declared.refusal.Refusal.TheVariants.{Usage, NotYet, CannotRead, TooLarge, Netlist, Tasks, Hierarchy, Loop, Binding, Inputs, TooManySteps, OutOfMemory}
+use Rattle.ste_program.specs.declared.refusal.Refusal.TheVariants.{Usage, CannotRead, TooLarge, Netlist, Tasks, Hierarchy, Loop, Binding, Inputs, TooManySteps, OutOfMemory}
 
 -- want of memory
 abbrev pub out_of_memory : List ℕ
@@ -88,7 +88,6 @@ usage = codes "usage: stework (check NET TASKS or info NET or sim NET INPUTS or 
 -- the message on a refusal
 abbrev pub message_of : Option Command → Refusal → List ℕ
 message_of command Usage = usage
-message_of command NotYet = codes "stework: not yet\n"
 message_of command (CannotRead which) = codes "stework: cannot read " ++ file_name command which ++ codes "\n"
 message_of command (TooLarge which) = file_message (file_name command which) (codes "too large")
 message_of command (Netlist found) = netlist_message (file_name command file.Net) found

@@ -22,7 +22,7 @@ use Rattle.task_binding.specs.declared.fault.BindFault.{BindFault}
 use Rattle.task_binding.specs.declared.fault.BindFault.TheVariants as bind
 use Rattle.ste_io.specs.Outside.{FilesState, Store}
 use Rattle.ste_program.specs.Check.{are_too_many}
-use Rattle.ste_program.specs.Command.{file_of, is_undone, net_file, second_file}
+use Rattle.ste_program.specs.Command.{file_of, net_file, second_file}
 use Rattle.ste_program.specs.Netlist.{IsLoop, IsNetlist, IsNetlistFault}
 use Rattle.ste_program.specs.Report.{IsReport, greatest, text_at}
 use Rattle.ste_program.specs.TaskFile.{AreTasks, IsTasksFault}
@@ -117,10 +117,6 @@ text_stages (info net) steps net_text second_text = info_stages net_text
 text_stages (sim net inputs) steps net_text second_text = sim_stages net_text second_text
 text_stages (bench stages) steps net_text second_text = check_stages steps (pipeline_net stages) (pipeline_tasks stages)
 
--- what the command asks for is not done so far
-abbrev pub is_not_done : Command → Refusal → Type 0
-is_not_done command found = (found ≡ refusal.NotYet) × (is_undone command ≡ true)
-
 -- nothing stands under the name of the file
 abbrev pub is_missing : File → Action → Store → Refusal → Type 0
 is_missing which action store found = (found ≡ refusal.CannotRead which) × (text_at (file_of action which) store ≡ None)
@@ -137,18 +133,17 @@ is_in_texts command store found =
     IsSomeAnd (text_at (second_file command.action) store) (λ second_text.
     IsFirst (text_stages command.action command.steps net_text second_text) found))
 
--- the stages before a file is fetched: what is not done; an earlier file is missing, or too large
+-- the stages before a file is fetched: an earlier file is missing, or too large
 abbrev pub stages_before : File → Command → Store → List (Refusal → Type 0)
-stages_before file.Net command store = is_not_done command ∷ []
+stages_before file.Net command store = []
 stages_before file.Second command store =
-    is_not_done command ∷ is_missing file.Net command.action store ∷ is_large file.Net command.action store ∷ []
+    is_missing file.Net command.action store ∷ is_large file.Net command.action store ∷ []
 
--- The stages in their order: the words; what is not done; each file in turn, missing or too large; those of the texts.
+-- The stages in their order: the words; each file in turn, missing or too large; those of the texts.
 abbrev pub refusals : Option Command → Store → List (Refusal → Type 0)
 refusals None store = (λ found. found ≡ refusal.Usage) ∷ []
 refusals (Some command) store =
-    is_not_done command
-    ∷ is_missing file.Net command.action store ∷ is_large file.Net command.action store
+    is_missing file.Net command.action store ∷ is_large file.Net command.action store
     ∷ is_missing file.Second command.action store ∷ is_large file.Second command.action store
     ∷ is_in_texts command store ∷ []
 

@@ -7,11 +7,12 @@ use Rattle.net_gen.specs.Pipeline.{pipeline_net, pipeline_tasks}
 use Rattle.ste_model.specs.declared.task.Task.{Task}
 use Rattle.ste_model.specs.declared.report.Report.{Report as TaskReport}
 use Rattle.ste_model.specs.declared.run.Run.{Run}
-use Rattle.ste_model.specs.declared.verdict.Verdict.TheVariants.{Budget, Pass, Vacuous}
+use Rattle.ste_model.specs.declared.verdict.Verdict.TheVariants.{Pass, Vacuous}
 use Rattle.ste_io.specs.Outside.{FilesState, Store}
+use Rattle.work_pool.specs.Told.{Agree}
 use Rattle.ste_program.specs.Bench.{IsBench}
 use Rattle.ste_program.specs.Check.{IsCheck}
-use Rattle.ste_program.specs.Command.{is_undone, net_file, second_file}
+use Rattle.ste_program.specs.Command.{net_file, second_file}
 use Rattle.ste_program.specs.Holds.{BreaksTask, TaskHoldsOf}
 use Rattle.ste_program.specs.Info.{IsInfo}
 use Rattle.ste_program.specs.Simulated.{IsSimulated}
@@ -31,16 +32,15 @@ IsRead holds file text = IfSome holds (λ store. text_at file store ≡ Some tex
 
 -- What the action of a command writes on two texts, and whether each task passes. `info` has the second for nothing, `bench` both.
 abbrev pub IsWritten : Action → Command → List ℕ → List ℕ → Bool → List ℕ → Type 0
-IsWritten (check net tasks) asked net_text second_text passes bytes = IsCheck asked.steps asked.cubes asked.wave net_text second_text passes bytes
+IsWritten (check net tasks) asked net_text second_text passes bytes = IsCheck asked.steps asked.cubes asked.wave asked.nodes net_text second_text passes bytes
 IsWritten (info net) asked net_text second_text passes bytes = (passes ≡ true) × IsInfo net_text bytes
 IsWritten (sim net inputs) asked net_text second_text passes bytes = (passes ≡ true) × IsSimulated net_text second_text bytes
-IsWritten (bench stages) asked net_text second_text passes bytes = IsBench asked.steps asked.cubes asked.wave stages passes bytes
+IsWritten (bench stages) asked net_text second_text passes bytes = IsBench asked.steps asked.cubes asked.wave asked.nodes stages passes bytes
 
 -- what a command writes, and whether each task passes
 pub record IsReport (command : Option Command) (files : FilesState) (passes : Bool) (bytes : List ℕ) : Type 0 where
   pub asked : Command
   pub is : command ≡ Some asked
-  pub done : is_undone asked ≡ false
   pub net_text : List ℕ
   pub second_text : List ℕ
   pub net_read : IsRead files.holds (net_file asked.action) net_text
@@ -50,8 +50,8 @@ pub record IsReport (command : Option Command) (files : FilesState) (passes : Bo
   pub written : IsWritten asked.action asked net_text second_text passes bytes
 
 -- where a check says pass, or contradictory antecedent, of a task, the task holds
-abbrev pub CheckHolds : (steps : Option ℕ) (cubes : ℕ) (wave : Bool) (net_text task_text : List ℕ) (passes : Bool) (bytes : List ℕ) → IsCheck steps cubes wave net_text task_text passes bytes → Type 0
-CheckHolds steps cubes wave net_text task_text passes bytes written =
+abbrev pub CheckHolds : (steps : Option ℕ) (cubes : ℕ) (wave nodes : Bool) (net_text task_text : List ℕ) (passes : Bool) (bytes : List ℕ) → IsCheck steps cubes wave nodes net_text task_text passes bytes → Type 0
+CheckHolds steps cubes wave nodes net_text task_text passes bytes written =
     (place : ℕ) (task : Task) (report : TaskReport) →
     slice_get written.tasks.tasks place ≡ Some task → slice_get written.report.reports place ≡ Some report →
     (report.verdict ≡ Pass) ⊎ (report.verdict ≡ Vacuous) → TaskHoldsOf written.models (length written.tasks.vars) task
@@ -59,11 +59,11 @@ CheckHolds steps cubes wave net_text task_text passes bytes written =
 -- the same of what an action writes
 abbrev pub PassesHold : (action : Action) (asked : Command) (net_text second_text : List ℕ) (passes : Bool) (bytes : List ℕ) → IsWritten action asked net_text second_text passes bytes → Type 0
 PassesHold (check net tasks) asked net_text second_text passes bytes written =
-    CheckHolds asked.steps asked.cubes asked.wave net_text second_text passes bytes written
+    CheckHolds asked.steps asked.cubes asked.wave asked.nodes net_text second_text passes bytes written
 PassesHold (info net) asked net_text second_text passes bytes written = ⊤
 PassesHold (sim net inputs) asked net_text second_text passes bytes written = ⊤
 PassesHold (bench stages) asked net_text second_text passes bytes written =
-    CheckHolds asked.steps asked.cubes asked.wave (pipeline_net stages) (pipeline_tasks stages) passes written.report written.check
+    CheckHolds asked.steps asked.cubes asked.wave asked.nodes (pipeline_net stages) (pipeline_tasks stages) passes written.report written.check
 
 -- Law: where a report says pass, or contradictory antecedent, of a task, the task holds of the hierarchy as it was written: for every
 -- assignment, each two-valued run of its depth that meets the antecedent meets the consequent; of a graph, along every finite path.
@@ -74,8 +74,8 @@ PassHolds command files =
 
 -- where a check tells a run of a task, the run breaks the task under the least assignment that is told, a graph along the path that is
 -- told
-abbrev pub CheckBreaks : (steps : Option ℕ) (cubes : ℕ) (wave : Bool) (net_text task_text : List ℕ) (passes : Bool) (bytes : List ℕ) → IsCheck steps cubes wave net_text task_text passes bytes → Type 0
-CheckBreaks steps cubes wave net_text task_text passes bytes written =
+abbrev pub CheckBreaks : (steps : Option ℕ) (cubes : ℕ) (wave nodes : Bool) (net_text task_text : List ℕ) (passes : Bool) (bytes : List ℕ) → IsCheck steps cubes wave nodes net_text task_text passes bytes → Type 0
+CheckBreaks steps cubes wave nodes net_text task_text passes bytes written =
     (place : ℕ) (task : Task) (report : TaskReport) (run : Run) →
     slice_get written.tasks.tasks place ≡ Some task → slice_get written.report.reports place ≡ Some report → report.run ≡ Some run →
     (bits : List Bool) × (report.least ≡ Some bits) × (length bits ≡ length written.tasks.vars)
@@ -84,11 +84,11 @@ CheckBreaks steps cubes wave net_text task_text passes bytes written =
 -- the same of what an action writes
 abbrev pub TheyBreak : (action : Action) (asked : Command) (net_text second_text : List ℕ) (passes : Bool) (bytes : List ℕ) → IsWritten action asked net_text second_text passes bytes → Type 0
 TheyBreak (check net tasks) asked net_text second_text passes bytes written =
-    CheckBreaks asked.steps asked.cubes asked.wave net_text second_text passes bytes written
+    CheckBreaks asked.steps asked.cubes asked.wave asked.nodes net_text second_text passes bytes written
 TheyBreak (info net) asked net_text second_text passes bytes written = ⊤
 TheyBreak (sim net inputs) asked net_text second_text passes bytes written = ⊤
 TheyBreak (bench stages) asked net_text second_text passes bytes written =
-    CheckBreaks asked.steps asked.cubes asked.wave (pipeline_net stages) (pipeline_tasks stages) passes written.report written.check
+    CheckBreaks asked.steps asked.cubes asked.wave asked.nodes (pipeline_net stages) (pipeline_tasks stages) passes written.report written.check
 
 -- Law: each run that a report tells is a run of the hierarchy as it was written, meets the antecedent of its task and breaks the
 -- consequent, under the least assignment that is told; of a graph, along the path that is told.
@@ -109,16 +109,32 @@ abbrev pub reports_of : (command : Option Command) (files : FilesState) (passes 
 reports_of command files passes bytes report =
     reports_in report.asked.action report.asked report.net_text report.second_text passes bytes report.written
 
--- both reports of a task are the same, or one of them says budget
-abbrev pub Agree : TaskReport → TaskReport → Type 0
-Agree one other = (one ≡ other) ⊎ ((one.verdict ≡ Budget) ⊎ (other.verdict ≡ Budget))
+-- the number of shared nodes that a check tells, where it does
+abbrev pub shared_in : (action : Action) (asked : Command) (net_text second_text : List ℕ) (passes : Bool) (bytes : List ℕ) → IsWritten action asked net_text second_text passes bytes → Option ℕ
+shared_in (check net tasks) asked net_text second_text passes bytes written = written.report.shared
+shared_in (info net) asked net_text second_text passes bytes written = None
+shared_in (sim net inputs) asked net_text second_text passes bytes written = None
+shared_in (bench stages) asked net_text second_text passes bytes written = written.check.report.shared
 
--- Law: on what the files hold, where they tell it, two reports of a command agree on each task, but where one of them says budget;
--- and with the same verdicts they are one.
+-- the number of shared nodes that a command's report tells, where it does
+abbrev pub shared_of : (command : Option Command) (files : FilesState) (passes : Bool) (bytes : List ℕ) → IsReport command files passes bytes → Option ℕ
+shared_of command files passes bytes report =
+    shared_in report.asked.action report.asked report.net_text report.second_text passes bytes report.written
+
+-- two commands ask for the same, whatever their workers and steps
+pub record AskAlike (one other : Command) : Type 0 where
+  pub action : one.action ≡ other.action
+  pub cubes : one.cubes ≡ other.cubes
+  pub wave : one.wave ≡ other.wave
+  pub nodes : one.nodes ≡ other.nodes
+
+-- Law: whatever the workers and the steps, two reports of commands that ask for the same, on what the files hold, where they tell it, agree on
+-- each task, but where one of them says budget. With the same verdicts, and the same number of shared nodes where it is told, they are one.
 abbrev pub OneReport : Type 0
 OneReport =
-    (command : Option Command) (files : FilesState) (store : Store) → files.holds ≡ Some store →
-    (passes others : Bool) (bytes others_bytes : List ℕ) (one : IsReport command files passes bytes) (other : IsReport command files others others_bytes) →
-    AllZip Agree (reports_of command files passes bytes one) (reports_of command files others others_bytes other)
-    × (map (λ (report : TaskReport). report.verdict) (reports_of command files passes bytes one)
-    ≡ map (λ (report : TaskReport). report.verdict) (reports_of command files others others_bytes other) → (passes ≡ others) × (bytes ≡ others_bytes))
+    (command twin : Command) → AskAlike command twin → (files twins : FilesState) (store : Store) → files.holds ≡ Some store → twins.holds ≡ Some store →
+    (passes others : Bool) (bytes others_bytes : List ℕ) (one : IsReport (Some command) files passes bytes) (other : IsReport (Some twin) twins others others_bytes) →
+    AllZip Agree (reports_of (Some command) files passes bytes one) (reports_of (Some twin) twins others others_bytes other)
+    × (map (λ (report : TaskReport). report.verdict) (reports_of (Some command) files passes bytes one)
+    ≡ map (λ (report : TaskReport). report.verdict) (reports_of (Some twin) twins others others_bytes other) →
+    (passes ≡ others) × (shared_of (Some command) files passes bytes one ≡ shared_of (Some twin) twins others others_bytes other → bytes ≡ others_bytes))

@@ -1,5 +1,6 @@
 //! What `bench` writes: the report of a check of a pipeline, and the number of its nets.
 ghost use Rattle.std.specs.Prelude.{◌≡◌, ◌≤◌, ◌++◌, IfOk, MatchResult, codes};
+ghost use Rattle.command_line.specs.Bounds.{IsBounded};
 ghost use Rattle.net_gen.specs.Pipeline.{pipeline_net, pipeline_tasks};
 ghost use Rattle.ste_program.specs.Bench.{IsBench};
 ghost use Rattle.ste_program.specs.Info.{count_line};
@@ -10,8 +11,11 @@ use crate::check::{Checked, checked_texts};
 use crate::info::put_count;
 use crate::refusal::Refusal;
 use crate::report::Written;
+use command_line::Command;
 use net_gen::pipeline;
 use std::alloc::{AllocError, Global};
+use std::thread::Threads;
+use work_pool::Gate;
 
 /// The report with a line for the number of nets behind it.
 fn with_nets(alloc: Global, checked: Checked) -> Result<Written, AllocError>
@@ -28,26 +32,27 @@ fn with_nets(alloc: Global, checked: Checked) -> Result<Written, AllocError>
     })
 }
 
-/// What `bench` writes for a pipeline of so many stages, which it makes and checks with these node steps, where they are given, and at
-/// most so many cubes in a list.
-pub fn bench(
+/// What `bench` writes for a pipeline of so many stages, which it makes and checks with the steps, workers, cubes and flags of a command.
+pub fn bench<R: Threads + Sync, G: Gate + Sync>(
+    rt: &R,
     alloc: Global,
-    steps: Option<u64>,
-    cubes: u32,
-    wave: bool,
+    asked: &Command<'_>,
     stages: u64,
+    gate: &G,
 ) -> Result<Written, Refusal>
-    requires { stages ≤ 1000 }
+    requires bounded { IsBounded asked.now }
+    requires stages { stages ≤ 1000 }
     ensures { MatchResult result
-        (λ written. IsBench steps cubes wave stages written.passes written.bytes)
-        (λ found. OrMemory (IsFirst (check_stages steps (pipeline_net stages)
+        (λ written. IsBench asked.now.steps asked.now.cubes asked.now.wave asked.now.nodes stages
+        written.passes written.bytes)
+        (λ found. OrMemory (IsFirst (check_stages asked.now.steps (pipeline_net stages)
         (pipeline_tasks stages))) found) }
 {
     let (net, tasks) = match pipeline(alloc, stages as u32) {
         Ok(texts) => texts,
         Err(_) => return Err(Refusal::OutOfMemory),
     };
-    let made = match checked_texts(alloc, steps, cubes, wave, net, tasks) {
+    let made = match checked_texts(rt, alloc, asked, net, tasks, gate) {
         Ok(made) => made,
         Err(found) => return Err(found),
     };

@@ -1,7 +1,8 @@
 //! What a check writes: `check` gives its bytes, and whether every task passes; `checked_texts` the number of nets too.
-ghost use Rattle.std.specs.Prelude.{◌≡◌, ◌≤◌, ◌<◌, List, All, IfOk, MatchResult, Ok, length, map};
+ghost use Rattle.std.specs.Prelude.{◌≡◌, ◌*◌, ◌≤◌, ◌<◌, List, All, IfOk, MatchResult, Ok, length, map};
 ghost use Rattle.std.specs.List.{list_all};
 ghost use Rattle.blif_syntax.specs.declared.models.Model.{Model};
+ghost use Rattle.command_line.specs.Bounds.{IsBounded};
 ghost use Rattle.hierarchy.specs.Names.{net_named};
 ghost use Rattle.hierarchy.specs.Nets.{nets};
 ghost use Rattle.net_core.specs.Cases.{cases_of};
@@ -14,17 +15,20 @@ ghost use Rattle.ste_program.specs.private.Made.{IsCheckable, IsNetOf, IsNotBoun
 ghost use Rattle.ste_program.specs.private.Prepared.{IsCheckOver, IsPrepared};
 ghost use Rattle.ste_program.specs.private.Texts.{OrMemory};
 
-use crate::judging::{is_pass, reports_of};
+use crate::judging::{Reports, is_pass, reports_of};
 use crate::netlist::{FlatNet, models_of, net_of};
 use crate::refusal::Refusal;
 use crate::report::Written;
 use assert_syntax::{RawTasks, read_tasks};
 use blif_lines::logical_lines;
+use command_line::Command;
 use report_text::render;
 use std::alloc::{AllocError, Global};
+use std::thread::Threads;
 use ste_model::{Report, Tasks};
 use sym_step::GateRows;
 use task_binding::bind_tasks;
+use work_pool::Gate;
 
 /// What is checked: a net with the names of its nets, and tasks over it.
 #[derive(Drop)]
@@ -37,6 +41,7 @@ struct Prepared {
     ghost checkable: { All (IsCheckable flat.net.raw.nets (length tasks.vars)) tasks.tasks },
     ghost some: { 0 < length tasks.tasks },
     ghost few: { length tasks.vars ≤ 1000 },
+    ghost few_tasks: { length tasks.tasks ≤ 256 },
 }
 
 /// The tasks that the text of a task file spells, whose nodes are names. The text is let go once its lines are there.
@@ -143,33 +148,27 @@ pub struct Checked {
 }
 
 /// The report of a check on what is prepared, with so many steps for each task.
-fn report_on(
+fn report_on<R: Threads + Sync, G: Gate + Sync>(
+    rt: &R,
     alloc: Global,
+    asked: &Command<'_>,
     steps: u32,
-    cubes: u32,
-    wave: bool,
     prepared: &Prepared,
+    gate: &G,
 ) -> Result<Checked, AllocError>
-    requires { steps ≤ 16000000 }
+    requires bounded { IsBounded asked.now }
+    requires steps { (1 ≤ steps) × (length prepared.now.tasks.tasks * steps ≤ 16000000) }
     ensures report { IfOk result (λ checked. IsReportOn prepared.now.flat.names.own
-        prepared.now.flat.net.raw steps cubes wave prepared.now.tasks
-        checked.passes checked.text.items) }
+        prepared.now.flat.net.raw steps asked.now.cubes asked.now.wave asked.now.nodes
+        prepared.now.tasks checked.passes checked.text.items) }
     ensures nets { IfOk result (λ checked. checked.nets ≡ prepared.now.flat.net.raw.nets) }
 {
     let net = &prepared.flat.net;
     let tasks = &prepared.tasks;
     let rows = GateRows::of(alloc, net)?;
-    let vars = tasks.vars.len() as u32;
-    let reports = reports_of(
-        alloc,
-        net,
-        &rows,
-        vars,
-        steps,
-        cubes,
-        tasks.tasks.as_slice(),
-    )?;
-    let text = render(alloc, &prepared.flat.names, tasks, &reports, wave, None)?;
+    let told = reports_of(rt, alloc, asked, net, &rows, tasks, steps, gate)?;
+    let Reports { reports, shared } = told;
+    let text = render(alloc, &prepared.flat.names, tasks, &reports, asked.wave, shared)?;
     Ok(Checked {
         text,
         passes: all_pass(&reports),
@@ -177,51 +176,55 @@ fn report_on(
     })
 }
 
-/// The report of a check on the texts of a netlist and of a task file, with these node steps of each task, where they are given, and at
-/// most so many cubes in a list. A run shows the nets that its task names, with `wave` all nets.
-pub fn checked_texts(
+/// The report of a check on the texts of a netlist and of a task file, with the steps, workers, cubes and flags of a command. A run shows
+/// the nets that its task names, with `--wave` all nets. The gate is told of each task as a worker begins it.
+pub fn checked_texts<R: Threads + Sync, G: Gate + Sync>(
+    rt: &R,
     alloc: Global,
-    steps: Option<u64>,
-    cubes: u32,
-    wave: bool,
+    asked: &Command<'_>,
     net_text: Vec<u8>,
     task_text: Vec<u8>,
+    gate: &G,
 ) -> Result<Checked, Refusal>
+    requires bounded { IsBounded asked.now }
     requires net { length net_text.items ≤ greatest }
     requires tasks { length task_text.items ≤ greatest }
     ensures { MatchResult result
-        (λ checked. IsCheckOver steps cubes wave net_text.items task_text.items
-        checked.passes checked.text.items checked.nets)
-        (λ found. OrMemory (IsFirst (check_stages steps net_text.items task_text.items)) found) }
+        (λ checked. IsCheckOver asked.now.steps asked.now.cubes asked.now.wave asked.now.nodes
+        net_text.items task_text.items checked.passes checked.text.items checked.nets)
+        (λ found. OrMemory (IsFirst (check_stages asked.now.steps net_text.items task_text.items))
+        found) }
 {
-    let prepared = match prepare(alloc, steps, net_text, task_text) {
+    let prepared = match prepare(alloc, asked.steps, net_text, task_text) {
         Ok(prepared) => prepared,
         Err(found) => return Err(found),
     };
-    let each = task_steps(steps, prepared.tasks.tasks.len());
-    match report_on(alloc, each as u32, cubes, wave, &prepared) {
+    let each = task_steps(asked.steps, prepared.tasks.tasks.len());
+    match report_on(rt, alloc, asked, each as u32, &prepared, gate) {
         Ok(checked) => Ok(checked),
         Err(_) => Err(Refusal::OutOfMemory),
     }
 }
 
 /// What a check writes on the texts of a netlist and of a task file: its report.
-pub fn check(
+pub fn check<R: Threads + Sync, G: Gate + Sync>(
+    rt: &R,
     alloc: Global,
-    steps: Option<u64>,
-    cubes: u32,
-    wave: bool,
+    asked: &Command<'_>,
     net_text: Vec<u8>,
     task_text: Vec<u8>,
+    gate: &G,
 ) -> Result<Written, Refusal>
+    requires bounded { IsBounded asked.now }
     requires net { length net_text.items ≤ greatest }
     requires tasks { length task_text.items ≤ greatest }
     ensures { MatchResult result
-        (λ written. IsCheck steps cubes wave net_text.items task_text.items
-        written.passes written.bytes)
-        (λ found. OrMemory (IsFirst (check_stages steps net_text.items task_text.items)) found) }
+        (λ written. IsCheck asked.now.steps asked.now.cubes asked.now.wave asked.now.nodes
+        net_text.items task_text.items written.passes written.bytes)
+        (λ found. OrMemory (IsFirst (check_stages asked.now.steps net_text.items task_text.items))
+        found) }
 {
-    match checked_texts(alloc, steps, cubes, wave, net_text, task_text) {
+    match checked_texts(rt, alloc, asked, net_text, task_text, gate) {
         Ok(checked) => Ok(Written {
             bytes: checked.text.into(),
             passes: checked.passes,

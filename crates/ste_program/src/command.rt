@@ -1,7 +1,7 @@
-//! The files that a command reads, and which commands are not done so far.
+//! The files that a command reads.
 ghost use Rattle.std.specs.Prelude.{◌≡◌, option_map};
 ghost use Rattle.command_line.specs.View.{view_of};
-ghost use Rattle.ste_program.specs.Command.{file_name, file_of, is_undone, is_undone_action, net_file, second_file};
+ghost use Rattle.ste_program.specs.Command.{file_name, file_of, net_file, second_file};
 
 use crate::refusal::File;
 use command_line::{Action, Command};
@@ -51,21 +51,4 @@ pub fn file_name<'a>(command: &Option<Command<'a>>, which: File) -> &'a str
             Some(name) => name,
         },
     }
-}
-
-/// Whether what an action asks for is not done so far.
-fn is_undone_action(action: &Action<'_>, nodes: bool) -> bool
-    ensures { result ≡ is_undone_action (view_of action.now) nodes }
-{
-    match action {
-        Action::Check { .. } | Action::Bench { .. } => nodes,
-        Action::Info { .. } | Action::Sim { .. } => false,
-    }
-}
-
-/// Whether what a command asks for is not done so far.
-pub fn is_undone(command: &Command<'_>) -> bool
-    ensures { result ≡ is_undone command.now }
-{
-    is_undone_action(&command.action, command.nodes)
 }

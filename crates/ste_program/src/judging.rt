@@ -1,18 +1,19 @@
-//! What is told of tasks; begin with `reports_of`.
-ghost use Rattle.std.specs.Prelude.{◌≡◌, ◌≤◌, All, IfOk, map};
+//! What is told of the tasks of a file; begin with `reports_of`.
+ghost use Rattle.std.specs.Prelude.{◌≡◌, ◌*◌, ◌≤◌, All, IfOk, IfSome, Option, is_some, length, map};
 ghost use Rattle.std.specs.List.{AllZip};
-ghost use Rattle.ste_model.specs.declared.task.Task.TheVariants.{Gste, Ste};
+ghost use Rattle.command_line.specs.Bounds.{IsBounded};
 ghost use Rattle.sym_step.specs.Step.{rows_of};
-ghost use Rattle.ste_program.specs.Check.{IsToldOf, is_pass};
+ghost use Rattle.ste_program.specs.Check.{is_pass};
 ghost use Rattle.ste_program.specs.private.Made.{IsCheckable};
+ghost use Rattle.work_pool.specs.Told.{IsSharedCount, IsToldOf};
 
-use dd_nodes::PlainNodes;
-use gste_engine::check_graph;
+use command_line::Command;
 use net_core::Net;
 use std::alloc::{AllocError, Global};
-use ste_engine::check_ste;
-use ste_model::{Assertion, Graph, Report, Task, Verdict};
+use std::thread::Threads;
+use ste_model::{Report, Tasks, Verdict};
 use sym_step::GateRows;
+use work_pool::{Gate, PoolAnswer, run_tasks};
 
 /// Whether the verdict is pass.
 pub fn is_pass(verdict: Verdict) -> bool
@@ -21,87 +22,57 @@ pub fn is_pass(verdict: Verdict) -> bool
     matches!(verdict, Verdict::Pass)
 }
 
-/// What is told of an assertion over so many variables, with so many steps.
-fn assertion_report(
-    alloc: Global,
-    net: &Net,
-    rows: &GateRows,
-    vars: u32,
-    steps: u32,
-    cubes: u32,
-    task: &Assertion,
-) -> Result<Report, AllocError>
-    requires rows { rows.now.covers ≡ map rows_of net.now.raw.covers }
-    requires checkable { IsCheckable net.now.raw.nets vars (Ste task.now) }
-    requires steps { steps ≤ 16000000 }
-    ensures { IfOk result (λ report.
-        IsToldOf net.now.raw vars steps cubes (Ste task.now) report) }
-{
-    let mut nodes = PlainNodes::new(alloc, vars, steps)?;
-    check_ste(alloc, &mut nodes, net, rows, task, cubes)
+/// The reports of tasks, one for each in their order, and the number of nodes that they share, where it is asked for.
+#[derive(Drop)]
+pub struct Reports {
+    pub reports: Vec<Report>,
+    pub shared: Option<u32>,
 }
 
-/// What is told of an assertion graph over so many variables, with so many steps.
-fn graph_report(
+/// What is told of tasks, with so many node steps for each: they are checked by the command's workers over one table.
+pub fn reports_of<R: Threads + Sync, G: Gate + Sync>(
+    rt: &R,
     alloc: Global,
+    asked: &Command<'_>,
     net: &Net,
     rows: &GateRows,
-    vars: u32,
+    tasks: &Tasks,
     steps: u32,
-    cubes: u32,
-    graph: &Graph,
-) -> Result<Report, AllocError>
+    gate: &G,
+) -> Result<Reports, AllocError>
+    requires bounded { IsBounded asked.now }
     requires rows { rows.now.covers ≡ map rows_of net.now.raw.covers }
-    requires checkable { IsCheckable net.now.raw.nets vars (Gste graph.now) }
-    requires steps { steps ≤ 16000000 }
-    ensures { IfOk result (λ report.
-        IsToldOf net.now.raw vars steps cubes (Gste graph.now) report) }
+    requires checkable { All (IsCheckable net.now.raw.nets (length tasks.now.vars)) tasks.now.tasks }
+    requires some { 1 ≤ length tasks.now.tasks }
+    requires vars { length tasks.now.vars ≤ 1000 }
+    requires steps { (1 ≤ steps) × (length tasks.now.tasks * steps ≤ 16000000) }
+    ensures told { IfOk result (λ told. AllZip
+        (IsToldOf net.now.raw (length tasks.now.vars) steps asked.now.cubes) tasks.now.tasks
+        told.reports.items) }
+    ensures shown { IfOk result (λ told. is_some told.shared ≡ asked.now.nodes) }
+    ensures counted { IfOk result (λ told. IfSome told.shared (IsSharedCount net.now.raw
+        (length tasks.now.vars) steps tasks.now.tasks told.reports.items)) }
 {
-    let mut nodes = PlainNodes::new(alloc, vars, steps)?;
-    check_graph(alloc, &mut nodes, net, rows, graph, cubes)
-}
-
-/// What is told of a task over so many variables, with so many steps.
-fn report_of(
-    alloc: Global,
-    net: &Net,
-    rows: &GateRows,
-    vars: u32,
-    steps: u32,
-    cubes: u32,
-    task: &Task,
-) -> Result<Report, AllocError>
-    requires rows { rows.now.covers ≡ map rows_of net.now.raw.covers }
-    requires checkable { IsCheckable net.now.raw.nets vars task.now }
-    requires steps { steps ≤ 16000000 }
-    ensures { IfOk result (λ report. IsToldOf net.now.raw vars steps cubes task.now report) }
-{
-    match task {
-        Task::Ste(task) => assertion_report(alloc, net, rows, vars, steps, cubes, task),
-        Task::Gste(graph) => graph_report(alloc, net, rows, vars, steps, cubes, graph),
-    }
-}
-
-/// What is told of tasks over so many variables, with so many steps for each and at most so many cubes in a list: a report for
-/// each, in their order.
-pub fn reports_of(
-    alloc: Global,
-    net: &Net,
-    rows: &GateRows,
-    vars: u32,
-    steps: u32,
-    cubes: u32,
-    tasks: &[Task],
-) -> Result<Vec<Report>, AllocError>
-    requires rows { rows.now.covers ≡ map rows_of net.now.raw.covers }
-    requires checkable { All (IsCheckable net.now.raw.nets vars) tasks.now }
-    requires steps { steps ≤ 16000000 }
-    ensures { IfOk result (λ reports.
-        AllZip (IsToldOf net.now.raw vars steps cubes) tasks.now reports.items) }
-{
-    let mut reports = Vec::with_capacity(alloc, tasks.len())?;
-    for task in tasks {
-        reports.push(report_of(alloc, net, rows, vars, steps, cubes, task)?)?;
-    }
-    Ok(reports)
+    let answer = run_tasks(
+        rt,
+        alloc,
+        asked.workers,
+        net,
+        rows,
+        tasks,
+        steps,
+        asked.cubes,
+        gate,
+    )?;
+    let PoolAnswer {
+        reports,
+        table,
+        session,
+    } = answer;
+    let shared = if asked.nodes {
+        Some(table.close(session))
+    } else {
+        None
+    };
+    Ok(Reports { reports, shared })
 }

@@ -206,7 +206,6 @@ pub fn message_of(
 {
     match refusal {
         Refusal::Usage => usage(alloc),
-        Refusal::NotYet => Ok(Items::from(b"stework: not yet\n".to_vec(alloc)?)),
         Refusal::CannotRead(which) => cannot_read(alloc, file_name(command, *which)),
         Refusal::TooLarge(which) => on_file(alloc, file_name(command, *which), b"too large"),
         Refusal::Netlist(fault) => netlist_message(alloc, file_name(command, File::Net), fault),

@@ -26,8 +26,6 @@ pub enum File {
 pub enum Refusal {
     /// The words are no command.
     Usage,
-    /// What the words ask for, or what the files hold, is not done so far.
-    NotYet,
     /// The file could not be read, or is not there.
     CannotRead(File),
     /// The file has more bytes than are read.

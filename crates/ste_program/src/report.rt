@@ -9,15 +9,16 @@ ghost use Rattle.ste_program.specs.private.Texts.{OrMemory};
 
 use crate::bench::bench;
 use crate::check::check;
-use crate::command::is_undone;
 use crate::info::info;
 use crate::refusal::Refusal;
 use crate::simulated::simulated;
 use crate::texts::{Texts, texts_of};
 use command_line::{Action, Command};
 use std::alloc::Global;
+use std::thread::Threads;
 use ste_base::Items;
 use ste_io::Files;
+use work_pool::Gate;
 
 /// What the program writes, and whether every task passes; where there is no task every one does.
 #[derive(Drop)]
@@ -27,7 +28,13 @@ pub struct Written {
 }
 
 /// What a command writes on its texts.
-fn on_texts(alloc: Global, command: &Command<'_>, texts: Texts) -> Result<Written, Refusal>
+fn on_texts<R: Threads + Sync, G: Gate + Sync>(
+    rt: &R,
+    alloc: Global,
+    command: &Command<'_>,
+    texts: Texts,
+    gate: &G,
+) -> Result<Written, Refusal>
     requires bounded { IsBounded command.now }
     requires net { length texts.net.items ≤ greatest }
     requires second { length texts.second.items ≤ greatest }
@@ -39,31 +46,20 @@ fn on_texts(alloc: Global, command: &Command<'_>, texts: Texts) -> Result<Writte
 {
     let Texts { net, second } = texts;
     match command.action {
-        Action::Check { .. } => check(
-            alloc,
-            command.steps,
-            command.cubes,
-            command.wave,
-            net,
-            second,
-        ),
+        Action::Check { .. } => check(rt, alloc, command, net, second, gate),
         Action::Info { .. } => info(alloc, net),
         Action::Sim { .. } => simulated(alloc, net, second),
-        Action::Bench { stages } => bench(
-            alloc,
-            command.steps,
-            command.cubes,
-            command.wave,
-            stages,
-        ),
+        Action::Bench { stages } => bench(rt, alloc, command, stages, gate),
     }
 }
 
 /// What the command that the words ask for writes; or the first refusal.
-pub fn report_of<F: Files>(
+pub fn report_of<R: Threads + Sync, F: Files, G: Gate + Sync>(
+    rt: &R,
     alloc: Global,
     command: &Option<Command<'_>>,
     files: &mut F,
+    gate: &G,
 ) -> Result<Written, Refusal>
     requires { IfSome command.now IsBounded }
     ensures { MatchResult result
@@ -74,12 +70,9 @@ pub fn report_of<F: Files>(
     let Some(asked) = command else {
         return Err(Refusal::Usage);
     };
-    if is_undone(asked) {
-        return Err(Refusal::NotYet);
-    }
     let texts = match texts_of(alloc, asked, files) {
         Ok(texts) => texts,
         Err(found) => return Err(found),
     };
-    on_texts(alloc, asked, texts)
+    on_texts(rt, alloc, asked, texts, gate)
 }

@@ -14,7 +14,9 @@ use crate::refusal::Refusal;
 use crate::report::{Written, report_of};
 use command_line::{Command, command_of};
 use std::alloc::Global;
+use std::thread::Threads;
 use ste_io::{Files, Sink, write_whole};
+use work_pool::Gate;
 
 /// How the program ended; its number is the exit status.
 #[derive(Clone, Copy, Debug, PartialEq, Eq)]
@@ -86,12 +88,14 @@ fn write_report<O: Sink, E: Sink>(report: &Written, out: &mut O, err: &mut E) ->
 }
 
 /// Does what the command asks for; without a command, refuses the words.
-fn answer<F: Files, O: Sink, E: Sink>(
+fn answer<R: Threads + Sync, F: Files, O: Sink, E: Sink, G: Gate + Sync>(
+    rt: &R,
     alloc: Global,
     command: &Option<Command<'_>>,
     files: &mut F,
     out: &mut O,
     err: &mut E,
+    gate: &G,
 ) -> Status
     requires { IfSome command.now IsBounded }
     ensures holds { (F.state files.new).holds ≡ (F.state files.old).holds }
@@ -113,21 +117,24 @@ fn answer<F: Files, O: Sink, E: Sink>(
     ensures no_memory { result ≡ Status.NoMemory → WantedMemory
         (O.state out.old) (O.state out.new) (E.state err.old) (E.state err.new) }
 {
-    match report_of(alloc, command, files) {
+    match report_of(rt, alloc, command, files, gate) {
         Ok(report) => write_report(&report, out, err),
         Err(refusal) => refuse(alloc, command, &refusal, err),
     }
 }
 
-/// Does what the words ask for: checks the tasks of one file on the netlist of another, counts the parts of a netlist, or runs it
-/// on the inputs of a file; writes the report to `out`, or one message to `err`, and answers how it ended. The words begin with the
-/// program's name.
-pub fn run<F: Files, O: Sink, E: Sink>(
+/// Does what the words ask for: checks the tasks of one file on the netlist of another, counts the parts of a netlist, runs it
+/// on the inputs of a file, or makes a pipeline and checks it; writes the report to `out`, or one message to `err`, and answers how it
+/// ended. The words begin with the program's name. Tasks are shared out to the workers that the words ask for, over the threads of
+/// the runtime; the gate is told of each task as a worker begins it.
+pub fn run<R: Threads + Sync, F: Files, O: Sink, E: Sink, G: Gate + Sync>(
+    rt: &R,
     alloc: Global,
     words: &[String],
     files: &mut F,
     out: &mut O,
     err: &mut E,
+    gate: &G,
 ) -> Status
     // What the files hold never changes, and they are asked for the command's names alone, in order.
     ensures holds { (F.state files.new).holds ≡ (F.state files.old).holds }
@@ -178,7 +185,7 @@ pub fn run<F: Files, O: Sink, E: Sink>(
         (F.state files.old) result (E.state err.old) (E.state err.new) }
 {
     match command_of(alloc, words) {
-        Ok(command) => answer(alloc, &command, files, out, err),
+        Ok(command) => answer(rt, alloc, &command, files, out, err, gate),
         Err(_) => tell(err, b"stework: out of memory\n", Status::NoMemory),
     }
 }

@@ -1,7 +1,6 @@
 //! The texts of a command: `texts_of` fetches its files, in order.
 ghost use Rattle.std.specs.Prelude.{◌≡◌, false, MatchResult, Some, option_map};
 ghost use Rattle.ste_program.specs.Answer.{WhyNoReport};
-ghost use Rattle.ste_program.specs.Command.{is_undone};
 ghost use Rattle.ste_program.specs.private.Texts.{AreTexts, FileFails, IsAtHand, WhyNoFile};
 
 use crate::command::file_of;
@@ -64,7 +63,6 @@ pub fn texts_of<F: Files>(
     command: &Command<'_>,
     files: &mut F,
 ) -> Result<Texts, Refusal>
-    requires done { is_undone command.now ≡ false }
     ensures { MatchResult result
         (λ texts. AreTexts command.now (F.state files.old) (F.state files.new)
         texts.net.items texts.second.items)

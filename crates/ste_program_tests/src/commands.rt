@@ -1,12 +1,14 @@
 //! What `run` writes and answers for words of every kind: the counts of a net, simulations, options, refusals of words.
 
 use crate::hierarchies::TWICE;
-use crate::tests::{INVERTER, INVERTS, NOT_YET};
+use crate::tests::{INVERTER, INVERTS};
 use std::alloc::{AllocError, Global};
 use std::process::Abort;
 use std::test::Fail;
+use std::thread::Threads;
 use ste_io::{MemoryFiles, MemorySink};
 use ste_program::run::{Status, run};
+use work_pool::NoGate;
 
 const USAGE: &str =
     "usage: stework (check NET TASKS or info NET or sim NET INPUTS or bench N) [--workers W] [--steps S] [--cubes C] [--wave] [--nodes]\n";
@@ -27,7 +29,7 @@ fn words_of(alloc: Global, text: &str) -> Result<Vec<String>, AllocError> {
 
 /// Runs the program on the files `n` and `s`, and compares what it answers and writes.
 fn expect(
-    rt: &impl Abort,
+    rt: &(impl Abort + Threads + Sync),
     alloc: Global,
     words: &str,
     net: &str,
@@ -42,7 +44,7 @@ fn expect(
     files.add("s", second.as_bytes())?;
     let mut output = MemorySink::new(alloc, 200, 200, Vec::new(alloc))?;
     let mut errors = MemorySink::new(alloc, 200, 200, Vec::new(alloc))?;
-    let found = run(alloc, &words, &mut files, &mut output, &mut errors);
+    let found = run(rt, alloc, &words, &mut files, &mut output, &mut errors, &NoGate);
     assert_eq!(rt; output.bytes(), out.as_bytes(), "{second}");
     assert_eq!(rt; errors.bytes(), err.as_bytes(), "{second}");
     assert_eq!(rt; found, status, "{second}");
@@ -79,19 +81,6 @@ fn words_that_are_no_command(rt: HostRuntime) -> Result<(), Fail> {
             "",
             USAGE,
         )?;
-    }
-    Ok(())
-}
-
-#[test]
-fn what_is_not_done_yet(rt: HostRuntime) -> Result<(), Fail> {
-    let alloc = rt.alloc();
-    for words in [
-        "bench 3 --nodes",
-        "check n s --nodes",
-        "check missing s --nodes",
-    ] {
-        expect(&rt, alloc, words, "?", "?", Status::Refused, "", NOT_YET)?;
     }
     Ok(())
 }
@@ -338,7 +327,7 @@ fn a_large_file(rt: HostRuntime) -> Result<(), Fail> {
     files.add("n", &padded(alloc, INVERTER, 20)?)?;
     let mut output = MemorySink::new(alloc, 200, 200, Vec::new(alloc))?;
     let mut errors = MemorySink::new(alloc, 200, 200, Vec::new(alloc))?;
-    let found = run(alloc, &words, &mut files, &mut output, &mut errors);
+    let found = run(&rt, alloc, &words, &mut files, &mut output, &mut errors, &NoGate);
     assert_eq!(&rt; found, Status::Passed);
     let counts = "model inv\nnets 2\ninputs 1\nfree 0\ngates 1\nlatches 0\n";
     assert_eq!(&rt; output.bytes(), counts.as_bytes());
@@ -364,9 +353,70 @@ fn a_long_simulation(rt: HostRuntime) -> Result<(), Fail> {
     files.add("s", inputs.as_bytes())?;
     let mut output = MemorySink::new(alloc, 20000, 500, Vec::new(alloc))?;
     let mut errors = MemorySink::new(alloc, 200, 200, Vec::new(alloc))?;
-    let found = run(alloc, &words, &mut files, &mut output, &mut errors);
+    let found = run(&rt, alloc, &words, &mut files, &mut output, &mut errors, &NoGate);
     assert_eq!(&rt; errors.bytes().len(), 0);
     assert_eq!(&rt; found, Status::Passed);
     assert_eq!(&rt; output.bytes(), out.as_bytes());
+    Ok(())
+}
+
+/// What fails of a command over the files `n` and `s`: a fetch, a write of the output, a write of the error sink.
+type Failing<'a> = (&'a [u64], &'a [u64], &'a [u64]);
+
+/// Runs the program where something fails, and compares what the error sink has taken; the output has taken nothing, and the status is
+/// 3.
+fn expect_fault(
+    rt: &(impl Abort + Threads + Sync),
+    alloc: Global,
+    words: &str,
+    net: &str,
+    second: &str,
+    failing: &Failing<'_>,
+    err: &str,
+) -> Result<(), AllocError> {
+    let words = words_of(alloc, words)?;
+    let mut files = MemoryFiles::new(alloc, failing.0.to_vec(alloc)?);
+    files.add("n", net.as_bytes())?;
+    files.add("s", second.as_bytes())?;
+    let mut output = MemorySink::new(alloc, 200, 200, failing.1.to_vec(alloc)?)?;
+    let mut errors = MemorySink::new(alloc, 200, 200, failing.2.to_vec(alloc)?)?;
+    let found = run(rt, alloc, &words, &mut files, &mut output, &mut errors, &NoGate);
+    assert_eq!(rt; found, Status::Faulted, "{err}");
+    assert_eq!(rt; output.bytes().len(), 0, "{err}");
+    assert_eq!(rt; errors.bytes(), err.as_bytes(), "{err}");
+    Ok(())
+}
+
+#[test]
+fn refusals_and_simulations_that_fail(rt: HostRuntime) -> Result<(), Fail> {
+    let alloc = rt.alloc();
+    let short_row = ".model m\n.inputs a b\n.outputs y\n.names a b y\n1 1\n.end\n";
+    let inputs = ".order d\n1\n";
+    let none: &[u64] = &[];
+    let first: &[u64] = &[1];
+    let second: &[u64] = &[2];
+    for (words, net, failing, err) in [
+        (
+            "check n s",
+            short_row,
+            (second, none, none),
+            "stework: cannot read s\n",
+        ),
+        ("check n s", short_row, (none, none, first), ""),
+        (
+            "sim n s",
+            LATCH,
+            (none, first, none),
+            "stework: cannot write the report\n",
+        ),
+        (
+            "bench 1",
+            "?",
+            (none, first, none),
+            "stework: cannot write the report\n",
+        ),
+    ] {
+        expect_fault(&rt, alloc, words, net, inputs, &failing, err)?;
+    }
     Ok(())
 }

@@ -12,3 +12,5 @@ mod orders;
 mod task_files;
 #[cfg(test)]
 mod tests;
+#[cfg(test)]
+mod workers;

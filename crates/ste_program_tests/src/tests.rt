@@ -3,9 +3,11 @@
 use std::alloc::{AllocError, Global};
 use std::process::Abort;
 use std::test::Fail;
+use std::thread::Threads;
 use ste_base::{NumberFault, read_number};
 use ste_io::{MemoryFiles, MemorySink};
 use ste_program::run::{Status, run};
+use work_pool::NoGate;
 
 pub const INVERTER: &str = ".model inv\n.inputs a\n.outputs y\n.names a y\n0 1\n.end\n";
 
@@ -27,8 +29,6 @@ const SHIFT: &str =
 
 const TOGGLE: &str = ".model toggle\n.inputs\n.outputs q\n.names q n\n0 1\n.latch n q\n.end\n";
 
-pub const NOT_YET: &str = "stework: not yet\n";
-
 /// The words of a check of the files `n` and `t`.
 fn check_words(alloc: Global) -> Result<Vec<String>, AllocError> {
     let mut words = Vec::new(alloc);
@@ -48,7 +48,7 @@ fn files(alloc: Global, net: &str, task: &str, failing: &[u64]) -> Result<Memory
 
 /// Runs a check, and compares what it answers and writes.
 pub fn expect(
-    rt: &impl Abort,
+    rt: &(impl Abort + Threads + Sync),
     alloc: Global,
     net: &str,
     task: &str,
@@ -60,7 +60,7 @@ pub fn expect(
     let mut files = files(alloc, net, task, &[])?;
     let mut output = MemorySink::new(alloc, 200, 3, Vec::new(alloc))?;
     let mut errors = MemorySink::new(alloc, 200, 200, Vec::new(alloc))?;
-    let found = run(alloc, &words, &mut files, &mut output, &mut errors);
+    let found = run(rt, alloc, &words, &mut files, &mut output, &mut errors, &NoGate);
     assert_eq!(rt; output.bytes(), out.as_bytes(), "{task}");
     assert_eq!(rt; errors.bytes(), err.as_bytes(), "{task}");
     assert_eq!(rt; found, status, "{task}");
@@ -259,13 +259,13 @@ fn netlists_of_every_form(rt: HostRuntime) -> Result<(), Fail> {
 }
 
 /// The set of net `y` as the verdict on `y = 1` tells it: 1, 0 or X.
-fn set_of_output(rt: &impl Abort, alloc: Global, net: &str, given: &str) -> Result<u8, AllocError> {
+fn set_of_output(rt: &(impl Abort + Threads + Sync), alloc: Global, net: &str, given: &str) -> Result<u8, AllocError> {
     let task = format!(in alloc; ".ste t\n{given}.con y = 1 from 0 to 1\n.end\n")?;
     let words = check_words(alloc)?;
     let mut files = files(alloc, net, task.as_str(), &[])?;
     let mut output = MemorySink::new(alloc, 200, 100, Vec::new(alloc))?;
     let mut errors = MemorySink::new(alloc, 100, 100, Vec::new(alloc))?;
-    let _ = run(alloc, &words, &mut files, &mut output, &mut errors);
+    let _ = run(rt, alloc, &words, &mut files, &mut output, &mut errors, &NoGate);
     if output.bytes() == "t: pass\n".as_bytes() {
         Ok(b'1')
     } else if output.bytes().starts_with("t: strong failure\n".as_bytes()) {
@@ -294,7 +294,7 @@ fn given(alloc: Global, inputs: &[&str], values: &[u8]) -> Result<String, AllocE
 
 /// Compares the sets of net `y` with a table that was made by hand: the values of the inputs, and the set.
 fn compare(
-    rt: &impl Abort,
+    rt: &(impl Abort + Threads + Sync),
     alloc: Global,
     net: &str,
     inputs: &[&str],
@@ -417,7 +417,7 @@ fn what_fails(rt: HostRuntime) -> Result<(), Fail> {
         let mut files = files(alloc, INVERTER, INVERTS, fetches)?;
         let mut output = MemorySink::new(alloc, room, 4, writes.to_vec(alloc)?)?;
         let mut errors = MemorySink::new(alloc, 100, 100, tells.to_vec(alloc)?)?;
-        let found = run(alloc, &words, &mut files, &mut output, &mut errors);
+        let found = run(&rt, alloc, &words, &mut files, &mut output, &mut errors, &NoGate);
         assert_eq!(&rt; found, status, "{err}");
         assert_eq!(&rt; output.bytes(), out.as_bytes(), "{err}");
         assert_eq!(&rt; errors.bytes(), err.as_bytes(), "{err}");
@@ -450,7 +450,7 @@ fn files_that_are_too_large(rt: HostRuntime) -> Result<(), Fail> {
         files.add(name, &large)?;
         let mut output = MemorySink::new(alloc, 100, 100, Vec::new(alloc))?;
         let mut errors = MemorySink::new(alloc, 100, 100, Vec::new(alloc))?;
-        let found = run(alloc, &words, &mut files, &mut output, &mut errors);
+        let found = run(&rt, alloc, &words, &mut files, &mut output, &mut errors, &NoGate);
         assert_eq!(&rt; found, Status::Refused);
         assert_eq!(&rt; output.bytes().len(), 0);
         assert_eq!(&rt; errors.bytes(), err.as_bytes());
@@ -471,7 +471,7 @@ fn an_output_that_fails_within_a_line(rt: HostRuntime) -> Result<(), Fail> {
     let mut files = files(alloc, INVERTER, &tasks, &[])?;
     let mut output = MemorySink::new(alloc, 1000, 4, [3].to_vec(alloc)?)?;
     let mut errors = MemorySink::new(alloc, 100, 100, Vec::new(alloc))?;
-    let found = run(alloc, &words, &mut files, &mut output, &mut errors);
+    let found = run(&rt, alloc, &words, &mut files, &mut output, &mut errors, &NoGate);
     assert_eq!(&rt; found, Status::Faulted);
     assert_eq!(&rt; output.bytes(), b"t1: pass" as &[u8]);
     assert_eq!(&rt;

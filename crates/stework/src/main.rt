@@ -8,6 +8,7 @@ use std::io::ErrorKind;
 use std::process::ExitCode;
 use ste_io::{HostFiles, HostSink};
 use ste_program::run::{Status, run};
+use work_pool::NoGate;
 
 /// The words of the command line, from the program's name on; none where one of them is not UTF-8.
 fn words(rt: &HostRuntime) -> Result<Vec<String>, AllocError> {
@@ -24,7 +25,7 @@ fn main(rt: HostRuntime) -> ExitCode {
     let mut out = HostSink::over(rt.stdout());
     let mut err = HostSink::over(rt.stderr());
     let status = match words(&rt) {
-        Ok(words) => run(alloc, &words, &mut files, &mut out, &mut err),
+        Ok(words) => run(&rt, alloc, &words, &mut files, &mut out, &mut err, &NoGate),
         Err(_) => Status::NoMemory,
     };
     ExitCode::from(status as u8)

@@ -17,7 +17,8 @@ use Rattle.ste_model.specs.declared.task.Task.{Task}
 use Rattle.ste_model.specs.declared.verdict.Verdict.{Verdict}
 use Rattle.ste_model.specs.declared.verdict.Verdict.TheVariants.{Pass, Weak, Strong, Vacuous, Budget}
 use Rattle.gste_engine.proofs.Lists.{zip_push, zip_weaker}
-use Rattle.work_pool.specs.Pool.{IsPooled, IsTaskKept, IsTaskOver, IsToldOf, budgets, counts_budget}
+use Rattle.work_pool.specs.Pool.{IsPooled, IsTaskKept, IsTaskOver}
+use Rattle.work_pool.specs.Told.{IsToldOf, budgets, counts_budget}
 use Rattle.work_pool.specs.private.Jobs.{IsDone, IsGathered, IsGathering, IsReady}
 use Rattle.work_pool.proofs.Ranks.{ranks}
 use Rattle.work_pool.proofs.Done.{done_of, kept_on}

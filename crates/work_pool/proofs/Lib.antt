@@ -1,3 +1,5 @@
 pub mod Done
 pub mod Gathering
 pub mod Ranks
+pub mod Agreeing
+pub mod Shared

@@ -2,6 +2,7 @@
 #![tactic(auto)]
 
 pub mod gate;
+pub mod laws;
 mod pool;
 pub mod run;
 #[cfg(test)]

@@ -16,6 +16,6 @@ pub record IsPrepared (steps : Option ℕ) (net_text task_text : List ℕ) (name
   pub few : are_too_many steps (length reading.raw.tasks) ≡ false
 
 -- what a check writes, over so many nets
-abbrev pub IsCheckOver : Option ℕ → ℕ → Bool → List ℕ → List ℕ → Bool → List ℕ → ℕ → Type 0
-IsCheckOver steps cubes wave net_text task_text passes bytes nets =
-    (check : IsCheck steps cubes wave net_text task_text passes bytes) × (nets ≡ check.net.nets)
+abbrev pub IsCheckOver : Option ℕ → ℕ → Bool → Bool → List ℕ → List ℕ → Bool → List ℕ → ℕ → Type 0
+IsCheckOver steps cubes wave nodes net_text task_text passes bytes nets =
+    (check : IsCheck steps cubes wave nodes net_text task_text passes bytes) × (nets ≡ check.net.nets)

@@ -7,7 +7,8 @@ use Rattle.net_core.specs.declared.raw.RawNet.{RawNet}
 use Rattle.ste_model.specs.declared.report.Report.{Report}
 use Rattle.ste_model.specs.declared.task.Task.{Task}
 use Rattle.ste_model.specs.declared.verdict.Verdict.TheVariants.{Budget}
-use Rattle.work_pool.specs.Pool.{IsTaskKept, IsToldOf, budgets}
+use Rattle.work_pool.specs.Pool.{IsTaskKept}
+use Rattle.work_pool.specs.Told.{IsToldOf, budgets}
 
 -- t stands on the table of s, has its variables, made nothing, and may make so many nodes
 pub record IsReady (steps : ℕ) (s t : Store) : Type 0 where

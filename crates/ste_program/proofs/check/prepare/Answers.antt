@@ -1,10 +1,10 @@
-use Rattle.std.proofs.Common.{ℕ, List, length, ◌∙◌, ap, sym}
+use Rattle.std.proofs.Common.{ℕ, List, length, ◌∙◌, ap, arith, sym}
 use Rattle.std.proofs.lemmas.List.{length-map}
 use Rattle.hierarchy.specs.Names.{own_name}
 use Rattle.hierarchy.specs.Nets.{nets}
 use Rattle.ste_program.specs.Check.{are_too_many}
 use Rattle.ste_program.proofs.TasksDeclared.{tasks_declared}
-use Rattle.ste_program.proofs.TaskLists.{few_vars, promised, some_tasks}
+use Rattle.ste_program.proofs.TaskLists.{as_many, few_vars, promised, some_tasks}
 use Rattle.ste_program.proofs.TextStages.{check_net_fails, is_prepared, netlist_text_fails, steps_fail, tasks_fail, unbound_fails}
 use Rattle.ste_program.proofs.check.prepare.Goals as goal
 
@@ -45,6 +45,7 @@ invariant_of-result c =
       checkable = promised models raw c.in-Ok-net_of.flat.net.raw tasks n.flat bound declared;
       some = some_tasks models c.args.task_text.items raw tasks c.in-Ok-tasks_of.ensures bound;
       few = few_vars models raw tasks raw.declared bound;
+      few_tasks = let same = as_many models raw tasks bound in let few = raw.few in omega (arith, same, few);
     }
 
 pub returns : goal.returns

@@ -1,17 +1,31 @@
-use Rattle.std.proofs.Common.{subst, sym}
-use Rattle.ste_model.specs.declared.task.Task.{Task}
-use Rattle.ste_program.specs.private.Made.{IsCheckable}
-use Rattle.ste_program.proofs.TaskLists.{told_all, told_more}
+use Rattle.std.proofs.Common.{ℕ, length, ap, subst, sym}
+use Rattle.command_line.specs.Command.{Command}
+use Rattle.std.specs.Prelude.{IfSome, Option}
+use Rattle.std.specs.List.{AllZip}
+use Rattle.work_pool.proofs.Shared.{shared_of}
+use Rattle.work_pool.specs.Told.{IsSharedCount, IsToldOf}
+use Rattle.ste_program.proofs.TaskLists.{over_all}
 use Rattle.ste_program.proofs.judging.reports_of.Goals as goal
+use Rattle.ste_program.proofs.judging.reports_of.Goals.{then-asked, else-asked}
 
-pub report_of-requires-clause-checkable : goal.report_of-requires-clause-checkable
-report_of-requires-clause-checkable c =
-    subst (λ (task : Task). IsCheckable c.args.net.now.raw.nets c.args.vars task) (sym c.task-item.is) (c.requires.checkable c.loop-task.task-index c.task-item.result c.loop-task-test.true)
+pub run_tasks-requires-clause-over : goal.run_tasks-requires-clause-over
+run_tasks-requires-clause-over g c κs within = over_all c.args.net.now.raw (length c.args.tasks.now.vars) c.args.tasks.now.tasks c.requires.checkable
 
-pub loop-task-preserved : goal.loop-task-preserved
-loop-task-preserved c =
-    told_more c.args.net.now.raw c.args.vars c.args.steps c.args.cubes c.args.tasks.now c.loop-task.reports.items c.push.new.self.items c.loop-task.task-index c.task-item.result c.in_ok-report_of.field-0
-    c.loop-task-test.true c.task-item.is c.loop-task.invariant c.in_ok-report_of.ensures c.in_ok-push.ensures.items
+pub returns-clause-told : goal.returns-clause-told
+returns-clause-told g c =
+    let answer = c.in_ok-answer.answer in
+    let told = c.in_ok-answer.ensures.answer.told in
+    let cubes = ap (λ (asked : Command). asked.cubes) c.asked.view_is in
+    subst (λ (n : ℕ). AllZip (IsToldOf c.args.net.now.raw (length c.args.tasks.now.vars) c.args.steps n) c.args.tasks.now.tasks answer.reports.items) cubes
+    (subst (λ (n : ℕ). AllZip (IsToldOf c.args.net.now.raw n c.args.steps c.asked.inside.cubes) c.args.tasks.now.tasks answer.reports.items) c.in_ok-answer.ensures.vars told)
 
-pub returns : goal.returns
-returns c = told_all c.args.net.now.raw c.args.vars c.args.steps c.args.cubes c.args.tasks.now c.loop-task.reports.items c.loop-task.task-index c.loop-task-test.false c.loop-task.invariant
+pub returns-clause-counted : goal.returns-clause-counted
+returns-clause-counted g c = elim c.if-asked.branch [
+  | then-asked w ↦
+      let answer = c.in_ok-answer.answer in
+      let counted = shared_of c.args.net.now.raw (length c.args.tasks.now.vars) c.args.steps c.asked.inside.cubes c.args.tasks.now.tasks answer.reports.items answer.session w.close.result
+      c.in_ok-answer.ensures.answer c.in_ok-answer.ensures.vars c.in_ok-answer.ensures.slots w.close.ensures.half w.close.ensures.used w.close.ensures.nodes in
+      subst (λ (o : Option ℕ). IfSome o (IsSharedCount c.args.net.now.raw (length c.args.tasks.now.vars) c.args.steps c.args.tasks.now.tasks answer.reports.items)) (sym w.shared-is) counted
+  | else-asked w ↦
+      subst (λ (o : Option ℕ). IfSome o (IsSharedCount c.args.net.now.raw (length c.args.tasks.now.vars) c.args.steps c.args.tasks.now.tasks c.in_ok-answer.answer.reports.items)) (sym w.shared-is) tt
+]

@@ -2,6 +2,7 @@ use Rattle.std.proofs.Common.{◌≡◌, ℕ, ◌/◌, length, sym, ap, ◌∙�
 use Rattle.std.specs.FinMap.{len}
 use Rattle.dd_table.specs.Sessions.{SessionValue}
 use Rattle.dd_table.proofs.Closes.{closes}
+use Rattle.dd_table.proofs.HeldNodes.{nodes_taken}
 use Rattle.dd_table.proofs.table.SharedTable.close.Goals as goal
 
 pub returns-clause-half : goal.returns-clause-half
@@ -38,3 +39,12 @@ returns-clause-whole c = λ all.
     let s : c.session.inside.seat.me.0.slots / 2 ≡ c.args.session.slots / 2 = ap (λ (y : ℕ). y / 2) (i.slots ∙ ap (λ (k : SessionValue). k.slots) c.session.view_is) in
     let limit = i.limit ∙ ap (λ (k : SessionValue). k.limit) c.session.view_is ∙ all ∙ sym s in
     c.count_taken-count.ensures ∙ e.whole limit ∙ ap (λ (k : SessionValue). length k.made) c.session.view_is
+
+pub returns-clause-nodes : goal.returns-clause-nodes
+returns-clause-nodes c = λ fs held.
+    let i = c.session.invariant in
+    let e = closes _ _ c.session.inside.seat.me.0 _ _ (let a = i.two in let b = i.slots in omega arith) c.close_with-closed.ensures.values.2 in
+    let n = c.count_taken-count.ensures in
+    let m : len c.session.inside.seat.me.0.held ≡ len c.args.session.held = ap (λ (k : SessionValue). len k.held) c.session.view_is in
+    let h = e.held in
+    nodes_taken c.args.session _ c.shown.ensures (omega arith) fs held

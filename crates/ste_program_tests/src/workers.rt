@@ -1,0 +1,168 @@
+//! Tasks shared out to workers: the same reports for any number of them, the number of shared nodes, and that two workers meet.
+
+use crate::tests::{INVERTER, INVERTS};
+use std::alloc::{AllocError, Global};
+use std::process::Abort;
+use std::sync::atomic::{AtomicU64, Ordering};
+use std::test::Fail;
+use std::thread::Threads;
+use ste_base::read_number;
+use ste_io::{MemoryFiles, MemorySink};
+use ste_program::run::{Status, run};
+use work_pool::{Gate, NoGate};
+
+const AND: &str = ".model and\n.inputs a b\n.outputs y\n.names a b y\n11 1\n.end\n";
+
+const SHIFT: &str =
+    ".model shift\n.inputs d e\n.outputs c\n.names d e n\n11 1\n.latch n a\n.latch a b\n.latch b c\n.end\n";
+
+/// What a check of the files `n` and `t` with these options writes to the output.
+fn report<G: Gate + Sync>(
+    rt: &(impl Abort + Threads + Sync),
+    alloc: Global,
+    options: &str,
+    net: &str,
+    tasks: &str,
+    status: Status,
+    gate: &G,
+) -> Result<Vec<u8>, AllocError> {
+    let mut words = Vec::new(alloc);
+    for word in ["stework", "check", "n", "t"] {
+        words.push(String::from_str(alloc, word)?)?;
+    }
+    for word in options.split(' ') {
+        words.push(String::from_str(alloc, word)?)?;
+    }
+    let mut files = MemoryFiles::new(alloc, Vec::new(alloc));
+    files.add("n", net.as_bytes())?;
+    files.add("t", tasks.as_bytes())?;
+    let mut output = MemorySink::new(alloc, 60000, 1000, Vec::new(alloc))?;
+    let mut errors = MemorySink::new(alloc, 200, 200, Vec::new(alloc))?;
+    let found = run(rt, alloc, &words, &mut files, &mut output, &mut errors, gate);
+    assert_eq!(rt; errors.bytes().len(), 0, "{options}");
+    assert_eq!(rt; found, status, "{options}");
+    output.bytes().to_vec(alloc)
+}
+
+/// A flag for each of two tasks, and how many tasks saw the flag of the other.
+#[derive(Drop)]
+struct Meeting {
+    first: AtomicU64,
+    second: AtomicU64,
+    met: AtomicU64,
+}
+
+/// Sets one flag, and waits for the other for at most so many turns; whether it was seen.
+fn meets(own: &AtomicU64, other: &AtomicU64, turns: u64) -> bool {
+    own.store(1, Ordering::SeqCst);
+    for _ in 0..turns {
+        if other.load(Ordering::SeqCst) == 1 {
+            return true;
+        }
+    }
+    false
+}
+
+impl Gate for Meeting {
+    fn at_task(&self, task: u32) {
+        let seen = if task == 0 {
+            meets(&self.first, &self.second, 100_000_000)
+        } else {
+            meets(&self.second, &self.first, 100_000_000)
+        };
+        if seen {
+            self.met.fetch_add(1, Ordering::SeqCst);
+        }
+    }
+}
+
+#[test]
+fn two_workers_meet(rt: HostRuntime) -> Result<(), Fail> {
+    let alloc = rt.alloc();
+    let meeting = Meeting {
+        first: AtomicU64::new(0),
+        second: AtomicU64::new(0),
+        met: AtomicU64::new(0),
+    };
+    let mut tasks = String::from_str(alloc, INVERTS)?;
+    tasks.push_str(".ste t2\n.ant a = p from 0 to 1\n.con y = !p from 0 to 1\n.end\n")?;
+    let words = "--workers 2 --steps 1000";
+    let text = report(&rt, alloc, words, INVERTER, &tasks, Status::Passed, &meeting)?;
+    assert_eq!(&rt; text.as_slice(), b"t1: pass\nt2: pass\n" as &[u8]);
+    assert_eq!(&rt; meeting.met.load(Ordering::SeqCst), 2);
+    Ok(())
+}
+
+/// So many tasks over the chain of three latches, of different lengths, of which each third fails, and each fifth has a graph
+/// behind it.
+fn many_tasks(alloc: Global, count: u32) -> Result<String, AllocError> {
+    let mut text = String::from_str(alloc, ".vars p q r\n")?;
+    for i in 0..count {
+        let to = 1 + (i * 7) % 40;
+        let value = if i % 3 == 0 { "p | q" } else { "p & q" };
+        let task = format!(in alloc;
+            ".ste t{i}\n.ant d = p from 0 to {to}\n.ant e = q from 0 to {to}\n.con a = {value} from 1 to {to}\n.end\n")?;
+        text.push_str(&task)?;
+        if i % 5 == 0 {
+            let graph = format!(in alloc;
+                ".gste g{i} s\n.edge s s\n.ant d = r\n.ant e = 1\n.con n = r\n.edge s v\n.ant d = q\n.con b = r & p\n.end\n")?;
+            text.push_str(&graph)?;
+        }
+    }
+    Ok(text)
+}
+
+#[test]
+fn any_number_of_workers(rt: HostRuntime) -> Result<(), Fail> {
+    let alloc = rt.alloc();
+    let tasks = many_tasks(alloc, 256)?;
+    let one = "--workers 1 --steps 1000";
+    let first = report(&rt, alloc, one, SHIFT, &tasks, Status::NotPassed, &NoGate)?;
+    assert!(&rt; first.len() > 10000);
+    for words in [
+        "--workers 2 --steps 1000",
+        "--workers 3 --steps 2000",
+        "--workers 4 --steps 1000",
+        "--workers 64 --steps 1000",
+    ] {
+        let other = report(&rt, alloc, words, SHIFT, &tasks, Status::NotPassed, &NoGate)?;
+        assert!(&rt; other.as_slice() == first.as_slice(), "{words}");
+    }
+    Ok(())
+}
+
+/// The number behind these words at the end of a report; none where it ends otherwise.
+fn number_at_end(text: &[u8], before: &[u8]) -> Option<u64> {
+    let rest = text.strip_prefix(before)?;
+    let (last, digits) = rest.split_last()?;
+    if *last != b'\n' {
+        return None;
+    }
+    match read_number(digits, 1000) {
+        Ok(number) => Some(number),
+        Err(_) => None,
+    }
+}
+
+#[test]
+fn shared_nodes(rt: HostRuntime) -> Result<(), Fail> {
+    let alloc = rt.alloc();
+    let task =
+        ".ste t1\n.ant a = p from 0 to 1\n.ant b = q from 0 to 1\n.con y = p & q from 0 to 1\n.end\n";
+    let mut once = String::from_str(alloc, ".vars p q\n")?;
+    once.push_str(task)?;
+    let mut twice = String::from_str(alloc, &once)?;
+    twice.push_str(".ste t2\n.ant a = p from 0 to 1\n.ant b = q from 0 to 1\n.con y = p & q from 0 to 1\n.end\n")?;
+    let words = "--nodes --steps 1000";
+    let one = report(&rt, alloc, words, AND, &once, Status::Passed, &NoGate)?;
+    let words = "--workers 2 --nodes --steps 1000";
+    let two = report(&rt, alloc, words, AND, &twice, Status::Passed, &NoGate)?;
+    let number = number_at_end(&one, b"t1: pass\nshared nodes: ");
+    let again = number_at_end(&two, b"t1: pass\nt2: pass\nshared nodes: ");
+    assert!(&rt; number.is_some());
+    assert!(&rt; number == again);
+    if let Some(count) = number {
+        assert!(&rt; 2 <= count && count <= 14, "{count}");
+    }
+    Ok(())
+}
