@@ -1,5 +1,5 @@
 -- The texts of a command: which names were asked for, and which refusal is the first where a file is not at hand.
-use Rattle.std.proofs.Common.{◌≡◌, ◌<◌, ◌≤◌, ℕ, List, [], ◌∷◌, ◌++◌, length, take, false, Option, None, Some, refl, ap, sym, ◌∙◌, arith, inl, inr, subst, append_assoc, append-nil}
+use Rattle.std.proofs.Common.{◌≡◌, ◌<◌, ◌≤◌, ℕ, List, [], ◌∷◌, ◌++◌, length, take, Option, None, Some, refl, ap, sym, ◌∙◌, arith, inl, inr, subst, append_assoc, append-nil}
 use Rattle.std.specs.Prelude.{IsSomeAnd, option_to_list}
 use Rattle.std.specs.FinMap.{get}
 use Rattle.command_line.specs.Command.{Action, Command}

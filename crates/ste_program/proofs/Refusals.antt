@@ -1,6 +1,6 @@
 -- The order of refusals: the first of the texts is the first behind both files; at most one refusal is the first; what is reported
 -- is not refused.
-use Rattle.std.proofs.Common.{◌≡◌, ℕ, List, Bool, true, false, Option, None, Some, Result, Ok, Err, refl, ap, sym, ◌∙◌, inl, inr, subst}
+use Rattle.std.proofs.Common.{◌≡◌, ℕ, List, Bool, Option, None, Some, Result, Ok, Err, refl, ap, sym, ◌∙◌, inl, inr, subst}
 use Rattle.std.specs.Prelude.{IsSomeAnd, MatchResult}
 use Rattle.command_line.specs.Command.{Action, Command}
 use Rattle.ste_io.specs.Outside.{FilesState, Store}

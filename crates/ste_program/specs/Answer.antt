@@ -1,6 +1,6 @@
 -- Meaning. How a run of the program ends, from the states of the files (`files`), the output (`out`) and the error sink (`err`)
 -- before it, and after it (`files'`, `out'`, `err'`). Source: this project's own choice.
-use Rattle.std.specs.Prelude.{◌≡◌, ◌<◌, ◌≤◌, ◌⊎◌, ℕ, Bool, false, List, length, take, Option, Some, None}
+use Rattle.std.specs.Prelude.{◌≡◌, ◌<◌, ◌≤◌, ◌⊎◌, ℕ, Bool, List, length, take, Option, Some, None}
 use Rattle.command_line.specs.Command.{Command}
 use Rattle.ste_io.specs.Causes.{Rose}
 use Rattle.ste_io.specs.Outside.{FilesState, IsTooLarge, SinkState, Store, WriteFailed, took, with_names}

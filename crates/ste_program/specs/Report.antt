@@ -1,5 +1,5 @@
 -- Meaning, and two laws. What a command writes on what the files hold. Source: this project's own choice.
-use Rattle.std.specs.Prelude.{◌≡◌, ◌≤◌, ◌⊎◌, ⊤, ℕ, Bool, true, false, List, [], length, map, Option, Some, None, IfSome, slice_get}
+use Rattle.std.specs.Prelude.{◌≡◌, ◌≤◌, ◌⊎◌, ⊤, ℕ, Bool, true, List, [], length, map, Option, Some, None, IfSome, slice_get}
 use Rattle.std.specs.FinMap.{get}
 use Rattle.std.specs.List.{AllZip}
 use Rattle.command_line.specs.Command.{Action, Command, bench, check, info, sim}

@@ -168,7 +168,14 @@ fn report_on<R: Threads + Sync, G: Gate + Sync>(
     let rows = GateRows::of(alloc, net)?;
     let told = reports_of(rt, alloc, asked, net, &rows, tasks, steps, gate)?;
     let Reports { reports, shared } = told;
-    let text = render(alloc, &prepared.flat.names, tasks, &reports, asked.wave, shared)?;
+    let text = render(
+        alloc,
+        &prepared.flat.names,
+        tasks,
+        &reports,
+        asked.wave,
+        shared,
+    )?;
     Ok(Checked {
         text,
         passes: all_pass(&reports),

@@ -61,7 +61,7 @@ pub fn report_of<R: Threads + Sync, F: Files, G: Gate + Sync>(
     files: &mut F,
     gate: &G,
 ) -> Result<Written, Refusal>
-    requires { IfSome command.now IsBounded }
+    requires bounded { IfSome command.now IsBounded }
     ensures { MatchResult result
         (λ report. IsMade command.now (F.state files.old) (F.state files.new)
         report.passes report.bytes)

@@ -97,7 +97,7 @@ fn answer<R: Threads + Sync, F: Files, O: Sink, E: Sink, G: Gate + Sync>(
     err: &mut E,
     gate: &G,
 ) -> Status
-    requires { IfSome command.now IsBounded }
+    requires bounded { IfSome command.now IsBounded }
     ensures holds { (F.state files.new).holds ≡ (F.state files.old).holds }
     ensures asked { (n : ℕ) × ((F.state files.new).asked
         ≡ with_names (F.state files.old).asked (take n (files_of command.now))) }

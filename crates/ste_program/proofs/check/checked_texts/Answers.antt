@@ -1,4 +1,4 @@
-use Rattle.std.proofs.Common.{◌≡◌, ◌≤◌, ◌∙◌, ℕ, Option, ap, arith, length, subst, sym}
+use Rattle.std.proofs.Common.{◌≡◌, ◌≤◌, ◌∙◌, ℕ, Option, ap, arith, subst, sym}
 use Rattle.command_line.specs.Command.{Command}
 use Rattle.ste_program.specs.Check.{task_steps}
 use Rattle.ste_program.specs.Order.{IsFirst, check_stages}

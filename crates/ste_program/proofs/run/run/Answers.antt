@@ -2,8 +2,8 @@ use Rattle.ste_program.proofs.Broken.{passes_hold, runs_break}
 use Rattle.ste_program.proofs.Ends.{bounded_of, decided_of, sinks_later, told_wanting}
 use Rattle.ste_program.proofs.run.run.Goals as goal
 
-pub answer-requires : goal.answer-requires
-answer-requires g c = bounded_of _ c.in-Ok.command c.in-Ok.ensures
+pub answer-requires-clause-bounded : goal.answer-requires-clause-bounded
+answer-requires-clause-bounded g c = λ κs within. bounded_of _ c.in-Ok.command c.in-Ok.ensures
 
 pub returns-in-Ok-clause-pass_holds : goal.returns-in-Ok-clause-pass_holds
 returns-in-Ok-clause-pass_holds g c = passes_hold _ _
