@@ -1,5 +1,5 @@
 -- What is read can be written out: covers have rows of their width, and so on.
-use Rattle.std.proofs.Common.{ℕ, suc, ◌≡◌, ◌≢◌, refl, subst, ◌∙◌, List, [], ◌∷◌, length, map, All, arith, Bool, true, false, ◌&&◌, not, nat_eq, get_or, IsTrue, if◌then◌else◌, Option, Some, None, codes}
+use Rattle.std.proofs.Common.{ℕ, suc, ◌≡◌, ◌≢◌, refl, ◌∙◌, List, [], ◌∷◌, length, map, All, arith, Bool, true, false, ◌&&◌, not, nat_eq, get_or, IsTrue, if◌then◌else◌, Option, Some, None, codes}
 use Rattle.std.specs.Str.{bytes_eq}
 use Rattle.std.specs.List.{list_all, list_any}
 use Rattle.std.proofs.lemmas.List.Elements.{All-cons}

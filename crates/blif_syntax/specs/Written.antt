@@ -1,5 +1,5 @@
 -- Law: models that are written out as lines are read back; and how they are written.
-use Rattle.std.specs.Prelude.{◌≡◌, ◌≢◌, ℕ, ◌++◌, ◌∷◌, [], List, length, map, All, Bool, true, Option, Some, None, IsTrue, not, if◌then◌else◌, codes}
+use Rattle.std.specs.Prelude.{◌≡◌, ◌≢◌, ℕ, ◌++◌, ◌∷◌, [], List, length, map, All, Bool, Option, Some, None, IsTrue, not, if◌then◌else◌, codes}
 use Rattle.std.specs.List.{flat_map, list_any}
 use Rattle.ste_base.specs.Bytes.{dash, digit_one, digit_zero, equals_sign}
 use Rattle.blif_lines.specs.declared.lines.Line.{Line}
