@@ -1,39 +1,23 @@
 -- Meaning. Single bytes by name, and kinds of bytes in texts; which bytes are blanks is this project's own choice.
 use Rattle.std.specs.Prelude.{ℕ, Bool, ◌&&◌, ◌||◌, nat_eq, nat_le}
 
--- ` `
+-- single bytes: a space, the end of a physical line, and then \ # . = - 0 1
 abbrev pub space : ℕ
 space = 32
-
--- the byte that ends a physical line
 abbrev pub line_feed : ℕ
 line_feed = 10
-
--- `\`
 abbrev pub backslash : ℕ
 backslash = 92
-
--- `#`
 abbrev pub hash_sign : ℕ
 hash_sign = 35
-
--- `.`
 abbrev pub dot : ℕ
 dot = 46
-
--- `=`
 abbrev pub equals_sign : ℕ
 equals_sign = 61
-
--- `-`
 abbrev pub dash : ℕ
 dash = 45
-
--- the digit `0`
 abbrev pub digit_zero : ℕ
 digit_zero = 48
-
--- the digit `1`
 abbrev pub digit_one : ℕ
 digit_one = 49
 
