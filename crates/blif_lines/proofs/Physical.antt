@@ -2,7 +2,7 @@
 use Rattle.std.proofs.Common.{ℕ, ◌≡◌, refl, ap, sym, ◌∙◌, List, [], ◌∷◌, ◌++◌, arith, Bool, true, false, if◌then◌else◌, not, All}
 use Rattle.std.proofs.lemmas.List.Elements.{All-cons, All-nil, All-head, All-tail}
 use Rattle.blif_lines.specs.Lines.{pieces, onto_first, is_line_feed}
-use Rattle.blif_lines.specs.Laws.{ended, lacks_end, PhysicalLinesAreTheText}
+use Rattle.blif_lines.specs.Laws.{text_of_lines, lacks_end, PhysicalLinesAreTheText}
 use Rattle.blif_lines.proofs.Scanning.{first_piece}
 
 -- no byte of the text passes
@@ -25,11 +25,11 @@ is_ten : (b : ℕ) → is_line_feed b ≡ true → b ≡ 10
 is_ten b e = grind (arith, e)
 
 -- one more byte in front
-put_more : (c : Bool) (b : ℕ) (lines more : List (List ℕ)) (front text : List ℕ) → (c ≡ true → b ≡ 10) → lines ≡ front ∷ more → ended lines ≡ text → ended (if c then [] ∷ lines else onto_first b lines) ≡ b ∷ text
+put_more : (c : Bool) (b : ℕ) (lines more : List (List ℕ)) (front text : List ℕ) → (c ≡ true → b ≡ 10) → lines ≡ front ∷ more → text_of_lines lines ≡ text → text_of_lines (if c then [] ∷ lines else onto_first b lines) ≡ b ∷ text
 put_more true b lines more front text n p e = rw (n refl) (ap (λ t. 10 ∷ t) e)
-put_more false b lines more front text n p e = rw p (ap (λ t. b ∷ t) (sym (ap ended p) ∙ e))
+put_more false b lines more front text n p e = rw p (ap (λ t. b ∷ t) (sym (ap text_of_lines p) ∙ e))
 
-put_last : (c : Bool) (b : ℕ) → (c ≡ true → b ≡ 10) → ended (if c then [] ∷ [] else (b ∷ []) ∷ []) ≡ (if not c then b ∷ 10 ∷ [] else b ∷ [])
+put_last : (c : Bool) (b : ℕ) → (c ≡ true → b ≡ 10) → text_of_lines (if c then [] ∷ [] else (b ∷ []) ∷ []) ≡ (if not c then b ∷ 10 ∷ [] else b ∷ [])
 put_last true b n = rw (n refl) refl
 put_last false b n = refl
 
@@ -37,7 +37,7 @@ end_after : (c : Bool) (b : ℕ) (text : List ℕ) → b ∷ (if c then text ++ 
 end_after true b text = refl
 end_after false b text = refl
 
-put : (text : List ℕ) → ended (pieces is_line_feed text) ≡ (if lacks_end text then text ++ 10 ∷ [] else text)
+put : (text : List ℕ) → text_of_lines (pieces is_line_feed text) ≡ (if lacks_end text then text ++ 10 ∷ [] else text)
 put [] = refl
 put (b ∷ []) = put_last (is_line_feed b) b (is_ten b)
 put (b ∷ x ∷ text) = put_more (is_line_feed b) b (pieces is_line_feed (x ∷ text)) _ _ _ (is_ten b) (first_piece is_line_feed (x ∷ text) (omega arith)) (put (x ∷ text)) ∙ end_after (lacks_end (x ∷ text)) b (x ∷ text)

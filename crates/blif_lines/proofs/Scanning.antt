@@ -3,7 +3,7 @@ use Rattle.std.proofs.Common.{ℕ, zero, suc, ◌+◌, ◌-◌, ◌<◌, ◌≤�
 use Rattle.std.specs.List.{position, position_or_len}
 use Rattle.std.proofs.lemmas.List.Recursion.{is_position_or_len}
 use Rattle.ste_base.specs.Bytes.{is_blank}
-use Rattle.blif_lines.specs.Lines.{before, pieces, onto_first, trimmed, unless_last}
+use Rattle.blif_lines.specs.Lines.{before, pieces, onto_first, trimmed_text, unless_last}
 
 before_step : (c : Bool) (b : ℕ) (front : List ℕ) → length (if c then [] else b ∷ front) ≡ cond c 0 (1 + length front)
 before_step true b front = refl
@@ -61,28 +61,28 @@ first_piece cuts (b ∷ []) h = first_last (cuts b) b cuts
 first_piece cuts (b ∷ x ∷ text) h = first_more (cuts b) b cuts (x ∷ text) (before cuts (x ∷ text)) (first_piece cuts (x ∷ text) (omega arith))
 
 -- a blank at the end is of no account
-trim_step : (text : List ℕ) (n : ℕ) → n < length text → is_blank (get_or text n 0) ≡ true → trimmed (take (suc n) text) ≡ trimmed (take n text)
+trim_step : (text : List ℕ) (n : ℕ) → n < length text → is_blank (get_or text n 0) ≡ true → trimmed_text (take (suc n) text) ≡ trimmed_text (take n text)
 trim_step [] n h e = absurd (omega (arith, h))
 trim_step (b ∷ text) zero h e = rw e refl
 trim_step (b ∷ text) (suc n) h e = ap (unless_last b) (trim_step text n (omega (arith, h)) e)
 
-trim_at : (text : List ℕ) (n m : ℕ) → n ≡ suc m → n ≤ length text → is_blank (get_or text m 0) ≡ true → trimmed (take m text) ≡ trimmed (take n text)
+trim_at : (text : List ℕ) (n m : ℕ) → n ≡ suc m → n ≤ length text → is_blank (get_or text m 0) ≡ true → trimmed_text (take m text) ≡ trimmed_text (take n text)
 trim_at text n m s h e = rw s (sym (trim_step text m (omega (arith, h, s)) e))
 
 -- the same, as the loop counts
-pub trim_back : (text : List ℕ) (n : ℕ) → 0 < n → n ≤ length text → is_blank (get_or text (n - 1) 0) ≡ true → trimmed (take (n - 1) text) ≡ trimmed (take n text)
+pub trim_back : (text : List ℕ) (n : ℕ) → 0 < n → n ≤ length text → is_blank (get_or text (n - 1) 0) ≡ true → trimmed_text (take (n - 1) text) ≡ trimmed_text (take n text)
 trim_back text n p h e = trim_at text n (n - 1) (omega (arith, p)) h e
 
 -- a text whose last byte is no blank stays
-trim_done : (text : List ℕ) (n : ℕ) → n < length text → is_blank (get_or text n 0) ≡ false → trimmed (take (suc n) text) ≡ take (suc n) text
+trim_done : (text : List ℕ) (n : ℕ) → n < length text → is_blank (get_or text n 0) ≡ false → trimmed_text (take (suc n) text) ≡ take (suc n) text
 trim_done [] n h e = absurd (omega (arith, h))
 trim_done (b ∷ text) zero h e = rw e refl
 trim_done (b ∷ []) (suc n) h e = absurd (omega (arith, h))
 trim_done (b ∷ c ∷ text) (suc n) h e = ap (unless_last b) (trim_done (c ∷ text) n (omega (arith, h)) e)
 
-done_at : (text : List ℕ) (n m : ℕ) → n ≡ suc m → n ≤ length text → is_blank (get_or text m 0) ≡ false → take n text ≡ trimmed (take n text)
+done_at : (text : List ℕ) (n m : ℕ) → n ≡ suc m → n ≤ length text → is_blank (get_or text m 0) ≡ false → take n text ≡ trimmed_text (take n text)
 done_at text n m s h e = rw s (sym (trim_done text m (omega (arith, h, s)) e))
 
 -- the same, as the loop stops
-pub trim_stop : (text : List ℕ) (n : ℕ) → 0 < n → n ≤ length text → is_blank (get_or text (n - 1) 0) ≡ false → take n text ≡ trimmed (take n text)
+pub trim_stop : (text : List ℕ) (n : ℕ) → 0 < n → n ≤ length text → is_blank (get_or text (n - 1) 0) ≡ false → take n text ≡ trimmed_text (take n text)
 trim_stop text n p h e = done_at text n (n - 1) (omega (arith, p)) h e

@@ -4,7 +4,7 @@ use Rattle.std.proofs.lemmas.List.Elements.{All-cons, All-nil}
 use Rattle.std.proofs.lemmas.List.Sums.{sum_by-cons, length-filter, count_by-le-length}
 use Rattle.blif_lines.specs.declared.lines.Line.{Line}
 use Rattle.ste_base.specs.Bytes.{is_blank}
-use Rattle.blif_lines.specs.Lines.{before, pieces, onto_first, is_hash, is_line_feed, trimmed, unless_last, treated, words_of, is_filled, Numbered, onto_next, joined, is_continued, without_last, line_of, has_words}
+use Rattle.blif_lines.specs.Lines.{before, pieces, onto_first, is_hash, is_line_feed, trimmed_text, unless_last, treated_line, words_of, is_filled, Numbered, onto_next, joined_lines, is_continued, without_last, line_of, has_words}
 use Rattle.blif_lines.specs.Laws.{LinesFitTheText}
 use Rattle.blif_lines.proofs.Scanning.{before_short}
 
@@ -53,11 +53,11 @@ unless_short : (b n : ℕ) (text : List ℕ) → length text ≤ n → length (u
 unless_short b n [] h = omega (arith, last_short (is_blank b) b)
 unless_short b n (next ∷ text) h = omega (arith, h)
 
-trimmed_short : (text : List ℕ) → length (trimmed text) ≤ length text
+trimmed_short : (text : List ℕ) → length (trimmed_text text) ≤ length text
 trimmed_short [] = omega arith
-trimmed_short (b ∷ text) = unless_short b (length text) (trimmed text) (trimmed_short text)
+trimmed_short (b ∷ text) = unless_short b (length text) (trimmed_text text) (trimmed_short text)
 
-treated_size : (lines : List (List ℕ)) → size (map treated lines) ≤ size lines
+treated_size : (lines : List (List ℕ)) → size (map treated_line lines) ≤ size lines
 treated_size [] = omega arith
 treated_size (line ∷ lines) = omega (arith, trimmed_short (before is_hash line), before_short is_hash line, treated_size lines)
 
@@ -72,10 +72,10 @@ join_total : (c : Bool) (b n m : ℕ) (line : List ℕ) (lines : List Numbered) 
 join_total true b n m line lines h = rw (onto_total n (without_last (b ∷ line) ++ 32 ∷ []) lines) (omega (arith, space_for_last b line, h))
 join_total false b n m line lines h = omega (arith, h)
 
-joined_total : (n : ℕ) (lines : List (List ℕ)) → total (joined n lines) ≤ size lines
+joined_total : (n : ℕ) (lines : List (List ℕ)) → total (joined_lines n lines) ≤ size lines
 joined_total n [] = omega arith
 joined_total n ([] ∷ lines) = omega (arith, joined_total (suc n) lines)
-joined_total n ((b ∷ line) ∷ lines) = join_total (is_continued (b ∷ line)) b n (size lines) line (joined (suc n) lines) (joined_total (suc n) lines)
+joined_total n ((b ∷ line) ∷ lines) = join_total (is_continued (b ∷ line)) b n (size lines) line (joined_lines (suc n) lines) (joined_total (suc n) lines)
 
 -- it has a word, and at most m of them
 abbrev IsWithin : ℕ → Line → Type 0
@@ -102,10 +102,10 @@ kept_sum [] = omega arith
 kept_sum (line ∷ lines) = keep_sum line.number (length line.text) (total lines) (words_of line.text) (filter has_words (map line_of lines)) (words_count line.text) (kept_sum lines)
 
 -- the joined lines of a text have no more bytes than the text
-joined_fit : (text : List ℕ) → total (joined 1 (map treated (pieces is_line_feed text))) ≤ length text
-joined_fit text = omega (arith, joined_total 1 (map treated (pieces is_line_feed text)), treated_size (pieces is_line_feed text), pieces_size is_line_feed text)
+joined_fit : (text : List ℕ) → total (joined_lines 1 (map treated_line (pieces is_line_feed text))) ≤ length text
+joined_fit text = omega (arith, joined_total 1 (map treated_line (pieces is_line_feed text)), treated_size (pieces is_line_feed text), pieces_size is_line_feed text)
 
 pub lines_fit : LinesFitTheText
 lines_fit text =
-    let lines = joined 1 (map treated (pieces is_line_feed text)) in
+    let lines = joined_lines 1 (map treated_line (pieces is_line_feed text)) in
     (kept (length text) lines (joined_fit text), omega (arith, kept_sum lines, joined_fit text))

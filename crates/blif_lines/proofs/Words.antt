@@ -4,7 +4,7 @@ use Rattle.std.specs.List.{position}
 use Rattle.std.proofs.lemmas.List.Elements.{filter-append}
 use Rattle.blif_lines.specs.declared.lines.Line.{Line}
 use Rattle.ste_base.specs.Bytes.{is_blank}
-use Rattle.blif_lines.specs.Lines.{pieces, before, onto_first, is_filled, words_of, Numbered, onto_next, joined, is_continued, without_last, is_line_feed, treated, line_of, word_lines}
+use Rattle.blif_lines.specs.Lines.{pieces, before, onto_first, is_filled, words_of, Numbered, onto_next, joined_lines, is_continued, without_last, is_line_feed, treated_line, line_of, word_lines}
 use Rattle.blif_lines.proofs.Scanning.{first_piece, place, front}
 
 -- the words before the first of these lines, which takes its number
@@ -70,11 +70,11 @@ begin_one false n line lines = refl
 
 -- a line of which nothing is read is the next line
 pub begin : (n : ℕ) (text : List ℕ) → 0 < length text → with_front n [] (word_lines n (pieces is_line_feed text)) ≡ word_lines n (pieces is_line_feed text)
-begin n text h = rw (first_piece is_line_feed text h) (begin_one (is_continued (treated (before is_line_feed text))) n (treated (before is_line_feed text)) (joined (suc n) (map treated (pieces is_line_feed (drop (suc (length (before is_line_feed text))) text)))))
+begin n text h = rw (first_piece is_line_feed text h) (begin_one (is_continued (treated_line (before is_line_feed text))) n (treated_line (before is_line_feed text)) (joined_lines (suc n) (map treated_line (pieces is_line_feed (drop (suc (length (before is_line_feed text))) text)))))
 
 -- a line after one more physical line
-step : (first n : ℕ) (words : List (List ℕ)) (text line : List ℕ) → 0 < length text → line ≡ treated (before is_line_feed text) → so_far (is_continued line) first (words ++ words_of (if is_continued line then without_last line else line)) (word_lines (suc n) (pieces is_line_feed (drop (suc (length (before is_line_feed text))) text))) ≡ with_front first words (word_lines n (pieces is_line_feed text))
-step first n words text line h e = rw e (rw (first_piece is_line_feed text h) (sym (step_one (is_continued (treated (before is_line_feed text))) first n words (treated (before is_line_feed text)) (joined (suc n) (map treated (pieces is_line_feed (drop (suc (length (before is_line_feed text))) text)))))))
+step : (first n : ℕ) (words : List (List ℕ)) (text line : List ℕ) → 0 < length text → line ≡ treated_line (before is_line_feed text) → so_far (is_continued line) first (words ++ words_of (if is_continued line then without_last line else line)) (word_lines (suc n) (pieces is_line_feed (drop (suc (length (before is_line_feed text))) text))) ≡ with_front first words (word_lines n (pieces is_line_feed text))
+step first n words text line h e = rw e (rw (first_piece is_line_feed text h) (sym (step_one (is_continued (treated_line (before is_line_feed text))) first n words (treated_line (before is_line_feed text)) (joined_lines (suc n) (map treated_line (pieces is_line_feed (drop (suc (length (before is_line_feed text))) text)))))))
 
 -- at the end of the text nothing is joined
 pub finish : (joins : Bool) (first : ℕ) (words : List (List ℕ)) → so_far joins first words [] ≡ record { number = first; words = words } ∷ []
@@ -92,9 +92,9 @@ so_far_open true first words lines all j e = e
 so_far_open false first words lines all j e = absurd (cc j)
 
 -- one turn of the loop over the physical lines of a logical line
-pub line_turn : (joins turns : Bool) (first n next : ℕ) (words new : List (List ℕ)) (all : List Line) (text line back bare body : List ℕ) (at : Option ℕ) → joins ≡ true → next ≡ suc n → 0 < length text → at ≡ position is_line_feed text → line ≡ take (unwrap_or at (length text)) text → back ≡ drop (suc (unwrap_or at (length text))) text → bare ≡ treated line → body ≡ (if is_continued bare then without_last bare else bare) → turns ≡ is_continued bare → new ≡ words ++ words_of body → so_far joins first words (word_lines n (pieces is_line_feed text)) ≡ all → so_far turns first new (word_lines next (pieces is_line_feed back)) ≡ all
+pub line_turn : (joins turns : Bool) (first n next : ℕ) (words new : List (List ℕ)) (all : List Line) (text line back bare body : List ℕ) (at : Option ℕ) → joins ≡ true → next ≡ suc n → 0 < length text → at ≡ position is_line_feed text → line ≡ take (unwrap_or at (length text)) text → back ≡ drop (suc (unwrap_or at (length text))) text → bare ≡ treated_line line → body ≡ (if is_continued bare then without_last bare else bare) → turns ≡ is_continued bare → new ≡ words ++ words_of body → so_far joins first words (word_lines n (pieces is_line_feed text)) ≡ all → so_far turns first new (word_lines next (pieces is_line_feed back)) ≡ all
 line_turn joins turns first n next words new all text line back bare body at j s some p l d t b o w inv =
-    let f : bare ≡ treated (before is_line_feed text) = t ∙ ap treated (l ∙ ap (λ k. take (unwrap_or k (length text)) text) p ∙ front is_line_feed text) in
+    let f : bare ≡ treated_line (before is_line_feed text) = t ∙ ap treated_line (l ∙ ap (λ k. take (unwrap_or k (length text)) text) p ∙ front is_line_feed text) in
     rw o (rw w (rw b (rw d (rw p (rw (place is_line_feed text) (rw s (step first n words text bare some f ∙ so_far_open joins first words (word_lines n (pieces is_line_feed text)) all j inv)))))))
 
 pub shorter_turn : (n len number : ℕ) (turns : Bool) (back rest text : List ℕ) → 0 < length rest → back ≡ drop (suc len) rest → n + length rest ≤ number + length text → length rest ≤ length text → (n + 1 + length back ≤ number + length text) × (length back ≤ length text) × (turns ≡ false → length back < length text)

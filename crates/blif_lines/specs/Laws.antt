@@ -1,13 +1,13 @@
 -- Laws: what holds of the lines of any text.
 use Rattle.std.specs.Prelude.{ℕ, true, ◌+◌, filter, sum_by, nat_eq, ◌<◌, ◌≤◌, ◌≡◌, List, [], ◌∷◌, ◌++◌, length, All, Bool, false, if◌then◌else◌, not}
 use Rattle.blif_lines.specs.declared.lines.Line.{Line}
-use Rattle.ste_base.specs.Bytes.{is_blank}
+use Rattle.ste_base.specs.Bytes.{backslash, is_blank, line_feed, space}
 use Rattle.blif_lines.specs.Lines.{pieces, before, is_line_feed, is_hash, has_words, lines_of}
 
 -- these lines, each with a line feed behind it
-abbrev pub ended : List (List ℕ) → List ℕ
-ended [] = []
-ended (line ∷ lines) = line ++ 10 ∷ ended lines
+abbrev pub text_of_lines : List (List ℕ) → List ℕ
+text_of_lines [] = []
+text_of_lines (line ∷ lines) = line ++ line_feed ∷ text_of_lines lines
 
 -- the text has a last byte, which is no line feed
 abbrev pub lacks_end : List ℕ → Bool
@@ -19,7 +19,7 @@ lacks_end (byte ∷ next ∷ text) = lacks_end (next ∷ text)
 abbrev pub PhysicalLinesAreTheText : Type 0
 PhysicalLinesAreTheText =
     (text : List ℕ) → All (λ line. All (λ byte. is_line_feed byte ≡ false) line) (pieces is_line_feed text)
-    × (ended (pieces is_line_feed text) ≡ (if lacks_end text then text ++ 10 ∷ [] else text))
+    × (text_of_lines (pieces is_line_feed text) ≡ (if lacks_end text then text ++ line_feed ∷ [] else text))
 
 -- each logical line has a word, and all lines together have no more words than the text has bytes
 abbrev pub LinesFitTheText : Type 0
@@ -29,7 +29,7 @@ LinesFitTheText =
 
 -- a byte that is no blank, line feed, `#` or backslash
 abbrev pub IsPlain : ℕ → Type 0
-IsPlain byte = (is_blank byte ≡ false) × (is_line_feed byte ≡ false) × (is_hash byte ≡ false) × (nat_eq byte 92 ≡ false)
+IsPlain byte = (is_blank byte ≡ false) × (is_line_feed byte ≡ false) × (is_hash byte ≡ false) × (nat_eq byte backslash ≡ false)
 
 -- words of plain bytes alone, with at least one byte each
 abbrev pub ArePlain : List (List ℕ) → Type 0
@@ -52,18 +52,18 @@ IsPart part = ArePlain part.words × IsBehind part.behind
 abbrev pub spaced : List (List ℕ) → List ℕ
 spaced [] = []
 spaced (word ∷ []) = word
-spaced (word ∷ next ∷ words) = word ++ 32 ∷ spaced (next ∷ words)
+spaced (word ∷ next ∷ words) = word ++ space ∷ spaced (next ∷ words)
 
 -- the physical lines of a logical line: all but the last have a backslash right after their words
-abbrev pub written : List Part → List (List ℕ)
-written [] = []
-written (part ∷ []) = (spaced part.words ++ part.behind) ∷ []
-written (part ∷ next ∷ parts) = (spaced part.words ++ 92 ∷ [] ++ part.behind) ∷ written (next ∷ parts)
+abbrev pub written_line : List Part → List (List ℕ)
+written_line [] = []
+written_line (part ∷ []) = (spaced part.words ++ part.behind) ∷ []
+written_line (part ∷ next ∷ parts) = (spaced part.words ++ backslash ∷ [] ++ part.behind) ∷ written_line (next ∷ parts)
 
 -- the physical lines of several logical lines
-abbrev pub all_written : List (List Part) → List (List ℕ)
-all_written [] = []
-all_written (parts ∷ lines) = written parts ++ all_written lines
+abbrev pub written_lines : List (List Part) → List (List ℕ)
+written_lines [] = []
+written_lines (parts ∷ lines) = written_line parts ++ written_lines lines
 
 -- the words of all parts
 abbrev pub all_words : List Part → List (List ℕ)
@@ -71,12 +71,12 @@ all_words [] = []
 all_words (part ∷ parts) = part.words ++ all_words parts
 
 -- these logical lines, with the numbers of their first physical lines, which are counted from n on
-abbrev pub numbered : ℕ → List (List Part) → List Line
-numbered n [] = []
-numbered n (parts ∷ lines) = record { number = n; words = all_words parts } ∷ numbered (n + length parts) lines
+abbrev pub numbered_lines : ℕ → List (List Part) → List Line
+numbered_lines n [] = []
+numbered_lines n (parts ∷ lines) = record { number = n; words = all_words parts } ∷ numbered_lines (n + length parts) lines
 
 -- logical lines of plain words, each written on one or more physical lines with blanks and comments, are read back
 abbrev pub WrittenLinesAreReadBack : Type 0
 WrittenLinesAreReadBack =
     (lines : List (List Part)) → All (λ parts. All IsPart parts) lines →
-    lines_of (ended (all_written lines)) ≡ filter has_words (numbered 1 lines)
+    lines_of (text_of_lines (written_lines lines)) ≡ filter has_words (numbered_lines 1 lines)

@@ -1,16 +1,16 @@
 -- Meaning. The logical lines of a text, as netlists, task files and input files are read by. The rules are this project's own
 -- choice, after the Berkeley description of BLIF.
-use Rattle.std.specs.Prelude.{ℕ, suc, ◌-◌, List, [], ◌∷◌, ◌++◌, length, map, filter, take, get_or, Bool, true, false, if◌then◌else◌, nat_eq, ◌||◌, not}
-use Rattle.ste_base.specs.Bytes.{is_blank}
+use Rattle.std.specs.Prelude.{ℕ, suc, ◌-◌, List, [], ◌∷◌, ◌++◌, length, map, filter, take, get_or, Bool, true, false, if◌then◌else◌, nat_eq, not}
+use Rattle.ste_base.specs.Bytes.{backslash, hash_sign, is_blank, line_feed, space}
 use Rattle.blif_lines.specs.declared.lines.Line.{Line}
 
 -- the byte that ends a physical line
 abbrev pub is_line_feed : ℕ → Bool
-is_line_feed byte = nat_eq byte 10
+is_line_feed byte = nat_eq byte line_feed
 
 -- the byte from which on a physical line is a comment
 abbrev pub is_hash : ℕ → Bool
-is_hash byte = nat_eq byte 35
+is_hash byte = nat_eq byte hash_sign
 
 -- these pieces, with one more byte at the head of the first
 abbrev pub onto_first : ℕ → List (List ℕ) → List (List ℕ)
@@ -33,17 +33,17 @@ unless_last byte [] = if is_blank byte then [] else byte ∷ []
 unless_last byte (next ∷ text) = byte ∷ next ∷ text
 
 -- the text without the blanks at its end
-abbrev pub trimmed : List ℕ → List ℕ
-trimmed [] = []
-trimmed (byte ∷ text) = unless_last byte (trimmed text)
+abbrev pub trimmed_text : List ℕ → List ℕ
+trimmed_text [] = []
+trimmed_text (byte ∷ text) = unless_last byte (trimmed_text text)
 
 -- a physical line: first its comment is cut away, then the blanks at the end of what is left
-abbrev pub treated : List ℕ → List ℕ
-treated line = trimmed (before is_hash line)
+abbrev pub treated_line : List ℕ → List ℕ
+treated_line line = trimmed_text (before is_hash line)
 
 -- the text ends with a backslash, and so the next line is joined to it
 abbrev pub is_continued : List ℕ → Bool
-is_continued text = nat_eq (get_or text (length text - 1) 0) 92
+is_continued text = nat_eq (get_or text (length text - 1) 0) backslash
 
 -- the text without its last byte
 abbrev pub without_last : List ℕ → List ℕ
@@ -60,11 +60,11 @@ onto_next n text [] = record { number = n; text = text } ∷ []
 onto_next n text (next ∷ lines) = record { number = n; text = text ++ next.text } ∷ lines
 
 -- the treated physical lines from number n on; the backslash at the end of one becomes a space, and the next is joined
-abbrev pub joined : ℕ → List (List ℕ) → List Numbered
-joined n [] = []
-joined n (line ∷ lines) = if is_continued line
-    then onto_next n (without_last line ++ 32 ∷ []) (joined (suc n) lines)
-    else record { number = n; text = line } ∷ joined (suc n) lines
+abbrev pub joined_lines : ℕ → List (List ℕ) → List Numbered
+joined_lines n [] = []
+joined_lines n (line ∷ lines) = if is_continued line
+    then onto_next n (without_last line ++ space ∷ []) (joined_lines (suc n) lines)
+    else record { number = n; text = line } ∷ joined_lines (suc n) lines
 
 -- there is a byte in the text
 abbrev pub is_filled : List ℕ → Bool
@@ -85,7 +85,7 @@ has_words line = not (nat_eq (length line.words) 0)
 
 -- the logical lines of these physical lines, which are numbered from n on, those without words too
 abbrev pub word_lines : ℕ → List (List ℕ) → List Line
-word_lines n lines = map line_of (joined n (map treated lines))
+word_lines n lines = map line_of (joined_lines n (map treated_line lines))
 
 -- the logical lines of a text: its physical lines are numbered from 1, and lines without words are passed over
 abbrev pub lines_of : List ℕ → List Line

@@ -3,7 +3,7 @@
 ghost use Rattle.std.specs.Prelude.{◌≡◌, ◌≤◌, ◌-◌, ◌<◌, suc, length, take, drop, IfSome, unwrap_or, if◌then◌else◌};
 ghost use Rattle.std.specs.List.{position};
 ghost use Rattle.ste_base.specs.Bytes.{is_blank};
-ghost use Rattle.blif_lines.specs.Lines.{is_line_feed, is_hash, before, trimmed, treated, is_continued, without_last};
+ghost use Rattle.blif_lines.specs.Lines.{is_line_feed, is_hash, before, trimmed_text, treated_line, is_continued, without_last};
 
 use ste_base::is_blank;
 
@@ -51,7 +51,7 @@ fn without_comment(line: &[u8]) -> &[u8]
 /// The text without the blanks at its end.
 #[tactic(auto, using(crate::proofs::Scanning::trim_back, crate::proofs::Scanning::trim_stop))]
 fn trim(text: &[u8]) -> &[u8]
-    ensures { result.now ≡ trimmed text.now }
+    ensures { result.now ≡ trimmed_text text.now }
 {
     let mut end = text.len();
     while end > 0 && is_blank(text[end - 1]) {
@@ -62,7 +62,7 @@ fn trim(text: &[u8]) -> &[u8]
 
 /// A physical line without its comment, and then without the blanks at its end.
 pub fn treat(line: &[u8]) -> &[u8]
-    ensures { result.now ≡ treated line.now }
+    ensures { result.now ≡ treated_line line.now }
 {
     trim(without_comment(line))
 }

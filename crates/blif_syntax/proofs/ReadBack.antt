@@ -20,7 +20,7 @@ use Rattle.blif_syntax.specs.Forms.{form_of}
 use Rattle.blif_syntax.specs.Places.{first_or, row_fits}
 use Rattle.blif_syntax.specs.Spelled.{rows_of, on_of, items_of, models_of}
 use Rattle.net_core.specs.Cover.{IsCover}
-use Rattle.blif_syntax.specs.Written.{row_words, item_words, item_lines, numbered, head_words, model_lines, written, IsSayable, AreSayable, WrittenIsRead}
+use Rattle.blif_syntax.specs.Written.{row_words, item_words, item_lines, lines_with_number, head_words, model_lines, written_models, IsSayable, AreSayable, WrittenIsRead}
 use Rattle.blif_syntax.proofs.Faults.{fault_from, whole}
 use Rattle.blif_syntax.proofs.Spelling.{row_form, names_form, plain_form, rising_form, falling_form, use_form}
 
@@ -33,22 +33,22 @@ abbrev pub item_entries : ℕ → What → List Entry
 item_entries n (what.Names inputs output cover) = record { line = n; form = form.Names (length inputs) inputs output } ∷ map (row_entry n cover.on) cover.rows
 item_entries n other = record { line = n; form = form.Item other } ∷ []
 
-rows_spelled : (n : ℕ) (on : Bool) (rows : List (List Lit)) → entries_of (numbered n (map (row_words on) rows)) ≡ map (row_entry n on) rows
+rows_spelled : (n : ℕ) (on : Bool) (rows : List (List Lit)) → entries_of (lines_with_number n (map (row_words on) rows)) ≡ map (row_entry n on) rows
 rows_spelled n on [] = refl
 rows_spelled n on (row ∷ rows) =
-    ap (λ f. record { line = n; form = f } ∷ entries_of (numbered n (map (row_words on) rows))) (row_form on row)
+    ap (λ f. record { line = n; form = f } ∷ entries_of (lines_with_number n (map (row_words on) rows))) (row_form on row)
     ∙ ap (λ later. row_entry n on row ∷ later) (rows_spelled n on rows)
 
 -- one line alone
 abbrev pub one_entry : ℕ → Form → List Entry
 one_entry n form = record { line = n; form = form } ∷ []
 
-item_spelled : (n : ℕ) (said : What) → IsSayable said → entries_of (numbered n (item_words said)) ≡ item_entries n said
+item_spelled : (n : ℕ) (said : What) → IsSayable said → entries_of (lines_with_number n (item_words said)) ≡ item_entries n said
 item_spelled n (what.Inputs names) say = refl
 item_spelled n (what.Outputs names) say = refl
 item_spelled n (what.Clock names) say = refl
 item_spelled n (what.Names inputs output cover) say =
-    ap (λ f. record { line = n; form = f } ∷ entries_of (numbered n (map (row_words cover.on) cover.rows))) (names_form inputs output)
+    ap (λ f. record { line = n; form = f } ∷ entries_of (lines_with_number n (map (row_words cover.on) cover.rows))) (names_form inputs output)
     ∙ ap (λ later. record { line = n; form = form.Names (length inputs) inputs output } ∷ later) (rows_spelled n cover.on cover.rows)
 item_spelled n (what.Latch input output Plain control init) say = ap (one_entry n) (plain_form input output init ∙ ap (λ c. form.Item (what.Latch input output Plain c init)) (sym say))
 item_spelled n (what.Latch input output Rising control init) say = ap (one_entry n) (rising_form input output control init say)
@@ -165,12 +165,12 @@ model_more model rest models say is =
     let start = at_model model.line model.name (entries_of ((flat_map item_lines model.items ++ end ∷ []) ++ rest)) model.items models (subst (λ lines. IsInside (entries_of lines) model.items models) (sym grouped) inside) in
     subst (λ f. IsOutside (record { line = model.line; form = f } ∷ entries_of ((flat_map item_lines model.items ++ end ∷ []) ++ rest)) (model ∷ models)) (sym (head_form model.name)) start
 
-all_read : (models : List Model) → AreSayable models → IsOutside (entries_of (written models)) models
+all_read : (models : List Model) → AreSayable models → IsOutside (entries_of (written_models models)) models
 all_read [] say = record { fault = λ inside cover. refl; later = refl }
-all_read (model ∷ models) say = model_more model (written models) models (say 0 model (omega arith)) (all_read models (λ k d below. say (suc k) d (omega (arith, below))))
+all_read (model ∷ models) say = model_more model (written_models models) models (say 0 model (omega arith)) (all_read models (λ k d below. say (suc k) d (omega (arith, below))))
 
 pub read_back : WrittenIsRead
 read_back = record {
-  sound = λ models say. sym (whole (entries_of (written models))) ∙ (all_read models say).fault false None;
+  sound = λ models say. sym (whole (entries_of (written_models models))) ∙ (all_read models say).fault false None;
   same = λ models say. (all_read models say).later;
 }

@@ -1,5 +1,5 @@
 -- What is read can be written out: covers have rows of their width, and so on.
-use Rattle.std.proofs.Common.{ℕ, suc, ◌≡◌, ◌≢◌, refl, subst, ◌∙◌, List, [], ◌∷◌, length, map, All, arith, Bool, true, false, ◌&&◌, not, nat_eq, get_or, IsTrue, if◌then◌else◌, Option, Some, None, codes}
+use Rattle.std.proofs.Common.{ℕ, suc, ◌≡◌, ◌≢◌, refl, ◌∙◌, List, [], ◌∷◌, length, map, All, arith, Bool, true, false, ◌&&◌, not, nat_eq, get_or, IsTrue, if◌then◌else◌, Option, Some, None, codes}
 use Rattle.std.specs.Str.{bytes_eq}
 use Rattle.std.specs.List.{list_all, list_any}
 use Rattle.std.proofs.lemmas.List.Elements.{All-cons}
@@ -18,7 +18,7 @@ use Rattle.blif_syntax.specs.declared.models.LatchKind.TheVariants.{Plain, Risin
 use Rattle.blif_syntax.specs.declared.models.Model.{Model}
 use Rattle.blif_syntax.specs.declared.open_cover.OpenCover.{OpenCover}
 use Rattle.blif_syntax.specs.Answer.{entry_of, entries_of}
-use Rattle.blif_syntax.specs.Forms.{form_of, bad, row_of, row_with, names_with, model_of, end_of, latch_of, latch_typed, latch_with, is_equals, binding_with, binding_of, with_binding, bindings_of, use_of, use_with}
+use Rattle.blif_syntax.specs.Forms.{form_of, bad, form_of_row, row_with, names_with, form_of_model, form_of_end, form_of_latch, latch_typed, latch_with, is_equals, binding_with, binding_of, with_binding, bindings_of, form_of_use, use_with}
 use Rattle.blif_syntax.specs.Places.{first_fault, row_fits, first_or, is_same}
 use Rattle.blif_syntax.specs.Sayable.{ReadIsSayable}
 use Rattle.blif_syntax.specs.Spelled.{rows_of, rows_with, on_of, items_of, models_of}
@@ -49,7 +49,7 @@ row_sound characters [] = tt
 row_sound characters (byte ∷ []) = row_bit (is_bit byte && list_all is_literal characters) (map literal_of characters) (nat_eq byte 49)
 row_sound characters (byte ∷ other ∷ more) = tt
 
-rows_sound : (first : List ℕ) (words : List (List ℕ)) → IsSpelled (row_of first words)
+rows_sound : (first : List ℕ) (words : List (List ℕ)) → IsSpelled (form_of_row first words)
 rows_sound first [] = row_sound [] first
 rows_sound first (output ∷ []) = either (is_filled first) (row_with first output) bad (row_sound first output) tt
 rows_sound first (output ∷ other ∷ more) = tt
@@ -58,12 +58,12 @@ names_sound : (inputs : List (List ℕ)) (output : Option (List ℕ)) → IsSpel
 names_sound inputs None = tt
 names_sound inputs (Some output) = refl
 
-model_sound : (words : List (List ℕ)) → IsSpelled (model_of words)
+model_sound : (words : List (List ℕ)) → IsSpelled (form_of_model words)
 model_sound [] = tt
 model_sound (name ∷ []) = tt
 model_sound (name ∷ other ∷ more) = tt
 
-end_sound : (words : List (List ℕ)) → IsSpelled (end_of words)
+end_sound : (words : List (List ℕ)) → IsSpelled (form_of_end words)
 end_sound [] = tt
 end_sound (word ∷ more) = tt
 
@@ -93,7 +93,7 @@ latch_typed_sound input output kind control init =
     either (is_one_of left_out_types kind) _ _ tt
     (typed_sound input output (kind_named kind) (control_of control) init (never_plain (bytes_eq kind (codes "re")) (bytes_eq kind (codes "fe"))) (not_nil control (bytes_eq control (codes "NIL")) refl))
 
-latch_sound : (words : List (List ℕ)) → IsSpelled (latch_of words)
+latch_sound : (words : List (List ℕ)) → IsSpelled (form_of_latch words)
 latch_sound [] = tt
 latch_sound (input ∷ []) = tt
 latch_sound (input ∷ output ∷ []) = refl
@@ -138,7 +138,7 @@ use_sound : (model : List ℕ) (formals : Option (List (List ℕ × List ℕ))) 
 use_sound model None h = tt
 use_sound model (Some formals) h = h
 
-uses_sound : (words : List (List ℕ)) → IsSpelled (use_of words)
+uses_sound : (words : List (List ℕ)) → IsSpelled (form_of_use words)
 uses_sound [] = tt
 uses_sound (model ∷ words) = use_sound model (bindings_of words) (bindings_sound words)
 

@@ -1,6 +1,7 @@
 -- Meaning. What the words of a line spell, wherever the line stands.
 use Rattle.std.specs.Prelude.{ℕ, suc, ◌-◌, ◌∷◌, [], List, length, take, drop, map, slice_get, Bool, Option, Some, None, if◌then◌else◌, nat_eq, ◌&&◌, bytes_eq, codes}
 use Rattle.std.specs.List.{list_all}
+use Rattle.ste_base.specs.Bytes.{digit_one, equals_sign}
 use Rattle.blif_lines.specs.Lines.{before, is_filled}
 use Rattle.net_core.specs.declared.raw.Init.{Init}
 use Rattle.net_core.specs.declared.raw.Init.TheVariants.{Free}
@@ -19,14 +20,14 @@ bad = Wrong Bad
 -- a row with these characters, and the character of its output
 abbrev pub row_with : List ℕ → List ℕ → Form
 row_with characters (byte ∷ []) =
-    if is_bit byte && list_all is_literal characters then Row (map literal_of characters) (nat_eq byte 49) else bad
+    if is_bit byte && list_all is_literal characters then Row (map literal_of characters) (nat_eq byte digit_one) else bad
 row_with characters other = bad
 
 -- a line whose first word does not begin with a dot: a row of one word, which has no literals, or of two
-abbrev pub row_of : List ℕ → List (List ℕ) → Form
-row_of first [] = row_with [] first
-row_of first (output ∷ []) = if is_filled first then row_with first output else bad
-row_of first (output ∷ other ∷ more) = bad
+abbrev pub form_of_row : List ℕ → List (List ℕ) → Form
+form_of_row first [] = row_with [] first
+form_of_row first (output ∷ []) = if is_filled first then row_with first output else bad
+form_of_row first (output ∷ other ∷ more) = bad
 
 -- the words behind `.names` but the last, and the last
 abbrev pub names_with : List (List ℕ) → Option (List ℕ) → Form
@@ -34,19 +35,19 @@ names_with inputs None = bad
 names_with inputs (Some output) = Names (length inputs) inputs output
 
 -- what the words behind `.names` spell
-abbrev pub names_of : List (List ℕ) → Form
-names_of words = names_with (take (length words - 1) words) (slice_get words (length words - 1))
+abbrev pub form_of_names : List (List ℕ) → Form
+form_of_names words = names_with (take (length words - 1) words) (slice_get words (length words - 1))
 
 -- what the words behind `.model` spell; a model without a name has the empty one
-abbrev pub model_of : List (List ℕ) → Form
-model_of [] = Model []
-model_of (name ∷ []) = Model name
-model_of (name ∷ other ∷ more) = bad
+abbrev pub form_of_model : List (List ℕ) → Form
+form_of_model [] = Model []
+form_of_model (name ∷ []) = Model name
+form_of_model (name ∷ other ∷ more) = bad
 
 -- what the words behind `.end` spell
-abbrev pub end_of : List (List ℕ) → Form
-end_of [] = End
-end_of (word ∷ more) = bad
+abbrev pub form_of_end : List (List ℕ) → Form
+form_of_end [] = End
+form_of_end (word ∷ more) = bad
 
 -- a latch, where its type and its initial value are known
 abbrev pub latch_with : List ℕ → List ℕ → Option LatchKind → Option (List ℕ) → Option Init → Form
@@ -60,16 +61,16 @@ latch_typed input output kind control init =
     else latch_with input output (kind_named kind) (control_of control) init
 
 -- what the words behind `.latch` spell; a latch without an initial value is free
-abbrev pub latch_of : List (List ℕ) → Form
-latch_of (input ∷ output ∷ []) = latch_with input output (Some Plain) None (Some Free)
-latch_of (input ∷ output ∷ init ∷ []) = latch_with input output (Some Plain) None (init_of init)
-latch_of (input ∷ output ∷ kind ∷ control ∷ []) = latch_typed input output kind control (Some Free)
-latch_of (input ∷ output ∷ kind ∷ control ∷ init ∷ []) = latch_typed input output kind control (init_of init)
-latch_of other = bad
+abbrev pub form_of_latch : List (List ℕ) → Form
+form_of_latch (input ∷ output ∷ []) = latch_with input output (Some Plain) None (Some Free)
+form_of_latch (input ∷ output ∷ init ∷ []) = latch_with input output (Some Plain) None (init_of init)
+form_of_latch (input ∷ output ∷ kind ∷ control ∷ []) = latch_typed input output kind control (Some Free)
+form_of_latch (input ∷ output ∷ kind ∷ control ∷ init ∷ []) = latch_typed input output kind control (init_of init)
+form_of_latch other = bad
 
 -- the character that parts a formal from its actual
 abbrev pub is_equals : ℕ → Bool
-is_equals byte = nat_eq byte 61
+is_equals byte = nat_eq byte equals_sign
 
 -- a formal and its actual, neither of which is empty
 abbrev pub binding_with : List ℕ → List ℕ → Option (List ℕ × List ℕ)
@@ -95,23 +96,23 @@ use_with model None = bad
 use_with model (Some formals) = Item (what.Subckt model formals)
 
 -- what the words behind `.subckt` spell
-abbrev pub use_of : List (List ℕ) → Form
-use_of [] = bad
-use_of (model ∷ words) = use_with model (bindings_of words)
+abbrev pub form_of_use : List (List ℕ) → Form
+form_of_use [] = bad
+form_of_use (model ∷ words) = use_with model (bindings_of words)
 
 -- the form of a line by its words
 abbrev pub form_of : List (List ℕ) → Form
 form_of [] = bad
 form_of (first ∷ words) =
     if is_one_of skipped_words first then Skipped
-    else if bytes_eq first (codes ".model") then model_of words
+    else if bytes_eq first (codes ".model") then form_of_model words
     else if bytes_eq first (codes ".inputs") then Item (what.Inputs words)
     else if bytes_eq first (codes ".outputs") then Item (what.Outputs words)
     else if bytes_eq first (codes ".clock") then Item (what.Clock words)
-    else if bytes_eq first (codes ".names") then names_of words
-    else if bytes_eq first (codes ".latch") then latch_of words
-    else if bytes_eq first (codes ".subckt") then use_of words
-    else if bytes_eq first (codes ".end") then end_of words
+    else if bytes_eq first (codes ".names") then form_of_names words
+    else if bytes_eq first (codes ".latch") then form_of_latch words
+    else if bytes_eq first (codes ".subckt") then form_of_use words
+    else if bytes_eq first (codes ".end") then form_of_end words
     else if is_one_of left_out_words first then Wrong (LeftOut first)
     else if begins_with_dot first then Wrong (Unknown first)
-    else row_of first words
+    else form_of_row first words

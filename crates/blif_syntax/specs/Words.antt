@@ -1,6 +1,7 @@
 -- Meaning. The first words of lines, and single words that have a meaning. Source: the Berkeley description of BLIF.
 use Rattle.std.specs.Prelude.{ℕ, ◌∷◌, [], List, Bool, false, Option, Some, None, if◌then◌else◌, nat_eq, ◌||◌, bytes_eq, codes}
 use Rattle.std.specs.List.{list_any}
+use Rattle.ste_base.specs.Bytes.{dash, digit_one, digit_zero, dot}
 use Rattle.net_core.specs.declared.cover.Lit.{Lit}
 use Rattle.net_core.specs.declared.cover.Lit.TheVariants as lit
 use Rattle.net_core.specs.declared.raw.Init.{Init}
@@ -33,19 +34,19 @@ left_out_types = codes "ah" ∷ codes "al" ∷ codes "as" ∷ []
 -- the word begins with a dot
 abbrev pub begins_with_dot : List ℕ → Bool
 begins_with_dot [] = false
-begins_with_dot (byte ∷ word) = nat_eq byte 46
+begins_with_dot (byte ∷ word) = nat_eq byte dot
 
 -- the characters 0 and 1
 abbrev pub is_bit : ℕ → Bool
-is_bit byte = nat_eq byte 48 || nat_eq byte 49
+is_bit byte = nat_eq byte digit_zero || nat_eq byte digit_one
 
 -- the characters 0, 1 and -
 abbrev pub is_literal : ℕ → Bool
-is_literal byte = is_bit byte || nat_eq byte 45
+is_literal byte = is_bit byte || nat_eq byte dash
 
 -- the literal of a character
 abbrev pub literal_of : ℕ → Lit
-literal_of byte = if nat_eq byte 48 then lit.Zero else if nat_eq byte 49 then lit.One else lit.Any
+literal_of byte = if nat_eq byte digit_zero then lit.Zero else if nat_eq byte digit_one then lit.One else lit.Any
 
 -- the initial value of a word: 0, 1, and 2 or 3 for a free one
 abbrev pub init_of : List ℕ → Option Init

@@ -1,6 +1,7 @@
 -- Law: models that are written out as lines are read back; and how they are written.
-use Rattle.std.specs.Prelude.{◌≡◌, ◌≢◌, ℕ, ◌++◌, ◌∷◌, [], List, length, map, All, Bool, true, Option, Some, None, IsTrue, not, if◌then◌else◌, codes}
+use Rattle.std.specs.Prelude.{◌≡◌, ◌≢◌, ℕ, ◌++◌, ◌∷◌, [], List, length, map, All, Bool, Option, Some, None, IsTrue, not, if◌then◌else◌, codes}
 use Rattle.std.specs.List.{flat_map, list_any}
+use Rattle.ste_base.specs.Bytes.{dash, digit_one, digit_zero, equals_sign}
 use Rattle.blif_lines.specs.declared.lines.Line.{Line}
 use Rattle.blif_lines.specs.Lines.{is_filled}
 use Rattle.net_core.specs.declared.cover.Lit.{Lit}
@@ -21,9 +22,9 @@ use Rattle.blif_syntax.specs.Spelled.{models_of}
 
 -- the character of a literal
 abbrev pub literal_byte : Lit → ℕ
-literal_byte lit.Zero = 48
-literal_byte lit.One = 49
-literal_byte lit.Any = 45
+literal_byte lit.Zero = digit_zero
+literal_byte lit.One = digit_one
+literal_byte lit.Any = dash
 
 -- the word of an output character
 abbrev pub output_word : Bool → List ℕ
@@ -60,15 +61,15 @@ item_words (Names inputs output cover) = (codes ".names" ∷ (inputs ++ output �
 item_words (Latch input output kind control init) =
     (codes ".latch" ∷ input ∷ output ∷ (kind_words kind control ++ init_word init ∷ [])) ∷ []
 item_words (Subckt model formals) =
-    (codes ".subckt" ∷ model ∷ map (λ binding. binding.0 ++ (61 ∷ binding.1)) formals) ∷ []
+    (codes ".subckt" ∷ model ∷ map (λ binding. binding.0 ++ (equals_sign ∷ binding.1)) formals) ∷ []
 
 -- lines of these words, all with one number
-abbrev pub numbered : ℕ → List (List (List ℕ)) → List Line
-numbered number lines = map (λ words. record { number = number; words = words }) lines
+abbrev pub lines_with_number : ℕ → List (List (List ℕ)) → List Line
+lines_with_number number lines = map (λ words. record { number = number; words = words }) lines
 
 -- the lines of an item
 abbrev pub item_lines : Item → List Line
-item_lines item = numbered item.line (item_words item.what)
+item_lines item = lines_with_number item.line (item_words item.what)
 
 -- the words of a model's first line
 abbrev pub head_words : List ℕ → List (List ℕ)
@@ -77,11 +78,11 @@ head_words name = codes ".model" ∷ (if is_filled name then name ∷ [] else []
 -- the lines of a model
 abbrev pub model_lines : Model → List Line
 model_lines model =
-    numbered model.line (head_words model.name ∷ []) ++ (flat_map item_lines model.items ++ numbered model.line ((codes ".end" ∷ []) ∷ []))
+    lines_with_number model.line (head_words model.name ∷ []) ++ (flat_map item_lines model.items ++ lines_with_number model.line ((codes ".end" ∷ []) ∷ []))
 
 -- the models, written out
-abbrev pub written : List Model → List Line
-written models = flat_map model_lines models
+abbrev pub written_models : List Model → List Line
+written_models models = flat_map model_lines models
 
 -- neither side of a binding is empty, and the formal has no `=`
 pub record IsBinding (binding : List ℕ × List ℕ) : Type 0 where
@@ -103,5 +104,5 @@ AreSayable models = All (λ model. All (λ item. IsSayable item.what) model.item
 
 -- Law: models that are written out are read back.
 pub record WrittenIsRead : Type 0 where
-  pub sound : (models : List Model) → AreSayable models → first_fault [] (entries_of (written models)) ≡ None
-  pub same : (models : List Model) → AreSayable models → models_of (entries_of (written models)) ≡ models
+  pub sound : (models : List Model) → AreSayable models → first_fault [] (entries_of (written_models models)) ≡ None
+  pub same : (models : List Model) → AreSayable models → models_of (entries_of (written_models models)) ≡ models

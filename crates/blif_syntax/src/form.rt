@@ -1,4 +1,9 @@
-//! The forms of lines; begin with `Form`.
+//! The forms of lines; begin with `Form`, and for a line's form by its words with `forms::entry_of`.
+
+pub(crate) mod forms;
+mod latches;
+mod rows;
+mod uses;
 
 use crate::models::What;
 use net_core::Row;

@@ -4,14 +4,10 @@
 mod draft;
 pub mod fault;
 pub mod form;
-mod forms;
-mod latches;
 pub mod laws;
 pub mod models;
 pub mod open_cover;
 pub mod read;
-mod rows;
-mod uses;
 mod words;
 
 pub use fault::BlifFault;

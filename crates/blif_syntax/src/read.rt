@@ -6,8 +6,8 @@ ghost use Rattle.blif_syntax.specs.Places.{line_fault_of};
 
 use crate::draft::{Draft, line_added, models_of, open_cover_of};
 use crate::fault::BlifFault;
+use crate::form::forms::entry_of;
 use crate::form::{Form, LineFault};
-use crate::forms::entry_of;
 use crate::models::Models;
 use crate::open_cover::may_stand;
 use blif_lines::Line;

@@ -1,10 +1,7 @@
 //! The words that lines begin with; begin with `is_skipped`.
 
-ghost use Rattle.std.specs.Prelude.{◌≡◌, IfOk, bytes_eq, refl};
+ghost use Rattle.std.specs.Prelude.{◌≡◌, bytes_eq, refl};
 ghost use Rattle.blif_syntax.specs.Words.{is_one_of, skipped_words, left_out_words, left_out_types, begins_with_dot};
-
-use std::alloc::{AllocError, Global};
-use ste_base::{Items, Name};
 
 /// Whether a word has these characters.
 pub fn is(word: &[u8], text: &str) -> bool
@@ -61,11 +58,4 @@ pub fn begins_with_dot(word: &[u8]) -> bool
     ensures { result ≡ begins_with_dot word.now }
 {
     !word.is_empty() && word[0] == b'.'
-}
-
-/// Copies of these words.
-pub fn copies(alloc: Global, words: &[Name]) -> Result<Items<Name>, AllocError>
-    ensures { IfOk result (λ names. names ≡ words.now) }
-{
-    Ok(words.to_vec(alloc)?.into())
 }

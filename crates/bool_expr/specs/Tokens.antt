@@ -1,7 +1,7 @@
 -- Meaning. The tokens of the text of an expression. The rules are this project's own choice.
 use Rattle.std.specs.Prelude.{ℕ, List, [], ◌∷◌, codes, Bool, true, false, ◌&&◌, ◌||◌, if◌then◌else◌, nat_eq, bytes_eq}
 use Rattle.std.specs.List.{take_while}
-use Rattle.ste_base.specs.Bytes.{is_blank, is_digit, is_letter}
+use Rattle.ste_base.specs.Bytes.{digit_one, digit_zero, is_blank, is_digit, is_letter}
 use Rattle.bool_expr.specs.declared.token.Sign.{Sign}
 use Rattle.bool_expr.specs.declared.token.Sign.TheVariants.{Or, Xor, And}
 
@@ -36,8 +36,8 @@ byte_token byte =
     else if nat_eq byte 33 then negation
     else if nat_eq byte 40 then opening
     else if nat_eq byte 41 then closing
-    else if nat_eq byte 48 then constant false
-    else if nat_eq byte 49 then constant true
+    else if nat_eq byte digit_zero then constant false
+    else if nat_eq byte digit_one then constant true
     else wrong
 
 -- The tokens that begin in a text, where it is known whether a word stands before it. A word goes on as long as it can,

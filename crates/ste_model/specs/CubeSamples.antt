@@ -1,4 +1,4 @@
--- Samples, for tests. The cubes of each set of assignments of two variables x and y, worked by hand.
+-- Law, as samples: the cubes of each set of assignments of two variables x and y, worked by hand.
 use Rattle.std.specs.Prelude.{◌≡◌, Bool, false, true, if◌then◌else◌, [], ◌∷◌, slice_index_or}
 use Rattle.ste_base.specs.declared.id.VarId.{VarId}
 use Rattle.ste_model.specs.Cubes.{AssignmentSet, cubes_of}

@@ -1,8 +1,8 @@
-//! What the words of a `.subckt` line say; begin with `use_of`.
+//! What the words of a `.subckt` line say; begin with `form_of_use`.
 
 ghost use Rattle.std.specs.Prelude.{◌≡◌, IfOk, suc, take, drop, length, unwrap_or};
 ghost use Rattle.std.specs.List.{position};
-ghost use Rattle.blif_syntax.specs.Forms.{is_equals, binding_with, binding_of, bindings_of, use_of};
+ghost use Rattle.blif_syntax.specs.Forms.{is_equals, binding_with, binding_of, bindings_of, form_of_use};
 
 use crate::form::{Form, LineFault};
 use crate::models::What;
@@ -71,8 +71,8 @@ fn bindings_of(alloc: Global, words: &[Name]) -> Result<Option<Items<(Name, Name
 }
 
 /// What the words behind `.subckt` spell.
-pub fn use_of(alloc: Global, words: &[Name]) -> Result<Form, AllocError>
-    ensures { IfOk result (λ form. form ≡ use_of words.now) }
+pub fn form_of_use(alloc: Global, words: &[Name]) -> Result<Form, AllocError>
+    ensures { IfOk result (λ form. form ≡ form_of_use words.now) }
 {
     let [model, bindings @ ..] = words else {
         return Ok(Form::Wrong(LineFault::Bad));

@@ -1,7 +1,7 @@
 use Rattle.std.proofs.Common.{◌≡◌, drop}
 use Rattle.blif_syntax.specs.Forms.{bindings_of}
 use Rattle.blif_syntax.proofs.Bindings.{joined}
-use Rattle.blif_syntax.proofs.uses.bindings_of.Given as goal
+use Rattle.blif_syntax.proofs.form.uses.bindings_of.Given as goal
 
 -- the words that are left decide
 abbrev pub invariant-loop-word : goal.invariant-loop-word

@@ -1,8 +1,8 @@
-//! What the words of a `.latch` line say; begin with `latch_of`.
+//! What the words of a `.latch` line say; begin with `form_of_latch`.
 
 ghost use Rattle.std.specs.Prelude.{◌≡◌, IfOk};
 ghost use Rattle.blif_syntax.specs.Words.{init_of, kind_named, control_of};
-ghost use Rattle.blif_syntax.specs.Forms.{latch_with, latch_typed, latch_of};
+ghost use Rattle.blif_syntax.specs.Forms.{latch_with, latch_typed, form_of_latch};
 
 use crate::form::{Form, LineFault};
 use crate::models::{LatchKind, What};
@@ -95,8 +95,8 @@ fn latch_typed(
 }
 
 /// What the words behind `.latch` spell.
-pub fn latch_of(words: &[Name]) -> Result<Form, AllocError>
-    ensures { IfOk result (λ form. form ≡ latch_of words.now) }
+pub fn form_of_latch(words: &[Name]) -> Result<Form, AllocError>
+    ensures { IfOk result (λ form. form ≡ form_of_latch words.now) }
 {
     match words {
         [input, output] => latch_with(

@@ -1,9 +1,9 @@
-//! What the words of a row of a cover say; begin with `row_of`.
+//! What the words of a row of a cover say; begin with `form_of_row`.
 
 ghost use Rattle.std.specs.Prelude.{◌≡◌, ◌∷◌, [], IfOk, map};
 ghost use Rattle.std.specs.List.{list_all};
 ghost use Rattle.blif_syntax.specs.Words.{is_bit, is_literal, literal_of};
-ghost use Rattle.blif_syntax.specs.Forms.{row_of, row_with};
+ghost use Rattle.blif_syntax.specs.Forms.{form_of_row, row_with};
 
 use crate::form::{Form, LineFault};
 use net_core::Lit;
@@ -66,8 +66,8 @@ fn row_with(alloc: Global, characters: &[u8], output: &[u8]) -> Result<Form, All
 }
 
 /// What a line spells whose first word, which does not begin with a dot, is `first`, and whose further words are these.
-pub fn row_of(alloc: Global, first: &[u8], words: &[Name]) -> Result<Form, AllocError>
-    ensures { IfOk result (λ form. form ≡ row_of first.now words.now) }
+pub fn form_of_row(alloc: Global, first: &[u8], words: &[Name]) -> Result<Form, AllocError>
+    ensures { IfOk result (λ form. form ≡ form_of_row first.now words.now) }
 {
     match words {
         [] => row_with(alloc, b"", first),

@@ -1,22 +1,22 @@
 //! The form of a line by its words; begin with `entry_of`.
 
 ghost use Rattle.std.specs.Prelude.{◌≡◌, ◌<◌, ◌^◌, IfOk, length};
-ghost use Rattle.blif_syntax.specs.Forms.{model_of, names_of, end_of, form_of};
+ghost use Rattle.blif_syntax.specs.Forms.{form_of_model, form_of_names, form_of_end, form_of};
 ghost use Rattle.blif_syntax.specs.Answer.{entry_of};
 
-use crate::form::{Entry, Form, LineFault};
-use crate::latches::latch_of;
+use super::latches::form_of_latch;
+use super::rows::form_of_row;
+use super::uses::form_of_use;
+use super::{Entry, Form, LineFault};
 use crate::models::What;
-use crate::rows::row_of;
-use crate::uses::use_of;
-use crate::words::{begins_with_dot, copies, is, is_left_out, is_skipped};
+use crate::words::{begins_with_dot, is, is_left_out, is_skipped};
 use blif_lines::Line;
 use std::alloc::{AllocError, Global};
-use ste_base::Name;
+use ste_base::{Name, copies};
 
 /// What the words behind `.model` spell.
-fn model_of(alloc: Global, words: &[Name]) -> Result<Form, AllocError>
-    ensures { IfOk result (λ form. form ≡ model_of words.now) }
+fn form_of_model(alloc: Global, words: &[Name]) -> Result<Form, AllocError>
+    ensures { IfOk result (λ form. form ≡ form_of_model words.now) }
 {
     match words {
         [] => Ok(Form::Model(Name::from_bytes(alloc, b"")?)),
@@ -26,9 +26,9 @@ fn model_of(alloc: Global, words: &[Name]) -> Result<Form, AllocError>
 }
 
 /// What the words behind `.names` spell.
-fn names_of(alloc: Global, words: &[Name]) -> Result<Form, AllocError>
+fn form_of_names(alloc: Global, words: &[Name]) -> Result<Form, AllocError>
     requires { length words.now < 2 ^ 32 }
-    ensures { IfOk result (λ form. form ≡ names_of words.now) }
+    ensures { IfOk result (λ form. form ≡ form_of_names words.now) }
 {
     match words {
         [inputs @ .., output] => Ok(Form::Names(
@@ -41,8 +41,8 @@ fn names_of(alloc: Global, words: &[Name]) -> Result<Form, AllocError>
 }
 
 /// What the words behind `.end` spell.
-fn end_of(words: &[Name]) -> Form
-    ensures { result ≡ end_of words.now }
+fn form_of_end(words: &[Name]) -> Form
+    ensures { result ≡ form_of_end words.now }
 {
     if words.is_empty() {
         Form::End
@@ -63,7 +63,7 @@ fn form_of(alloc: Global, words: &[Name]) -> Result<Form, AllocError>
     if is_skipped(word) {
         Ok(Form::Skipped)
     } else if is(word, ".model") {
-        model_of(alloc, rest)
+        form_of_model(alloc, rest)
     } else if is(word, ".inputs") {
         Ok(Form::Item(What::Inputs(copies(alloc, rest)?)))
     } else if is(word, ".outputs") {
@@ -71,19 +71,19 @@ fn form_of(alloc: Global, words: &[Name]) -> Result<Form, AllocError>
     } else if is(word, ".clock") {
         Ok(Form::Item(What::Clock(copies(alloc, rest)?)))
     } else if is(word, ".names") {
-        names_of(alloc, rest)
+        form_of_names(alloc, rest)
     } else if is(word, ".latch") {
-        latch_of(rest)
+        form_of_latch(rest)
     } else if is(word, ".subckt") {
-        use_of(alloc, rest)
+        form_of_use(alloc, rest)
     } else if is(word, ".end") {
-        Ok(end_of(rest))
+        Ok(form_of_end(rest))
     } else if is_left_out(word) {
         Ok(Form::Wrong(LineFault::LeftOut(first.clone()?)))
     } else if begins_with_dot(word) {
         Ok(Form::Wrong(LineFault::Unknown(first.clone()?)))
     } else {
-        row_of(alloc, word, rest)
+        form_of_row(alloc, word, rest)
     }
 }
 
