@@ -1,7 +1,8 @@
 -- Constants first.
 use Rattle.std.proofs.Common.{◌≡◌, Bool, true, false, not, refl, sym, ◌∙◌, ap, Ok}
-use Rattle.std.specs.Prelude.{◌&&◌, ◌||◌}
+use Rattle.std.specs.Prelude.{◌&&◌, ◌||◌, if◌then◌else◌}
 use Rattle.dd_nodes.specs.declared.node.Ref.{Ref}
+use Rattle.dd_nodes.specs.Diagram.{Function}
 use Rattle.dd_nodes.specs.Stores.{Store, IsRef, function}
 use Rattle.dd_nodes.proofs.Stores.{IsGood}
 use Rattle.dd_nodes.proofs.Spending.{one_means, zero_means}
@@ -55,3 +56,19 @@ module _ (s : Store) (a b : Ref) (d : IsGood s) (ha : IsRef s a) (hb : IsRef s b
 
   pub opposite_zero : a.0 ≡ 0 → Answer (λ bits. not (function s a bits)) s s (Ok (record { 0 = 1 }))
   opposite_zero e = Answer-settled (λ bits. not (function s a bits)) s (record { 0 = 1 }) (record { ref = (one_means s d).ref; value = λ bits l. (one_means s d).value bits l ∙ sym (ap not (zero_bit s a bits d e)) })
+
+except_bit : (x y z : Bool) → z ≡ false → (if y then z else x) ≡ (x && not y)
+except_bit true true z e = e
+except_bit false true z e = e
+except_bit true false z e = refl
+except_bit false false z e = refl
+
+-- a choice of 0 where b is 1 is the product with its negation
+abbrev chosen : Store → Ref → Ref → Function
+chosen s a b bits = if function s b bits then function s (record { 0 = 0 }) bits else function s a bits
+
+abbrev excepted : Store → Ref → Ref → Function
+excepted s a b bits = function s a bits && not (function s b bits)
+
+pub except_is : (s : Store) (a b : Ref) → IsGood s → chosen s a b ≡ excepted s a b
+except_is s a b d = λ i bits. except_bit (function s a bits) (function s b bits) (function s (record { 0 = 0 }) bits) (zero_bit s (record { 0 = 0 }) bits d refl) i

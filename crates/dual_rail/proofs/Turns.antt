@@ -1,5 +1,5 @@
 -- One turn of each loop over a gate's rows.
-use Rattle.std.proofs.Common.{◌≡◌, ℕ, zero, suc, ◌+◌, ◌<◌, not, List, [], ◌∷◌, ◌++◌, length, take, get_or, refl, sym, ◌∙◌, ap, subst, arith, Contains, map, Result, All, ⊎_elim}
+use Rattle.std.proofs.Common.{◌≡◌, ℕ, zero, suc, ◌+◌, ◌<◌, List, [], ◌∷◌, ◌++◌, length, take, get_or, refl, sym, ◌∙◌, ap, subst, arith, Contains, map, Result, All, ⊎_elim}
 use Rattle.std.specs.List.{AllZip}
 use Rattle.std.proofs.lemmas.List.Elements.{Contains-append_left, Contains-append_right, Contains-append_cases, All-head, All-tail}
 use Rattle.dd_nodes.specs.declared.node.Ref.{Ref}
@@ -13,8 +13,7 @@ use Rattle.net_core.specs.Work.{SymbolicSet, negation, cut_work, cut_set, whole,
 use Rattle.dual_rail.specs.declared.rails.Rails.{Rails}
 use Rattle.dual_rail.specs.Rail.{Built, HasFunction, AreRails, AreRefs}
 use Rattle.dual_rail.specs.private.Parts.{row_work, without, without_work, Reached}
-use Rattle.dd_ops.specs.Answer.{Answer}
-use Rattle.dual_rail.proofs.Works.{not_built, Within, Built-wider, last, Rails-keep, set_where, own_set}
+use Rattle.dual_rail.proofs.Works.{Within, Built-wider, last, Rails-keep, set_where, own_set}
 use Rattle.dd_nodes.proofs.Spending.{own}
 use Rattle.dual_rail.proofs.Chains.{chain-has, whole-next, length-factors, factors-at, row_products-at, length-row_products, rows_chains-has, some_bit-has}
 
@@ -108,11 +107,7 @@ sum_turn rows sets inputs s t u k row sum result ds dt du lt is_row zip p call =
         (λ (h : Contains (products (factors row sets)) x). Contains-append_right (map some_bit sets) (rows_chains rows sets ++ sums (row_products rows sets)) x (Contains-append_left (rows_chains rows sets) (sums (row_products rows sets)) x (row_in x h)))
         (Contains-append_cases (map some_bit sets) (products (factors row sets)) x has)
 
--- ---- the three calls of a cut
-pub cut_not : (w : SymbolicSet) (gd x : Function) (s t : Store) (value : Ref) (result : Result Ref OpFault) → Means s x value
-    → Answer (λ bits. not (function s value bits)) s t result → Built (cut_work w gd x) (HasFunction (negation x)) s t result
-cut_not w gd x s t value result mx a = not_built (cut_work w gd x) x s t value result (0, omega arith, refl) mx a
-
+-- ---- both rails of a cut
 pub cut_zero : (w : SymbolicSet) (gd x : Function) (t u : Store) (result : Result Ref OpFault) → Built (without_work w.zero gd x) (HasFunction (without w.zero gd x)) t u result → Built (cut_work w gd x) (HasFunction (cut_set w gd x).zero) t u result
 cut_zero w gd x t u result b = Built-wider (cut_work w gd x) (without_work w.zero gd x) (HasFunction (without w.zero gd x)) t u result
     (within_more (conjunction gd x) (negation (conjunction gd x) ∷ without w.zero gd x ∷ []) (cut_work w gd x) (1, omega arith, refl) (within_two (negation (conjunction gd x)) (without w.zero gd x) (cut_work w gd x) (3, omega arith, refl) (5, omega arith, refl))) b
@@ -121,8 +116,7 @@ pub cut_one : (w : SymbolicSet) (gd x : Function) (t u : Store) (result : Result
 cut_one w gd x t u result b = Built-wider (cut_work w gd x) (without_work w.one gd (negation x)) (HasFunction (without w.one gd (negation x))) t u result
     (within_more (conjunction gd (negation x)) (negation (conjunction gd (negation x)) ∷ without w.one gd (negation x) ∷ []) (cut_work w gd x) (2, omega arith, refl) (within_two (negation (conjunction gd (negation x))) (without w.one gd (negation x)) (cut_work w gd x) (4, omega arith, refl) (6, omega arith, refl))) b
 
-pub without_grows : (s t u : Store) (rail guard value : Ref) (result : Result Ref OpFault) → Keeps s t → IsRef s rail → IsRef s guard → IsRef s value
-    → ((f gd x : Function) → Means t f rail → Means t gd guard → Means t x value → Built (without_work f gd x) (HasFunction (without f gd x)) t u result) → Keeps t u
-without_grows s t u rail guard value result k hr hg hv call =
-    let keep : (r : Ref) → IsRef s r → IsRef t r = λ r h. IsFrom-grows s.held t.held 0 r k.grows h in
-    (call (function t rail) (function t guard) (function t value) (own t rail (keep rail hr)) (own t guard (keep guard hg)) (own t value (keep value hv))).spends.keeps
+pub without_grows : (s t : Store) (rail guard value : Ref) (result : Result Ref OpFault) → IsRef s rail → IsRef s guard → IsRef s value
+    → ((f gd x : Function) → Means s f rail → Means s gd guard → Means s x value → Built (without_work f gd x) (HasFunction (without f gd x)) s t result) → Keeps s t
+without_grows s t rail guard value result hr hg hv call =
+    (call (function s rail) (function s guard) (function s value) (own s rail hr) (own s guard hg) (own s value hv)).spends.keeps

@@ -80,6 +80,12 @@ pub not_built : (work : List Function) (f : Function) (s t : Store) (a : Ref) (r
 not_built work f s t a result has ma x =
     Built-answer work (λ bits. not (function s a bits)) (negation f) s t result has (λ bits l. ap not (ma.value bits l)) x
 
+pub except_built : (work : List Function) (f g : Function) (s t : Store) (a b : Ref) (result : Result Ref OpFault) → Contains work (conjunction f (negation g)) → Means s f a → Means s g b
+    → Answer (λ bits. function s a bits && not (function s b bits)) s t result → Built work (HasFunction (conjunction f (negation g))) s t result
+except_built work f g s t a b result has ma mb x =
+    Built-answer work (λ bits. function s a bits && not (function s b bits)) (conjunction f (negation g)) s t result has
+    (λ bits l. ap (λ x. x && not (function s b bits)) (ma.value bits l) ∙ ap (λ x. f bits && not x) (mb.value bits l)) x
+
 -- ---- results
 
 -- the same with more functions

@@ -1,4 +1,4 @@
-//! Products, sums and opposites of diagrams with a look at the constants first: `both`, `either` and `opposite`.
+//! Products, sums and opposites of diagrams with a look at the constants first: `both`, `either`, `opposite` and `except`.
 
 ghost use Rattle.std.specs.Prelude.{◌≡◌, ◌&&◌, ◌||◌, not};
 ghost use Rattle.dd_nodes.specs.Stores.{IsRef, function};
@@ -66,4 +66,15 @@ pub fn opposite<N: Nodes>(ops: &Ops, nodes: &mut N, a: Ref) -> Result<Ref, OpFau
         return Ok(Ref::TRUE);
     }
     ops.not(nodes, a)
+}
+
+/// The product of a function and the negation of another, in one call and without the negation.
+pub fn except<N: Nodes>(ops: &Ops, nodes: &mut N, a: Ref, b: Ref) -> Result<Ref, OpFault>
+    requires left { IsRef (N.store nodes.old) a }
+    requires right { IsRef (N.store nodes.old) b }
+    ensures { Answer
+        (λ bits. function (N.store nodes.old) a bits && not (function (N.store nodes.old) b bits))
+        (N.store nodes.old) (N.store nodes.new) result }
+{
+    ops.ite(nodes, b, Ref::FALSE, a)
 }

@@ -3,11 +3,11 @@
 ghost use Rattle.std.specs.Prelude.{◌≡◌, ◌∷◌, [], Bool, List, length, IfOk};
 ghost use Rattle.dd_nodes.specs.Diagram.{Function};
 ghost use Rattle.dd_nodes.specs.Stores.{IsRef, Means};
-ghost use Rattle.net_core.specs.Work.{SymbolicSet, cut_set, cut_work, empty_work, union, union_work, no_bit};
+ghost use Rattle.net_core.specs.Work.{SymbolicSet, cut_set, cut_work, empty_work, negation, union, union_work, no_bit};
 ghost use Rattle.dual_rail.specs.Rail.{AreRefs, AreRails, Built, HasFunction, HasSet};
 ghost use Rattle.dual_rail.specs.private.Parts.{without, without_work};
 
-use crate::first::{both, either};
+use crate::first::{both, either, except};
 use crate::rails::Rails;
 use dd_nodes::{Nodes, Ref};
 use dd_ops::{OpFault, Ops};
@@ -60,9 +60,8 @@ pub fn cut<N: Nodes>(
         → Built (cut_work w g x) (HasSet (cut_set w g x))
         (N.store nodes.old) (N.store nodes.new) result }
 {
-    let opposite = ops.not(nodes, value)?;
     let can0 = without(ops, nodes, r.can0, guard, value)?;
-    let can1 = without(ops, nodes, r.can1, guard, opposite)?;
+    let can1 = without_opposite(ops, nodes, r.can1, guard, value)?;
     Ok(Rails { can0, can1 })
 }
 
@@ -84,8 +83,28 @@ fn without<N: Nodes>(
         (N.store nodes.old) (N.store nodes.new) result }
 {
     let asked = both(ops, nodes, guard, value)?;
-    let kept = ops.not(nodes, asked)?;
-    both(ops, nodes, rail, kept)
+    except(ops, nodes, rail, asked)
+}
+
+/// `rail` where not `guard` is 1 and `value` is 0.
+fn without_opposite<N: Nodes>(
+    ops: &Ops,
+    nodes: &mut N,
+    rail: Ref,
+    guard: Ref,
+    value: Ref,
+) -> Result<Ref, OpFault>
+    requires rail { IsRef (N.store nodes.old) rail }
+    requires guard { IsRef (N.store nodes.old) guard }
+    requires value { IsRef (N.store nodes.old) value }
+    ensures { (f g x : Function)
+        → Means (N.store nodes.old) f rail
+        → Means (N.store nodes.old) g guard → Means (N.store nodes.old) x value
+        → Built (without_work f g (negation x)) (HasFunction (without f g (negation x)))
+        (N.store nodes.old) (N.store nodes.new) result }
+{
+    let asked = except(ops, nodes, guard, value)?;
+    except(ops, nodes, rail, asked)
 }
 
 /// The union of two sets. `StepsOut` comes only where all steps are spent and a node of its two sums is not held.

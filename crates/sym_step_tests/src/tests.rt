@@ -418,6 +418,24 @@ const TOGGLE: &str =
 const SHIFT: &str =
     ".model shift\n.inputs d e\n.outputs c\n.names d e n\n1- 1\n-1 1\n.latch n a\n.latch a b\n.latch b c\n.end\n";
 
+const AND_GATE: &str = ".model and2\n.inputs a b\n.outputs y\n.names a b y\n11 1\n.end\n";
+
+const LATCH: &str = ".model l\n.inputs d\n.outputs q\n.latch d q 1\n.end\n";
+
+const COVERS: &str =
+    ".model covers\n.outputs z o n c\n.names z\n.names o\n1\n.names c\n0\n.names a n\n1 0\n.end\n";
+
+const UNDEFINED: &str =
+    ".model top\n.inputs clk d\n.outputs q\n.names f\n.names t\n1\n.names u\n.latch d q re clk 2\n.end\n";
+
+const ANDED: &str = ".model top\n.inputs d e\n.outputs q\n.latch n q 0\n.names d e n\n11 1\n.end\n";
+
+const LEVELS: &str =
+    ".model top\n.inputs a\n.outputs y\n.subckt mid a=a b=a y=m\n.subckt mid a=m b=a y=y\n.end\n.model mid\n.inputs a b\n.outputs y\n.subckt nor2 p=a q=b r=n\n.names n y\n0 1\n.end\n.model nor2\n.inputs p q\n.outputs r\n.names p q r\n00 1\n.end\n";
+
+const ODD: &str =
+    ".model parity\n.inputs d\n.outputs q\n.names d q n\n10 1\n01 1\n.latch n q 0\n.end\n";
+
 /// A net by its text, and what is asked at time 0: for a net, guard and value.
 const CASES: &[(&str, &[(&str, Bit, Bit)])] = &[
     (INVERTER, &[("a", Bit::One, Bit::P)]),
@@ -516,6 +534,25 @@ const CASES: &[(&str, &[(&str, Bit, Bit)])] = &[
             ("a", Bit::P, Bit::Q),
         ],
     ),
+    (
+        AND_GATE,
+        &[("a", Bit::One, Bit::P), ("b", Bit::One, Bit::Q)],
+    ),
+    (AND_GATE, &[("a", Bit::P, Bit::Q), ("y", Bit::Q, Bit::One)]),
+    (LATCH, &[("d", Bit::One, Bit::P)]),
+    (LATCH, &[("q", Bit::P, Bit::Q), ("d", Bit::Q, Bit::P)]),
+    (COVERS, &[("a", Bit::One, Bit::P)]),
+    (COVERS, &[("z", Bit::P, Bit::One), ("o", Bit::Q, Bit::P)]),
+    (UNDEFINED, &[("d", Bit::One, Bit::P), ("u", Bit::Q, Bit::P)]),
+    (ANDED, &[("d", Bit::One, Bit::P), ("e", Bit::One, Bit::One)]),
+    (ANDED, &[("d", Bit::P, Bit::Q), ("e", Bit::Q, Bit::P)]),
+    (LEVELS, &[("a", Bit::One, Bit::P)]),
+    (
+        LEVELS,
+        &[("0/0/r", Bit::P, Bit::Q), ("m", Bit::One, Bit::P)],
+    ),
+    (ODD, &[("d", Bit::One, Bit::P), ("q", Bit::One, Bit::Q)]),
+    (ODD, &[("d", Bit::P, Bit::Q), ("n", Bit::Q, Bit::P)]),
 ];
 
 /// Whether both steps of a net of a text agree with the plain checker.
