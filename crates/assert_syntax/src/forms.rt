@@ -6,10 +6,10 @@ ghost use Rattle.assert_syntax.specs.Answer.{entry_of};
 
 use crate::clauses::clause_of;
 use crate::form::{Entry, Form, Side};
-use crate::words::{are_variables, copies, is};
+use crate::words::{are_variables, is};
 use blif_lines::Line;
 use std::alloc::{AllocError, Global};
-use ste_base::Name;
+use ste_base::{Name, copies};
 
 /// What the words behind `.vars` spell.
 fn vars_of(alloc: Global, words: &[Name]) -> Result<Form, AllocError>

@@ -15,10 +15,9 @@ use crate::forms::entry_of;
 use crate::known::Known;
 use crate::place::{Place, may_stand};
 use crate::tasks::RawTasks;
-use crate::words::copies;
 use blif_lines::Line;
 use std::alloc::Global;
-use ste_base::{Items, Name};
+use ste_base::{Items, Name, copies};
 
 /// What is read, with a line that starts an assertion.
 fn assertion_read(

@@ -9,7 +9,7 @@ ghost use Rattle.assert_syntax.specs.Words.{is_variable, ends_expression, is_num
 
 use crate::form::Moment;
 use std::alloc::{AllocError, Global};
-use ste_base::{Items, Name, is_digit, is_letter, read_number};
+use ste_base::{Name, is_digit, is_letter, read_number};
 
 /// The greatest time of a task.
 const MAX_TIME: u64 = 10_000;
@@ -91,13 +91,6 @@ pub fn moment_of(word: &[u8]) -> Moment
         Ok(time) => Moment::At(time as u32),
         Err(_) => Moment::Late,
     }
-}
-
-/// Copies of these words.
-pub fn copies(alloc: Global, words: &[Name]) -> Result<Items<Name>, AllocError>
-    ensures { IfOk result (λ names. names ≡ words.now) }
-{
-    Ok(words.to_vec(alloc)?.into())
 }
 
 /// Adds a blank and a word.

@@ -7,7 +7,8 @@ use Rattle.std.proofs.lemmas.List.Elements.{All-cons, All-nil}
 use Rattle.ste_base.specs.Number.{IsNumber, number_of}
 use Rattle.ste_base.specs.declared.number.NumberFault.{NumberFault}
 use Rattle.ste_base.specs.declared.number.NumberFault.TheVariants.{NotANumber, TooLarge}
-use Rattle.command_line.specs.Command.{is_digit, is_number, number_given}
+use Rattle.ste_base.specs.Bytes.{is_digit}
+use Rattle.command_line.specs.Command.{is_number, number_given}
 
 digits : (text : List ℕ) → list_all is_digit text ≡ true → All IsAsciiDigit text
 digits [] e = All-nil IsAsciiDigit

@@ -9,7 +9,8 @@ use Rattle.clap.specs.Words.{Row, all_of, fault_of, first_of, matches_of}
 use Rattle.command_line.specs.App.{command_app}
 use Rattle.clap.specs.Kinds.{Kinds}
 use Rattle.command_line.specs.Bounds.{CommandsAreBounded, IsActionBounded, IsBounded}
-use Rattle.command_line.specs.Command.{Action, Command, action_in, action_of, bench, check, command_in, info, is_digit, is_number, number_given, number_or, sim, steps_given, where_sound, with_one, with_two}
+use Rattle.ste_base.specs.Bytes.{is_digit}
+use Rattle.command_line.specs.Command.{Action, Command, action_in, action_of, bench, check, command_in, info, is_number, number_given, number_or, sim, steps_given, where_sound, with_one, with_two}
 
 -- ---- numbers
 

@@ -6,6 +6,7 @@ use Rattle.std.specs.Option.{option_map_or}
 use Rattle.std.specs.List.{list_all}
 use Rattle.std.specs.Str.{bytes_eq}
 use Rattle.std.specs.declared.alloc.Global.{Global}
+use Rattle.ste_base.specs.Bytes.{is_digit}
 use Rattle.ste_base.specs.Number.{number_of}
 use Rattle.clap.specs.Words.{Row, all_of, fault_of, first_of, matches_of}
 use Rattle.clap.specs.Kinds.{Kinds}
@@ -26,10 +27,6 @@ pub record Command : Type 0 where
   pub cubes : ℕ
   pub wave : Bool
   pub nodes : Bool
-
--- the byte is a decimal digit
-abbrev pub is_digit : ℕ → Bool
-is_digit byte = nat_le 48 byte && nat_le byte 57
 
 -- the text is decimal digits, without a sign, the first of which is not 0: a number from 1 on
 abbrev pub is_number : List ℕ → Bool

@@ -2,7 +2,8 @@
 
 ghost use Rattle.std.specs.Prelude.{◌≡◌, ◌≤◌, IfSome};
 ghost use Rattle.std.specs.List.{list_all};
-ghost use Rattle.command_line.specs.Command.{is_digit, is_number, number_given};
+ghost use Rattle.ste_base.specs.Bytes.{is_digit};
+ghost use Rattle.command_line.specs.Command.{is_number, number_given};
 
 use ste_base::read_number;
 

@@ -9,8 +9,8 @@ use Rattle.dd_ops.specs.declared.fault.OpFault.{OpFault}
 use Rattle.dd_ops.specs.declared.operands.Operands.{Operands}
 use Rattle.dd_ops.specs.declared.ops.Op.{Op}
 use Rattle.dd_ops.specs.Answer.{Answer, op_bit}
-use Rattle.dd_ops.specs.Expands.{Expanded}
-use Rattle.dd_ops.specs.Recursion.{BitRule, named, pair_of}
+use Rattle.dd_ops.specs.private.Expands.{Expanded}
+use Rattle.dd_ops.specs.private.Recursion.{BitRule, named, pair_of}
 use Rattle.dd_ops.proofs.Expanding.{Expanded-bound}
 
 -- the function of an operation of two

@@ -20,9 +20,9 @@ use Rattle.dd_nodes.proofs.Walks.{Cases, from_cases, from_constant, from_held, I
 use Rattle.dd_ops.specs.declared.fault.OpFault.{OpFault}
 use Rattle.dd_ops.specs.declared.operands.Operands.{Operands}
 use Rattle.dd_ops.specs.declared.memo.Memo.{Memo}
-use Rattle.dd_ops.specs.Expands.{IsBelow, Expanded, Expands}
-use Rattle.dd_ops.specs.Met.{IsMet, Adds, same_operands}
-use Rattle.dd_ops.specs.Recursion.{AreFrom, top, pair_of, IsPair}
+use Rattle.dd_ops.specs.private.Expands.{IsBelow, Expanded, Expands}
+use Rattle.dd_ops.specs.private.Met.{IsMet, Adds, same_operands}
+use Rattle.dd_ops.specs.private.Recursion.{AreFrom, top, pair_of, IsPair}
 use Rattle.dd_ops.proofs.Keeping.{same_operands-true, same_operands-refl}
 use Rattle.dd_ops.proofs.Splits.{from-level}
 use Rattle.dd_ops.proofs.Steps.{AreFrom-less, IsHalf, half-later}

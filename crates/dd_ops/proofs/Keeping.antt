@@ -15,7 +15,7 @@ use Rattle.dd_ops.specs.declared.operands.Operands.{Operands}
 use Rattle.dd_ops.specs.declared.few.Entry.{Entry}
 use Rattle.dd_ops.specs.declared.memo.Memo.{Memo}
 use Rattle.dd_ops.specs.declared.memo.Memo.TheVariants.{InPlace, InMap}
-use Rattle.dd_ops.specs.Met.{Map, same_operands, entry_of, Adds, IsMapOf}
+use Rattle.dd_ops.specs.private.Met.{Map, same_operands, entry_of, Adds, IsMapOf}
 
 one_by_one : (x y : Operands) → x.first ≡ y.first → x.second ≡ y.second → x.third ≡ y.third → x ≡ y
 one_by_one x y first second third = λ j. record { first = first j; second = second j; third = third j }

@@ -10,7 +10,7 @@ use Rattle.dd_nodes.specs.Stores.{Store, IsRef}
 use Rattle.dd_nodes.proofs.Stores.{IsGood}
 use Rattle.dd_nodes.proofs.Walks.{Cases, from_cases, same_numbers, child-above, child-constant, IsFrom-less}
 use Rattle.dd_ops.specs.declared.operands.Operands.{Operands}
-use Rattle.dd_ops.specs.Recursion.{AreRefs, AreHalves, IsOpen, IsPair, pair_of, seen, seen_by, level, top, child_of_node, children}
+use Rattle.dd_ops.specs.private.Recursion.{AreRefs, AreHalves, IsOpen, IsPair, pair_of, seen, seen_by, level, top, child_of_node, children}
 use Rattle.dd_ops.proofs.Splits.{level-from}
 use Rattle.dd_ops.proofs.Steps.{AreHalves-make}
 

@@ -2,7 +2,7 @@
 
 ghost use Rattle.std.specs.Prelude.{◌≡◌, Bool, IfSome, IfNone};
 ghost use Rattle.dd_ops.specs.declared.operands.Operands.{Operands};
-ghost use Rattle.dd_ops.specs.Recursion.{AreRefs, AreHalves, IsOpen, IsSettled, BitRule, and_rule, or_rule, xor_rule, choice_rule, IsPair};
+ghost use Rattle.dd_ops.specs.private.Recursion.{AreRefs, AreHalves, IsOpen, IsSettled, BitRule, and_rule, or_rule, xor_rule, choice_rule, IsPair};
 
 use crate::halves::{halves_of_pair, halves_of_three};
 use crate::operands::{Halves, Operands};

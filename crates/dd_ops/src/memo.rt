@@ -2,7 +2,7 @@
 
 ghost use Rattle.std.specs.Prelude.{◌≡◌, Contains, IfSome, IfNone, IfOk, OnOk, Some, cond};
 ghost use Rattle.std.specs.HashMap.{get};
-ghost use Rattle.dd_ops.specs.Met.{HasMet, IsBlank, Adds, IsMapOf, entry_of, same_operands};
+ghost use Rattle.dd_ops.specs.private.Met.{HasMet, IsBlank, Adds, IsMapOf, entry_of, same_operands};
 
 use crate::few::{Entry, Few};
 use crate::operands::Operands;

@@ -4,7 +4,7 @@ ghost use Rattle.std.specs.Prelude.{◌≡◌, ◌<◌, ◌≤◌, ◌+◌, ◌*
 ghost use Rattle.dd_nodes.specs.Functions.{size};
 ghost use Rattle.dd_nodes.specs.Stores.{IsRef, HaveOneFunction, function};
 ghost use Rattle.dd_ops.specs.Answer.{Answer, xor_bit, op_bit};
-ghost use Rattle.dd_ops.specs.Recursion.{AreRefs, named, choice_rule};
+ghost use Rattle.dd_ops.specs.private.Recursion.{AreRefs, named, choice_rule};
 
 use crate::combine::answer;
 use crate::connective::{And, Choice, Or, Xor};

@@ -1,3 +1,4 @@
+-- Definitions that serve private functions.
 pub mod EdgeFinds
 pub mod Due
 pub mod Given

@@ -1,4 +1,4 @@
--- The numbers of the nets of an instance's signals.
+-- Conditions of the contracts between crates. The numbers of the nets of an instance's signals.
 use Rattle.std.specs.Prelude.{◌≡◌, ◌<◌, ℕ, ◌+◌, ◌++◌, ◌∷◌, [], List, Option, None, Some, bytes_eq, find, length, map, option_map, slice_get, slice_index_or, take}
 use Rattle.std.specs.List.{position_or_len}
 use Rattle.blif_syntax.specs.declared.models.Model.{Model}

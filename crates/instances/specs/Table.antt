@@ -1,4 +1,4 @@
--- The instances of a hierarchy as a table, each by the row of the one above it.
+-- Conditions of the contracts between crates. The instances of a hierarchy as a table, each by the row of the one above it.
 use Rattle.std.specs.Prelude.{◌≡◌, ◌<◌, ℕ, zero, suc, ◌∷◌, [], List, Option, None, Some, flat_map, length, slice_get, slice_index_or, take}
 use Rattle.std.specs.List.{enumerate_from}
 use Rattle.hierarchy.specs.Reach.{end_of}

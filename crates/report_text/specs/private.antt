@@ -1,1 +1,2 @@
+-- Definitions that serve private functions.
 pub mod Marks

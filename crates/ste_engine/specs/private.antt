@@ -1,3 +1,4 @@
+-- Definitions that serve private functions.
 pub mod Asks
 pub mod Finds
 pub mod Places

@@ -1,3 +1,4 @@
+-- Definitions that serve private functions.
 pub mod Texts
 pub mod Made
 pub mod Prepared

@@ -8,7 +8,7 @@ use crate::resolve::Resolve;
 use assert_syntax::tasks::{RawBind, RawEdge, RawQuint, RawTask};
 use bool_expr::copy_expr;
 use std::alloc::{AllocError, Global};
-use ste_base::{Items, Name, NodeId};
+use ste_base::{Items, Name, NodeId, copies};
 use ste_model::{Assertion, Bind, Edge, Graph, Quint, Task};
 
 /// The net that a name names, or net 0.
@@ -103,13 +103,6 @@ fn bind_edges<N: Resolve>(
         bound.push(bind_edge(alloc, names, edge)?)?;
     }
     Ok(bound)
-}
-
-/// Copies of these words.
-pub fn copies(alloc: Global, words: &[Name]) -> Result<Items<Name>, AllocError>
-    ensures { IfOk result (λ names. names ≡ words.now) }
-{
-    Ok(words.to_vec(alloc)?.into())
 }
 
 /// A task over nets.

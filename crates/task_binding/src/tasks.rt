@@ -7,14 +7,14 @@ ghost use Rattle.task_binding.specs.Answer.{IsAnswer};
 ghost use Rattle.task_binding.specs.Bound.{net_by, task_bound};
 ghost use Rattle.task_binding.specs.Sizes.{most_cells};
 
-use crate::bind::{bind_task, copies};
+use crate::bind::bind_task;
 use crate::fault::BindFault;
 use crate::resolve::Resolve;
 use crate::sizes::first_large;
 use crate::unknown::first_unknown;
 use assert_syntax::{RawTask, RawTasks};
 use std::alloc::{AllocError, Global};
-use ste_base::Items;
+use ste_base::{Items, copies};
 use ste_model::{Task, Tasks};
 
 /// Tasks over nets, in order.

@@ -1,5 +1,5 @@
 use Rattle.dd_nodes.specs.Stores.{Store}
-use Rattle.dd_ops.specs.Recursion.{named}
+use Rattle.dd_ops.specs.private.Recursion.{named}
 use Rattle.dd_ops.proofs.Steps.{Answer-settled}
 use Rattle.dd_ops.proofs.combine.answer.Goals as goal
 

@@ -1,6 +1,6 @@
 use Rattle.std.proofs.Common.{arith, ap, ◌∙◌}
 use Rattle.dd_nodes.specs.Stores.{Store}
-use Rattle.dd_ops.specs.Recursion.{seen}
+use Rattle.dd_ops.specs.private.Recursion.{seen}
 use Rattle.dd_ops.proofs.Seen.{SeesPair, AreHalves-is, first-before, second-before, both-at}
 use Rattle.dd_ops.proofs.halves.halves_of_pair.Goals as goal
 

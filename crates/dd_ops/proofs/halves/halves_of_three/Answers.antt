@@ -3,7 +3,7 @@ use Rattle.dd_nodes.specs.declared.node.Node.{Node}
 use Rattle.dd_nodes.specs.declared.node.Ref.{Ref}
 use Rattle.dd_nodes.specs.Diagram.{child}
 use Rattle.dd_nodes.specs.Stores.{Store}
-use Rattle.dd_ops.specs.Recursion.{child_of_node, level, seen, top}
+use Rattle.dd_ops.specs.private.Recursion.{child_of_node, level, seen, top}
 use Rattle.dd_ops.proofs.Seen.{child_of-is}
 use Rattle.dd_ops.proofs.Steps.{AreHalves-make}
 use Rattle.dd_ops.proofs.halves.halves_of_three.Goals as goal

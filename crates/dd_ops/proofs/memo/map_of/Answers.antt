@@ -1,6 +1,6 @@
 use Rattle.std.proofs.Common.{◌≡◌, length, subst, take, arith, ap, ◌∙◌}
 use Rattle.std.proofs.Math.Seq.{take-length}
-use Rattle.dd_ops.specs.Met.{IsMapOf}
+use Rattle.dd_ops.specs.private.Met.{IsMapOf}
 use Rattle.dd_ops.proofs.Keeping.{mapof-more, mapof-nothing}
 use Rattle.dd_ops.proofs.memo.map_of.Goals as goal
 

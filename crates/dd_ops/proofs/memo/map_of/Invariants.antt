@@ -1,5 +1,5 @@
 use Rattle.std.proofs.Common.{take}
-use Rattle.dd_ops.specs.Met.{IsMapOf}
+use Rattle.dd_ops.specs.private.Met.{IsMapOf}
 use Rattle.dd_ops.proofs.memo.map_of.Given as goal
 
 abbrev pub invariant-loop-entry : goal.invariant-loop-entry

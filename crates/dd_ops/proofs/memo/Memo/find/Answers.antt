@@ -2,7 +2,7 @@ use Rattle.std.proofs.Common.{sym, subst, Contains, IfNone, List}
 use Rattle.dd_nodes.specs.declared.node.Ref.{Ref}
 use Rattle.dd_ops.specs.declared.few.Entry.{Entry}
 use Rattle.dd_ops.specs.declared.memo.Memo.{Memo}
-use Rattle.dd_ops.specs.Met.{HasMet, entry_of}
+use Rattle.dd_ops.specs.private.Met.{HasMet, entry_of}
 use Rattle.dd_ops.proofs.memo.Memo.find.Goals as goal
 
 pub returns-in-InPlace-clause-none : goal.returns-in-InPlace-clause-none

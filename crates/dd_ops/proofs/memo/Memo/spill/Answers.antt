@@ -2,7 +2,7 @@ use Rattle.std.proofs.Common.{sym, subst, List}
 use Rattle.dd_ops.specs.declared.few.Entry.{Entry}
 use Rattle.dd_ops.specs.declared.memo.Memo.{Memo}
 use Rattle.dd_ops.specs.declared.memo.Memo.TheVariants.{InMap}
-use Rattle.dd_ops.specs.Met.{Adds, IsMapOf}
+use Rattle.dd_ops.specs.private.Met.{Adds, IsMapOf}
 use Rattle.dd_ops.proofs.Keeping.{adds-moved, if_put}
 use Rattle.dd_ops.proofs.memo.Memo.spill.Goals as goal
 

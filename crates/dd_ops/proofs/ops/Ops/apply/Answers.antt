@@ -2,7 +2,7 @@ use Rattle.std.proofs.Common.{ap}
 use Rattle.dd_nodes.specs.Stores.{Store}
 use Rattle.dd_ops.specs.declared.ops.Op.{Op}
 use Rattle.dd_ops.specs.Answer.{op_bit}
-use Rattle.dd_ops.specs.Recursion.{and_rule, or_rule, xor_rule}
+use Rattle.dd_ops.specs.private.Recursion.{and_rule, or_rule, xor_rule}
 use Rattle.dd_ops.proofs.Applies.{applies, applies-bound}
 use Rattle.dd_ops.proofs.ops.Ops.apply.Goals as goal
 

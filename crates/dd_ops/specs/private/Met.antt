@@ -10,7 +10,7 @@ use Rattle.dd_ops.specs.declared.operands.Operands.{Operands}
 use Rattle.dd_ops.specs.declared.few.Entry.{Entry}
 use Rattle.dd_ops.specs.declared.memo.Memo.{Memo}
 use Rattle.dd_ops.specs.declared.memo.Memo.TheVariants.{InPlace, InMap}
-use Rattle.dd_ops.specs.Recursion.{BitRule, named, AreRefs}
+use Rattle.dd_ops.specs.private.Recursion.{BitRule, named, AreRefs}
 
 -- a map of results
 abbrev pub Map : Type 0

@@ -7,8 +7,8 @@ use Rattle.dd_nodes.specs.Stores.{Store}
 use Rattle.dd_ops.specs.declared.fault.OpFault.{OpFault}
 use Rattle.dd_ops.specs.declared.operands.Operands.{Operands}
 use Rattle.dd_ops.specs.declared.memo.Memo.{Memo}
-use Rattle.dd_ops.specs.Met.{IsMet}
-use Rattle.dd_ops.specs.Recursion.{AreFrom, top}
+use Rattle.dd_ops.specs.private.Met.{IsMet}
+use Rattle.dd_ops.specs.private.Recursion.{AreFrom, top}
 
 -- each operand of y is on the walks from that of x, and reads no variable before the first of x
 pub record IsBelow (s : Store) (x y : Operands) : Type 0 where

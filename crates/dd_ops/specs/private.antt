@@ -1,0 +1,4 @@
+-- Definitions that serve private functions.
+pub mod Recursion
+pub mod Met
+pub mod Expands
