@@ -42,7 +42,8 @@ pub fn reports_of<R: Threads + Sync, G: Gate + Sync>(
 ) -> Result<Reports, AllocError>
     requires bounded { IsBounded asked.now }
     requires rows { rows.now.covers ≡ map rows_of net.now.raw.covers }
-    requires checkable { All (IsCheckable net.now.raw.nets (length tasks.now.vars)) tasks.now.tasks }
+    requires checkable { All (IsCheckable net.now.raw.nets (length tasks.now.vars))
+        tasks.now.tasks }
     requires some { 1 ≤ length tasks.now.tasks }
     requires vars { length tasks.now.vars ≤ 1000 }
     requires steps { (1 ≤ steps) × (length tasks.now.tasks * steps ≤ 16000000) }

@@ -149,8 +149,7 @@ pub fn run<R: Threads + Sync, F: Files, O: Sink, E: Sink, G: Gate + Sync>(
         (F.state files.old) (F.state files.new) (O.state out.old) (O.state out.new)
         (E.state err.old) (E.state err.new) }
 
-    // Where a report says pass, or contradictory antecedent, the task holds: for every assignment, each two-valued run that
-    // meets the antecedent meets the consequent, of a graph along every finite path.
+    // Where a report says pass, or contradictory antecedent, each two-valued run that meets the antecedent meets the consequent.
     ensures pass_holds { PassHolds (command_of words.now) (F.state files.old) }
 
     // Each run that a report tells is a two-valued run, meets the antecedent of its task and breaks the consequent, under
