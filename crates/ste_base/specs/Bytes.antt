@@ -4,20 +4,28 @@ use Rattle.std.specs.Prelude.{ℕ, Bool, ◌&&◌, ◌||◌, nat_eq, nat_le}
 -- single bytes: a space, the end of a physical line, and then \ # . = - 0 1
 abbrev pub space : ℕ
 space = 32
+
 abbrev pub line_feed : ℕ
 line_feed = 10
+
 abbrev pub backslash : ℕ
 backslash = 92
+
 abbrev pub hash_sign : ℕ
 hash_sign = 35
+
 abbrev pub dot : ℕ
 dot = 46
+
 abbrev pub equals_sign : ℕ
 equals_sign = 61
+
 abbrev pub dash : ℕ
 dash = 45
+
 abbrev pub digit_zero : ℕ
 digit_zero = 48
+
 abbrev pub digit_one : ℕ
 digit_one = 49
 

@@ -44,7 +44,15 @@ fn expect(
     files.add("s", second.as_bytes())?;
     let mut output = MemorySink::new(alloc, 200, 200, Vec::new(alloc))?;
     let mut errors = MemorySink::new(alloc, 200, 200, Vec::new(alloc))?;
-    let found = run(rt, alloc, &words, &mut files, &mut output, &mut errors, &NoGate);
+    let found = run(
+        rt,
+        alloc,
+        &words,
+        &mut files,
+        &mut output,
+        &mut errors,
+        &NoGate,
+    );
     assert_eq!(rt; output.bytes(), out.as_bytes(), "{second}");
     assert_eq!(rt; errors.bytes(), err.as_bytes(), "{second}");
     assert_eq!(rt; found, status, "{second}");
@@ -327,7 +335,15 @@ fn a_large_file(rt: HostRuntime) -> Result<(), Fail> {
     files.add("n", &padded(alloc, INVERTER, 20)?)?;
     let mut output = MemorySink::new(alloc, 200, 200, Vec::new(alloc))?;
     let mut errors = MemorySink::new(alloc, 200, 200, Vec::new(alloc))?;
-    let found = run(&rt, alloc, &words, &mut files, &mut output, &mut errors, &NoGate);
+    let found = run(
+        &rt,
+        alloc,
+        &words,
+        &mut files,
+        &mut output,
+        &mut errors,
+        &NoGate,
+    );
     assert_eq!(&rt; found, Status::Passed);
     let counts = "model inv\nnets 2\ninputs 1\nfree 0\ngates 1\nlatches 0\n";
     assert_eq!(&rt; output.bytes(), counts.as_bytes());
@@ -353,7 +369,15 @@ fn a_long_simulation(rt: HostRuntime) -> Result<(), Fail> {
     files.add("s", inputs.as_bytes())?;
     let mut output = MemorySink::new(alloc, 20000, 500, Vec::new(alloc))?;
     let mut errors = MemorySink::new(alloc, 200, 200, Vec::new(alloc))?;
-    let found = run(&rt, alloc, &words, &mut files, &mut output, &mut errors, &NoGate);
+    let found = run(
+        &rt,
+        alloc,
+        &words,
+        &mut files,
+        &mut output,
+        &mut errors,
+        &NoGate,
+    );
     assert_eq!(&rt; errors.bytes().len(), 0);
     assert_eq!(&rt; found, Status::Passed);
     assert_eq!(&rt; output.bytes(), out.as_bytes());
@@ -380,7 +404,15 @@ fn expect_fault(
     files.add("s", second.as_bytes())?;
     let mut output = MemorySink::new(alloc, 200, 200, failing.1.to_vec(alloc)?)?;
     let mut errors = MemorySink::new(alloc, 200, 200, failing.2.to_vec(alloc)?)?;
-    let found = run(rt, alloc, &words, &mut files, &mut output, &mut errors, &NoGate);
+    let found = run(
+        rt,
+        alloc,
+        &words,
+        &mut files,
+        &mut output,
+        &mut errors,
+        &NoGate,
+    );
     assert_eq!(rt; found, Status::Faulted, "{err}");
     assert_eq!(rt; output.bytes().len(), 0, "{err}");
     assert_eq!(rt; errors.bytes(), err.as_bytes(), "{err}");

@@ -60,7 +60,15 @@ pub fn expect(
     let mut files = files(alloc, net, task, &[])?;
     let mut output = MemorySink::new(alloc, 200, 3, Vec::new(alloc))?;
     let mut errors = MemorySink::new(alloc, 200, 200, Vec::new(alloc))?;
-    let found = run(rt, alloc, &words, &mut files, &mut output, &mut errors, &NoGate);
+    let found = run(
+        rt,
+        alloc,
+        &words,
+        &mut files,
+        &mut output,
+        &mut errors,
+        &NoGate,
+    );
     assert_eq!(rt; output.bytes(), out.as_bytes(), "{task}");
     assert_eq!(rt; errors.bytes(), err.as_bytes(), "{task}");
     assert_eq!(rt; found, status, "{task}");
@@ -259,13 +267,26 @@ fn netlists_of_every_form(rt: HostRuntime) -> Result<(), Fail> {
 }
 
 /// The set of net `y` as the verdict on `y = 1` tells it: 1, 0 or X.
-fn set_of_output(rt: &(impl Abort + Threads + Sync), alloc: Global, net: &str, given: &str) -> Result<u8, AllocError> {
+fn set_of_output(
+    rt: &(impl Abort + Threads + Sync),
+    alloc: Global,
+    net: &str,
+    given: &str,
+) -> Result<u8, AllocError> {
     let task = format!(in alloc; ".ste t\n{given}.con y = 1 from 0 to 1\n.end\n")?;
     let words = check_words(alloc)?;
     let mut files = files(alloc, net, task.as_str(), &[])?;
     let mut output = MemorySink::new(alloc, 200, 100, Vec::new(alloc))?;
     let mut errors = MemorySink::new(alloc, 100, 100, Vec::new(alloc))?;
-    let _ = run(rt, alloc, &words, &mut files, &mut output, &mut errors, &NoGate);
+    let _ = run(
+        rt,
+        alloc,
+        &words,
+        &mut files,
+        &mut output,
+        &mut errors,
+        &NoGate,
+    );
     if output.bytes() == "t: pass\n".as_bytes() {
         Ok(b'1')
     } else if output.bytes().starts_with("t: strong failure\n".as_bytes()) {
@@ -417,7 +438,15 @@ fn what_fails(rt: HostRuntime) -> Result<(), Fail> {
         let mut files = files(alloc, INVERTER, INVERTS, fetches)?;
         let mut output = MemorySink::new(alloc, room, 4, writes.to_vec(alloc)?)?;
         let mut errors = MemorySink::new(alloc, 100, 100, tells.to_vec(alloc)?)?;
-        let found = run(&rt, alloc, &words, &mut files, &mut output, &mut errors, &NoGate);
+        let found = run(
+            &rt,
+            alloc,
+            &words,
+            &mut files,
+            &mut output,
+            &mut errors,
+            &NoGate,
+        );
         assert_eq!(&rt; found, status, "{err}");
         assert_eq!(&rt; output.bytes(), out.as_bytes(), "{err}");
         assert_eq!(&rt; errors.bytes(), err.as_bytes(), "{err}");
@@ -450,7 +479,15 @@ fn files_that_are_too_large(rt: HostRuntime) -> Result<(), Fail> {
         files.add(name, &large)?;
         let mut output = MemorySink::new(alloc, 100, 100, Vec::new(alloc))?;
         let mut errors = MemorySink::new(alloc, 100, 100, Vec::new(alloc))?;
-        let found = run(&rt, alloc, &words, &mut files, &mut output, &mut errors, &NoGate);
+        let found = run(
+            &rt,
+            alloc,
+            &words,
+            &mut files,
+            &mut output,
+            &mut errors,
+            &NoGate,
+        );
         assert_eq!(&rt; found, Status::Refused);
         assert_eq!(&rt; output.bytes().len(), 0);
         assert_eq!(&rt; errors.bytes(), err.as_bytes());
@@ -471,7 +508,15 @@ fn an_output_that_fails_within_a_line(rt: HostRuntime) -> Result<(), Fail> {
     let mut files = files(alloc, INVERTER, &tasks, &[])?;
     let mut output = MemorySink::new(alloc, 1000, 4, [3].to_vec(alloc)?)?;
     let mut errors = MemorySink::new(alloc, 100, 100, Vec::new(alloc))?;
-    let found = run(&rt, alloc, &words, &mut files, &mut output, &mut errors, &NoGate);
+    let found = run(
+        &rt,
+        alloc,
+        &words,
+        &mut files,
+        &mut output,
+        &mut errors,
+        &NoGate,
+    );
     assert_eq!(&rt; found, Status::Faulted);
     assert_eq!(&rt; output.bytes(), b"t1: pass" as &[u8]);
     assert_eq!(&rt;

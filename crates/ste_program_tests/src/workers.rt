@@ -38,7 +38,15 @@ fn report<G: Gate + Sync>(
     files.add("t", tasks.as_bytes())?;
     let mut output = MemorySink::new(alloc, 60000, 1000, Vec::new(alloc))?;
     let mut errors = MemorySink::new(alloc, 200, 200, Vec::new(alloc))?;
-    let found = run(rt, alloc, &words, &mut files, &mut output, &mut errors, gate);
+    let found = run(
+        rt,
+        alloc,
+        &words,
+        &mut files,
+        &mut output,
+        &mut errors,
+        gate,
+    );
     assert_eq!(rt; errors.bytes().len(), 0, "{options}");
     assert_eq!(rt; found, status, "{options}");
     output.bytes().to_vec(alloc)
@@ -87,7 +95,15 @@ fn two_workers_meet(rt: HostRuntime) -> Result<(), Fail> {
     let mut tasks = String::from_str(alloc, INVERTS)?;
     tasks.push_str(".ste t2\n.ant a = p from 0 to 1\n.con y = !p from 0 to 1\n.end\n")?;
     let words = "--workers 2 --steps 1000";
-    let text = report(&rt, alloc, words, INVERTER, &tasks, Status::Passed, &meeting)?;
+    let text = report(
+        &rt,
+        alloc,
+        words,
+        INVERTER,
+        &tasks,
+        Status::Passed,
+        &meeting,
+    )?;
     assert_eq!(&rt; text.as_slice(), b"t1: pass\nt2: pass\n" as &[u8]);
     assert_eq!(&rt; meeting.met.load(Ordering::SeqCst), 2);
     Ok(())
@@ -101,11 +117,13 @@ fn many_tasks(alloc: Global, count: u32) -> Result<String, AllocError> {
         let to = 1 + (i * 7) % 40;
         let value = if i % 3 == 0 { "p | q" } else { "p & q" };
         let task = format!(in alloc;
-            ".ste t{i}\n.ant d = p from 0 to {to}\n.ant e = q from 0 to {to}\n.con a = {value} from 1 to {to}\n.end\n")?;
+            ".ste t{i}\n.ant d = p from 0 to {to}\n.ant e = q from 0 to {to}\n.con a = {value} from 1 to {to}\n.end\n"
+        )?;
         text.push_str(&task)?;
         if i % 5 == 0 {
             let graph = format!(in alloc;
-                ".gste g{i} s\n.edge s s\n.ant d = r\n.ant e = 1\n.con n = r\n.edge s v\n.ant d = q\n.con b = r & p\n.end\n")?;
+                ".gste g{i} s\n.edge s s\n.ant d = r\n.ant e = 1\n.con n = r\n.edge s v\n.ant d = q\n.con b = r & p\n.end\n"
+            )?;
             text.push_str(&graph)?;
         }
     }
@@ -152,7 +170,9 @@ fn shared_nodes(rt: HostRuntime) -> Result<(), Fail> {
     let mut once = String::from_str(alloc, ".vars p q\n")?;
     once.push_str(task)?;
     let mut twice = String::from_str(alloc, &once)?;
-    twice.push_str(".ste t2\n.ant a = p from 0 to 1\n.ant b = q from 0 to 1\n.con y = p & q from 0 to 1\n.end\n")?;
+    twice.push_str(
+        ".ste t2\n.ant a = p from 0 to 1\n.ant b = q from 0 to 1\n.con y = p & q from 0 to 1\n.end\n",
+    )?;
     let words = "--nodes --steps 1000";
     let one = report(&rt, alloc, words, AND, &once, Status::Passed, &NoGate)?;
     let words = "--workers 2 --nodes --steps 1000";
