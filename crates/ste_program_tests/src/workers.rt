@@ -109,7 +109,7 @@ fn two_workers_meet(rt: HostRuntime) -> Result<(), Fail> {
     Ok(())
 }
 
-/// So many tasks over the chain of three latches, of different lengths, of which each third fails, and each fifth has a graph
+/// So many assertions over the chain of three latches, of different lengths, of which most fail; each fifth has a graph
 /// behind it.
 fn many_tasks(alloc: Global, count: u32) -> Result<String, AllocError> {
     let mut text = String::from_str(alloc, ".vars p q r\n")?;
@@ -133,7 +133,7 @@ fn many_tasks(alloc: Global, count: u32) -> Result<String, AllocError> {
 #[test]
 fn any_number_of_workers(rt: HostRuntime) -> Result<(), Fail> {
     let alloc = rt.alloc();
-    let tasks = many_tasks(alloc, 256)?;
+    let tasks = many_tasks(alloc, 213)?;
     let one = "--workers 1 --steps 1000";
     let first = report(&rt, alloc, one, SHIFT, &tasks, Status::NotPassed, &NoGate)?;
     assert!(&rt; first.len() > 10000);
