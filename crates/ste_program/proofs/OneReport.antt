@@ -1,7 +1,7 @@
 -- A report is one: what two texts say determines what is written on them.
-use Rattle.std.proofs.Common.{◌≡◌, ℕ, zero, suc, ◌+◌, Bool, List, [], ◌∷◌, ◌++◌, length, map, Option, Some, Ok, refl, ap, sym, ◌∙◌, subst}
-use Rattle.std.specs.Prelude.{if◌then◌else◌, codes}
-use Rattle.std.specs.List.{AllZip}
+use Rattle.std.proofs.Common.{◌≡◌, ℕ, zero, suc, ◌+◌, Bool, List, [], ◌∷◌, ◌++◌, length, map, Option, None, Some, Ok, refl, ap, sym, ◌∙◌, subst, append_assoc}
+use Rattle.std.specs.Prelude.{if◌then◌else◌, codes, zip}
+use Rattle.std.specs.List.{AllZip, flat_map}
 use Rattle.blif_lines.specs.Lines.{lines_of}
 use Rattle.blif_syntax.specs.declared.models.Model.{Model}
 use Rattle.clock_step.specs.Answer.{IsAnswer}
@@ -13,44 +13,63 @@ use Rattle.net_core.specs.Source.{source_of}
 use Rattle.net_core.specs.declared.raw.Gate.{Gate}
 use Rattle.net_core.specs.declared.raw.RawNet.{RawNet}
 use Rattle.flat_net.specs.Flat.{IsFlat}
-use Rattle.ste_model.specs.declared.report.Report.{Report}
-use Rattle.ste_model.specs.declared.verdict.Verdict.{Verdict}
 use Rattle.net_gen.specs.Pipeline.{pipeline_net, pipeline_tasks}
 use Rattle.ste_program.specs.Bench.{IsBench}
 use Rattle.ste_program.specs.Check.{IsCheck}
 use Rattle.ste_program.specs.Command.{net_file, second_file}
 use Rattle.ste_program.specs.Info.{IsInfo, count_line, free_below, info_text, is_free}
 use Rattle.ste_io.specs.Outside.{FilesState}
-use Rattle.work_pool.specs.Told.{Agree}
-use Rattle.ste_program.specs.Report.{AskAlike, IsReport, IsWritten, OneReport, reports_in, shared_in, text_at}
+use Rattle.report_text.specs.Text.{nodes_line}
+use Rattle.ste_program.specs.Report.{AgreeOn, AreOne, AskAlike, IsReport, IsWritten, OneReport, Told, end_in, shared_in, text_at, told_in, told_in_check}
 use Rattle.ste_program.specs.Simulated.{IsSimulated, sim_text}
 use Rattle.ste_program.proofs.Fetched.{read_told}
 use Rattle.ste_program.proofs.NetlistText.{one_netlist}
 use Rattle.ste_program.proofs.SameInputs.{outputs_same}
 use Rattle.ste_program.proofs.SameNets.{AreAlike, AreSame, flats_same, sources_same}
-use Rattle.ste_program.proofs.SameReports.{reports_agree}
+use Rattle.ste_program.proofs.SameReports.{lines_same, lines_told, reports_agree}
 use Rattle.ste_program.proofs.TextStages.{one_reading}
 
--- the verdict of a report
-abbrev verdict_in : Report → Verdict
-verdict_in report = report.verdict
-
 -- what two reports on the same texts have in common
-abbrev AreOne : (action : Action) (asked twin : Command) (net_text second_text : List ℕ) (passes others : Bool) (bytes others_bytes : List ℕ) → IsWritten action asked net_text second_text passes bytes → IsWritten action twin net_text second_text others others_bytes → Type 0
-AreOne action asked twin net_text second_text passes others bytes others_bytes one two =
-    AllZip Agree (reports_in action asked net_text second_text passes bytes one) (reports_in action twin net_text second_text others others_bytes two)
-    × (map verdict_in (reports_in action asked net_text second_text passes bytes one) ≡ map verdict_in (reports_in action twin net_text second_text others others_bytes two) →
-    (passes ≡ others) × (shared_in action asked net_text second_text passes bytes one ≡ shared_in action twin net_text second_text others others_bytes two → bytes ≡ others_bytes))
+abbrev AreSoOn : (action : Action) (asked twin : Command) (net_text second_text : List ℕ) (passes others : Bool) (bytes others_bytes : List ℕ) → IsWritten action asked net_text second_text passes bytes → IsWritten action twin net_text second_text others others_bytes → Type 0
+AreSoOn action asked twin net_text second_text passes others bytes others_bytes one two = AreOne
+    (told_in action asked net_text second_text passes bytes one) (told_in action twin net_text second_text others others_bytes two) passes others
+    (shared_in action asked net_text second_text passes bytes one) (shared_in action twin net_text second_text others others_bytes two)
+    (end_in action asked net_text second_text passes bytes one) (end_in action twin net_text second_text others others_bytes two) bytes others_bytes
 
-checks_same : (steps more : Option ℕ) (cubes : ℕ) (wave nodes : Bool) (net_text task_text : List ℕ) (passes others : Bool) (bytes others_bytes : List ℕ) (one : IsCheck steps cubes wave nodes net_text task_text passes bytes) (two : IsCheck more cubes wave nodes net_text task_text others others_bytes) →
-    AllZip Agree one.report.reports two.report.reports
-    × (map verdict_in one.report.reports ≡ map verdict_in two.report.reports → (passes ≡ others) × (one.report.shared ≡ two.report.shared → bytes ≡ others_bytes))
-checks_same steps more cubes wave nodes net_text task_text passes others bytes others_bytes one two =
+-- the lines of a check are those of its tasks, and the number of shared nodes behind them
+check_lines : (steps : Option ℕ) (cubes : ℕ) (wave nodes : Bool) (net_text task_text : List ℕ) (passes : Bool) (bytes : List ℕ) (one : IsCheck steps cubes wave nodes net_text task_text passes bytes) →
+    bytes ≡ flat_map (λ (t : Told). t.lines) (told_in_check steps cubes wave nodes net_text task_text passes bytes one) ++ nodes_line one.report.shared
+check_lines steps cubes wave nodes net_text task_text passes bytes one =
+    one.report.written ∙ ap (λ (x : List ℕ). x ++ nodes_line one.report.shared) (lines_told (map own_name (nets one.models)) one.tasks.vars wave (zip one.tasks.tasks one.report.reports))
+
+-- what two checks of the same texts tell of tasks
+checks_agree : (steps more : Option ℕ) (cubes : ℕ) (wave nodes : Bool) (net_text task_text : List ℕ) (passes others : Bool) (bytes others_bytes : List ℕ) (one : IsCheck steps cubes wave nodes net_text task_text passes bytes) (two : IsCheck more cubes wave nodes net_text task_text others others_bytes) →
+    AllZip AgreeOn (told_in_check steps cubes wave nodes net_text task_text passes bytes one) (told_in_check more cubes wave nodes net_text task_text others others_bytes two)
+    × (map (λ (t : Told). t.report.verdict) (told_in_check steps cubes wave nodes net_text task_text passes bytes one) ≡ map (λ (t : Told). t.report.verdict) (told_in_check more cubes wave nodes net_text task_text others others_bytes two) → passes ≡ others)
+checks_agree steps more cubes wave nodes net_text task_text passes others bytes others_bytes one two =
     let readings = one_reading net_text task_text one.models two.models one.net two.net one.tasks two.tasks one.reading two.reading in
     let n = two.reading.flattened in
     reports_agree two.models one.net two.net _ _ _ _ cubes wave nodes one.tasks two.tasks passes others bytes others_bytes
     (subst (λ (ms : List Model). IsFlat ms one.net) readings.0 one.reading.flattened.flat) n.flat n.in_range n.settled
     (ap (λ (ms : List Model). map own_name (nets ms)) readings.0) readings.1 readings.2 one.report two.report
+
+checks_same : (steps more : Option ℕ) (cubes : ℕ) (wave nodes : Bool) (net_text task_text : List ℕ) (passes others : Bool) (bytes others_bytes : List ℕ) (one : IsCheck steps cubes wave nodes net_text task_text passes bytes) (two : IsCheck more cubes wave nodes net_text task_text others others_bytes) →
+    AreOne (told_in_check steps cubes wave nodes net_text task_text passes bytes one) (told_in_check more cubes wave nodes net_text task_text others others_bytes two) passes others
+    one.report.shared two.report.shared (nodes_line one.report.shared) (nodes_line two.report.shared) bytes others_bytes
+checks_same steps more cubes wave nodes net_text task_text passes others bytes others_bytes one two =
+    let both = checks_agree steps more cubes wave nodes net_text task_text passes others bytes others_bytes one two in
+    let first = check_lines steps cubes wave nodes net_text task_text passes bytes one in
+    let second = check_lines more cubes wave nodes net_text task_text others others_bytes two in
+    record {
+      agree = both.0;
+      passing = both.1;
+      ends = λ shared. ap nodes_line shared;
+      lines = first;
+      other_lines = second;
+      same = λ v shared. first
+          ∙ (ap (λ (x : List ℕ). x ++ nodes_line one.report.shared) (lines_same _ _ both.0 v)
+          ∙ (ap (λ (k : Option ℕ). flat_map (λ (t : Told). t.lines) (told_in_check more cubes wave nodes net_text task_text others others_bytes two) ++ nodes_line k) shared ∙ sym second));
+    }
 
 -- the same nets are free
 free_same : (net other : RawNet) (n : ℕ) → AreSame net other → free_below net n ≡ free_below other n
@@ -97,24 +116,43 @@ simulations_same net_text input_text bytes others_bytes one two =
     (subst (λ (ms : List Model). IsAnswer (net_named ms) one.net (lines_of input_text) (Ok one.inputs)) same one.given) two.given one.run two.run in
     one.written ∙ (ap (λ (ms : List Model). sim_text (outputs_of (top ms)) one.rows) same ∙ (ap (sim_text (outputs_of (top two.models))) rows ∙ sym two.written))
 
+-- what tells nothing of tasks is one where its bytes are
+untold_same : (passes others : Bool) (bytes others_bytes : List ℕ) → passes ≡ others → bytes ≡ others_bytes → AreOne [] [] passes others None None bytes others_bytes bytes others_bytes
+untold_same passes others bytes others_bytes p b = record {
+  agree = tt;
+  passing = λ v. p;
+  ends = λ shared. b;
+  lines = refl;
+  other_lines = refl;
+  same = λ v shared. b;
+}
+
 benches_same : (steps more : Option ℕ) (cubes : ℕ) (wave nodes : Bool) (stages : ℕ) (passes others : Bool) (bytes others_bytes : List ℕ) (one : IsBench steps cubes wave nodes stages passes bytes) (two : IsBench more cubes wave nodes stages others others_bytes) →
-    AllZip Agree one.check.report.reports two.check.report.reports
-    × (map verdict_in one.check.report.reports ≡ map verdict_in two.check.report.reports → (passes ≡ others) × (one.check.report.shared ≡ two.check.report.shared → bytes ≡ others_bytes))
+    AreOne (told_in_check steps cubes wave nodes (pipeline_net stages) (pipeline_tasks stages) passes one.report one.check) (told_in_check more cubes wave nodes (pipeline_net stages) (pipeline_tasks stages) others two.report two.check) passes others
+    one.check.report.shared two.check.report.shared
+    (nodes_line one.check.report.shared ++ count_line (codes "nets") one.check.net.nets) (nodes_line two.check.report.shared ++ count_line (codes "nets") two.check.net.nets) bytes others_bytes
 benches_same steps more cubes wave nodes stages passes others bytes others_bytes one two =
     let net_text = pipeline_net stages in
     let task_text = pipeline_tasks stages in
     let both = checks_same steps more cubes wave nodes net_text task_text passes others one.report two.report one.check two.check in
     let readings = one_reading net_text task_text one.check.models two.check.models one.check.net two.check.net one.check.tasks two.check.tasks one.check.reading two.check.reading in
     let same_nets : one.check.net.nets ≡ two.check.net.nets =
-    (flats_same two.check.models one.check.net two.check.net (subst (λ (ms : List Model). IsFlat ms one.check.net) readings.0 one.check.reading.flattened.flat) two.check.reading.flattened.flat).nets in (
-      both.0,
-      (λ v. let same = both.1 v in (
-        same.0,
-        (λ shared. one.written
-            ∙ (ap (λ (text : List ℕ). text ++ count_line (codes "nets") one.check.net.nets) (same.1 shared)
-            ∙ (ap (λ (n : ℕ). two.report ++ count_line (codes "nets") n) same_nets ∙ sym two.written))),
-      )),
-    )
+    (flats_same two.check.models one.check.net two.check.net (subst (λ (ms : List Model). IsFlat ms one.check.net) readings.0 one.check.reading.flattened.flat) two.check.reading.flattened.flat).nets in
+    let first : bytes ≡ flat_map (λ (t : Told). t.lines) (told_in_check steps cubes wave nodes net_text task_text passes one.report one.check) ++ (nodes_line one.check.report.shared ++ count_line (codes "nets") one.check.net.nets) =
+    one.written ∙ (ap (λ (x : List ℕ). x ++ count_line (codes "nets") one.check.net.nets) both.lines ∙ append_assoc (flat_map (λ (t : Told). t.lines) (told_in_check steps cubes wave nodes net_text task_text passes one.report one.check)) (nodes_line one.check.report.shared) (count_line (codes "nets") one.check.net.nets)) in
+    let second : others_bytes ≡ flat_map (λ (t : Told). t.lines) (told_in_check more cubes wave nodes net_text task_text others two.report two.check) ++ (nodes_line two.check.report.shared ++ count_line (codes "nets") two.check.net.nets) =
+    two.written ∙ (ap (λ (x : List ℕ). x ++ count_line (codes "nets") two.check.net.nets) both.other_lines ∙ append_assoc (flat_map (λ (t : Told). t.lines) (told_in_check more cubes wave nodes net_text task_text others two.report two.check)) (nodes_line two.check.report.shared) (count_line (codes "nets") two.check.net.nets)) in
+    record {
+      agree = both.agree;
+      passing = both.passing;
+      ends = λ shared.
+          ap (λ (k : Option ℕ). nodes_line k ++ count_line (codes "nets") one.check.net.nets) shared ∙ ap (λ (n : ℕ). nodes_line two.check.report.shared ++ count_line (codes "nets") n) same_nets;
+      lines = first;
+      other_lines = second;
+      same = λ v shared. one.written
+          ∙ (ap (λ (text : List ℕ). text ++ count_line (codes "nets") one.check.net.nets) (both.same v shared)
+          ∙ (ap (λ (n : ℕ). two.report ++ count_line (codes "nets") n) same_nets ∙ sym two.written));
+    }
 
 -- a command with other workers and steps
 abbrev likened : Command → ℕ → Option ℕ → Command
@@ -128,10 +166,10 @@ likened_is command twin alike = sym (
     ∙ ap (λ (b : Bool). record command { action = twin.action; cubes = twin.cubes; wave = twin.wave; nodes = b }) alike.nodes)))
 
 written_same : (action : Action) (twin : Command) (workers : ℕ) (steps : Option ℕ) (net_text second_text : List ℕ) (passes others : Bool) (bytes others_bytes : List ℕ) (one : IsWritten action (likened twin workers steps) net_text second_text passes bytes) (two : IsWritten action twin net_text second_text others others_bytes) →
-    AreOne action (likened twin workers steps) twin net_text second_text passes others bytes others_bytes one two
+    AreSoOn action (likened twin workers steps) twin net_text second_text passes others bytes others_bytes one two
 written_same (check net tasks) twin workers steps net_text second_text passes others bytes others_bytes one two = checks_same steps twin.steps twin.cubes twin.wave twin.nodes net_text second_text passes others bytes others_bytes one two
-written_same (info net) twin workers steps net_text second_text passes others bytes others_bytes one two = (tt, (λ same. (one.0 ∙ sym two.0, (λ shared. infos_same net_text bytes others_bytes one.1 two.1))))
-written_same (sim net inputs) twin workers steps net_text second_text passes others bytes others_bytes one two = (tt, (λ same. (one.0 ∙ sym two.0, (λ shared. simulations_same net_text second_text bytes others_bytes one.1 two.1))))
+written_same (info net) twin workers steps net_text second_text passes others bytes others_bytes one two = untold_same passes others bytes others_bytes (one.0 ∙ sym two.0) (infos_same net_text bytes others_bytes one.1 two.1)
+written_same (sim net inputs) twin workers steps net_text second_text passes others bytes others_bytes one two = untold_same passes others bytes others_bytes (one.0 ∙ sym two.0) (simulations_same net_text second_text bytes others_bytes one.1 two.1)
 written_same (bench stages) twin workers steps net_text second_text passes others bytes others_bytes one two = benches_same steps twin.steps twin.cubes twin.wave twin.nodes stages passes others bytes others_bytes one two
 
 -- what is read of a file is one text
@@ -141,10 +179,10 @@ one_text held one other f g = let both : Some one ≡ Some other = sym f ∙ g i
 -- a report on texts that are the same
 module _ (twin : Command) (workers : ℕ) (steps : Option ℕ) (net_text second_text : List ℕ) (passes others : Bool) (bytes others_bytes : List ℕ) (two : IsWritten twin.action twin net_text second_text others others_bytes) where
   abbrev IsOne : (command : Command) (one_net one_second : List ℕ) → IsWritten command.action command one_net one_second passes bytes → Type 0
-  IsOne command one_net one_second written =
-      AllZip Agree (reports_in command.action command one_net one_second passes bytes written) (reports_in twin.action twin net_text second_text others others_bytes two)
-      × (map verdict_in (reports_in command.action command one_net one_second passes bytes written) ≡ map verdict_in (reports_in twin.action twin net_text second_text others others_bytes two) →
-      (passes ≡ others) × (shared_in command.action command one_net one_second passes bytes written ≡ shared_in twin.action twin net_text second_text others others_bytes two → bytes ≡ others_bytes))
+  IsOne command one_net one_second written = AreOne
+      (told_in command.action command one_net one_second passes bytes written) (told_in twin.action twin net_text second_text others others_bytes two) passes others
+      (shared_in command.action command one_net one_second passes bytes written) (shared_in twin.action twin net_text second_text others others_bytes two)
+      (end_in command.action command one_net one_second passes bytes written) (end_in twin.action twin net_text second_text others others_bytes two) bytes others_bytes
 
   moved : (command : Command) (one_net one_second : List ℕ) → likened twin workers steps ≡ command → net_text ≡ one_net → second_text ≡ one_second → (written : IsWritten command.action command one_net one_second passes bytes) → IsOne command one_net one_second written
   moved command one_net one_second same net second =
@@ -157,14 +195,24 @@ module _ (twin : Command) (workers : ℕ) (steps : Option ℕ) (net_text second_
 asked_is : (command : Command) (files : FilesState) (passes : Bool) (bytes : List ℕ) (report : IsReport (Some command) files passes bytes) → report.asked ≡ command
 asked_is command files passes bytes report = let both : Some report.asked ≡ Some command = sym report.is in cc both
 
--- commands that ask for the same have one report at most on what the files hold
+-- the commands of two reports ask for the same
+asked_alike : (command twin : Command) → AskAlike command twin → (files twins : FilesState) (passes others : Bool) (bytes others_bytes : List ℕ) (one : IsReport (Some command) files passes bytes) (two : IsReport (Some twin) twins others others_bytes) → AskAlike one.asked two.asked
+asked_alike command twin alike files twins passes others bytes others_bytes one two =
+    subst (λ (c : Command). AskAlike c two.asked) (sym (asked_is command files passes bytes one)) (subst (λ (c : Command). AskAlike command c) (sym (asked_is twin twins others others_bytes two)) alike)
+
+-- commands that ask for the same have one report at most on the same texts, but for budgets and the number of shared nodes
 pub one_report : OneReport
-one_report command twin alike files twins store told also passes others bytes others_bytes one two =
-    let same : AskAlike one.asked two.asked = subst (λ (c : Command). AskAlike c two.asked) (sym (asked_is command files passes bytes one)) (subst (λ (c : Command). AskAlike command c) (sym (asked_is twin twins others others_bytes two)) alike) in
-    let net = one_text (text_at (net_file one.asked.action) store) two.net_text one.net_text
-    (ap (λ (a : Action). text_at (net_file a) store) same.action ∙ read_told (net_file two.asked.action) twins.holds two.net_text two.net_read store also)
-    (read_told (net_file one.asked.action) files.holds one.net_text one.net_read store told) in
-    let second = one_text (text_at (second_file one.asked.action) store) two.second_text one.second_text
-    (ap (λ (a : Action). text_at (second_file a) store) same.action ∙ read_told (second_file two.asked.action) twins.holds two.second_text two.second_read store also)
-    (read_told (second_file one.asked.action) files.holds one.second_text one.second_read store told) in
-    moved two.asked one.asked.workers one.asked.steps two.net_text two.second_text passes others bytes others_bytes two.written one.asked one.net_text one.second_text (likened_is one.asked two.asked same) net second one.written
+one_report = record {
+  texts = λ command twin alike files twins store told also passes others bytes others_bytes one two.
+      let same = asked_alike command twin alike files twins passes others bytes others_bytes one two in (
+        one_text (text_at (net_file one.asked.action) store) one.net_text two.net_text
+            (read_told (net_file one.asked.action) files.holds one.net_text one.net_read store told)
+            (ap (λ (a : Action). text_at (net_file a) store) same.action ∙ read_told (net_file two.asked.action) twins.holds two.net_text two.net_read store also),
+        one_text (text_at (second_file one.asked.action) store) one.second_text two.second_text
+            (read_told (second_file one.asked.action) files.holds one.second_text one.second_read store told)
+            (ap (λ (a : Action). text_at (second_file a) store) same.action ∙ read_told (second_file two.asked.action) twins.holds two.second_text two.second_read store also),
+      );
+  same = λ command twin alike files twins passes others bytes others_bytes one two net second.
+      let same = asked_alike command twin alike files twins passes others bytes others_bytes one two in
+      moved two.asked one.asked.workers one.asked.steps two.net_text two.second_text passes others bytes others_bytes two.written one.asked one.net_text one.second_text (likened_is one.asked two.asked same) (sym net) (sym second) one.written;
+}

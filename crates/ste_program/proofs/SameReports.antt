@@ -31,8 +31,9 @@ use Rattle.ste_model.specs.Shown.{IsFilled, IsFirst, IsLatchOutput, IsPrinted, I
 use Rattle.ste_model.specs.Trees.{QuintTree, quint_tree, task_tree}
 use Rattle.ste_model.proofs.GraphReports.{one_graph_report_of}
 use Rattle.ste_model.proofs.Reports.{one_report_of}
-use Rattle.report_text.specs.Text.{fails_line, guards_text, least_line, names_net, net_line, nodes_line, path_line, report_text, run_text, task_text, verdict_words}
+use Rattle.report_text.specs.Text.{fails_line, guards_text, least_line, names_net, net_line, path_line, run_text, task_text, verdict_words}
 use Rattle.work_pool.specs.Told.{Agree, IsToldOf}
+use Rattle.ste_program.specs.Report.{AgreeOn, Told, told_at, told_on}
 use Rattle.ste_program.specs.Check.{IsReportOn, is_pass}
 use Rattle.ste_program.proofs.SameInputs.{run_moved, undriven_moved}
 use Rattle.ste_program.proofs.SameGraphs.{GraphSaysSame, graph_named_alike, graph_report_moved, graph_says_same}
@@ -238,12 +239,16 @@ task_alike net other names vars wave cubes m n same back range settled (Gste t) 
       text = λ v. text_alike names vars wave (Gste t) (Gste u) r (graph_named_alike t u says) ∙ ap (λ (x : Report). task_text names vars wave (Gste u, x)) (one v f g);
     }
 
+-- the reports of what is told
+abbrev verdict_of : Told → Verdict
+verdict_of told = told.report.verdict
+
 reports_alike : (net other : RawNet) (names : List (List ℕ)) (vars : List (List ℕ)) (wave : Bool) (cubes m n : ℕ) → AreSame net other → AreSame other net → IsInRange other → IsSettled other →
     (tasks twins : List Task) (reports others : List Report) → map task_tree tasks ≡ map task_tree twins →
     AllZip (IsToldOf net (length vars) m cubes) tasks reports → AllZip (IsToldOf other (length vars) n cubes) twins others →
-    AllZip Agree reports others
-    × (map verdict_in reports ≡ map verdict_in others → (reports ≡ others) × (flat_map (task_text names vars wave) (zip tasks reports) ≡ flat_map (task_text names vars wave) (zip twins others)))
-reports_alike net other names vars wave cubes m n same back range settled [] [] [] [] e f g = (tt, (λ v. (refl, refl)))
+    AllZip AgreeOn (told_on names vars wave tasks reports) (told_on names vars wave twins others)
+    × (map verdict_of (told_on names vars wave tasks reports) ≡ map verdict_of (told_on names vars wave twins others) → reports ≡ others)
+reports_alike net other names vars wave cubes m n same back range settled [] [] [] [] e f g = (tt, (λ v. refl))
 reports_alike net other names vars wave cubes m n same back range settled [] [] [] (q ∷ others) e f g = absurd g
 reports_alike net other names vars wave cubes m n same back range settled [] [] (r ∷ reports) others e f g = absurd f
 reports_alike net other names vars wave cubes m n same back range settled [] (u ∷ twins) reports others e f g = absurd (cc e)
@@ -255,32 +260,44 @@ reports_alike net other names vars wave cubes m n same back range settled (t ∷
     let trees : map task_tree tasks ≡ map task_tree twins = cc e in
     let alike = task_alike net other names vars wave cubes m n same back range settled t u r q first f.0 g.0 in
     let rest = reports_alike net other names vars wave cubes m n same back range settled tasks twins reports others trees f.1 g.1 in (
-      (alike.agree, rest.0),
+      (record { agree = alike.agree; lines = alike.text }, rest.0),
       (λ v.
           let here : r.verdict ≡ q.verdict = cc v in
-          let later : map verdict_in reports ≡ map verdict_in others = cc v in
-          let more = rest.1 later in (
-            ap (λ (x : Report). x ∷ reports) (alike.same here) ∙ ap (λ (xs : List Report). q ∷ xs) more.0,
-            ap (λ (x : List ℕ). x ++ flat_map (task_text names vars wave) (zip tasks reports)) (alike.text here)
-                ∙ ap (λ (x : List ℕ). task_text names vars wave (u, q) ++ x) more.1,
-          )),
+          let later : map verdict_of (told_on names vars wave tasks reports) ≡ map verdict_of (told_on names vars wave twins others) = cc v in
+          ap (λ (x : Report). x ∷ reports) (alike.same here) ∙ ap (λ (xs : List Report). q ∷ xs) (rest.1 later)),
     )
+
+-- with the same verdicts all lines are the same
+pub lines_same : (told twins : List Told) → AllZip AgreeOn told twins → map verdict_of told ≡ map verdict_of twins → flat_map (λ (t : Told). t.lines) told ≡ flat_map (λ (t : Told). t.lines) twins
+lines_same [] [] all v = refl
+lines_same [] (q ∷ twins) all v = absurd all
+lines_same (r ∷ told) [] all v = absurd all
+lines_same (r ∷ told) (q ∷ twins) all v =
+    let here : r.report.verdict ≡ q.report.verdict = cc v in
+    let later : map verdict_of told ≡ map verdict_of twins = cc v in
+    ap (λ (x : List ℕ). x ++ flat_map (λ (t : Told). t.lines) told) (all.0.lines here) ∙ ap (λ (x : List ℕ). q.lines ++ x) (lines_same told twins all.1 later)
+
+-- the lines of what is told are the text of the tasks
+pub lines_told : (names vars : List (List ℕ)) (wave : Bool) (ats : List (Task × Report)) → flat_map (task_text names vars wave) ats ≡ flat_map (λ (t : Told). t.lines) (map (told_at names vars wave) ats)
+lines_told names vars wave [] = refl
+lines_told names vars wave (at ∷ ats) = ap (λ (x : List ℕ). task_text names vars wave at ++ x) (lines_told names vars wave ats)
+
+abbrev Agreed : Bool → List Task → List Task → List Report → List Report → Bool → Bool → List (List ℕ) → List (List ℕ) → List (List ℕ) → List (List ℕ) → Type 0
+Agreed wave tasks twins reports others passes other_passes names vars twos other_vars =
+    AllZip AgreeOn (told_on names vars wave tasks reports) (told_on twos other_vars wave twins others)
+    × (map verdict_of (told_on names vars wave tasks reports) ≡ map verdict_of (told_on twos other_vars wave twins others) → passes ≡ other_passes)
 
 -- two reports on tasks that say the same
 pub reports_agree : (models : List Model) (net other : RawNet) (ones twos : List (List ℕ)) (m n cubes : ℕ) (wave nodes : Bool) (tasks twins : Tasks) (passes others : Bool) (bytes others_bytes : List ℕ) → IsFlat models net → IsFlat models other → IsInRange other → IsSettled other →
     ones ≡ twos → tasks.vars ≡ twins.vars → map task_tree tasks.tasks ≡ map task_tree twins.tasks →
     (one : IsReportOn ones net m cubes wave nodes tasks passes bytes) (two : IsReportOn twos other n cubes wave nodes twins others others_bytes) →
-    AllZip Agree one.reports two.reports × (map verdict_in one.reports ≡ map verdict_in two.reports → (passes ≡ others) × (one.shared ≡ two.shared → bytes ≡ others_bytes))
+    AllZip AgreeOn (told_on ones tasks.vars wave tasks.tasks one.reports) (told_on twos twins.vars wave twins.tasks two.reports)
+    × (map verdict_of (told_on ones tasks.vars wave tasks.tasks one.reports) ≡ map verdict_of (told_on twos twins.vars wave twins.tasks two.reports) → passes ≡ others)
 reports_agree models net other ones twos m n cubes wave nodes tasks twins passes others bytes others_bytes f g range settled names vars trees one two =
     let told = subst (λ (vs : List (List ℕ)). AllZip (IsToldOf net (length vs) m cubes) tasks.tasks one.reports) vars one.told in
-    let alike = reports_alike net other twos twins.vars wave cubes m n (flats_same models net other f g) (flats_same models other net g f) range settled tasks.tasks twins.tasks one.reports two.reports trees told two.told in (
+    let alike = reports_alike net other twos twins.vars wave cubes m n (flats_same models net other f g) (flats_same models other net g f) range settled tasks.tasks twins.tasks one.reports two.reports trees told two.told in
+    subst (λ (ns : List (List ℕ)). Agreed wave tasks.tasks twins.tasks one.reports two.reports passes others ns tasks.vars twos twins.vars) (sym names)
+    (subst (λ (vs : List (List ℕ)). Agreed wave tasks.tasks twins.tasks one.reports two.reports passes others twos vs twos twins.vars) (sym vars) (
       alike.0,
-      (λ v. let same = alike.1 v in (
-        one.passing ∙ (ap (list_all (λ (report : Report). is_pass report.verdict)) same.0 ∙ sym two.passing),
-        (λ shared. one.written
-            ∙ (ap (λ (ns : List (List ℕ)). report_text ns tasks.vars wave one.shared tasks.tasks one.reports) names
-            ∙ (ap (λ (vs : List (List ℕ)). report_text twos vs wave one.shared tasks.tasks one.reports) vars
-            ∙ (ap (λ (x : List ℕ). x ++ nodes_line one.shared) same.1
-            ∙ (ap (λ (k : Option ℕ). flat_map (task_text twos twins.vars wave) (zip twins.tasks two.reports) ++ nodes_line k) shared ∙ sym two.written))))),
-      )),
-    )
+      (λ v. one.passing ∙ (ap (list_all (λ (report : Report). is_pass report.verdict)) (alike.1 v) ∙ sym two.passing)),
+    ))

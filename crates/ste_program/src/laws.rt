@@ -18,8 +18,8 @@ pub fn reported_is_not_refused()
     ensures { ReportedIsNotRefused }
 {}
 
-/// On what the files hold, where they tell it, two reports of a command agree on each task but where one says budget; with the
-/// same verdicts they are one.
+/// Two reports on the same texts, of commands that ask for the same with whatever workers and steps, differ in what one of them tells
+/// as budget, and in the number of shared nodes, and in nothing else.
 pub fn one_report()
     ensures { OneReport }
 {}

@@ -100,6 +100,10 @@ fn pipelines(rt: HostRuntime) -> Result<(), Fail> {
         ("bench 1", "pipe: pass\nnets 24\n"),
         ("bench 2 --workers 3 --cubes 1", "pipe: pass\nnets 40\n"),
         ("--wave bench 7 --steps 16000000", "pipe: pass\nnets 120\n"),
+        (
+            "bench 2 --nodes --steps 100",
+            "pipe: pass\nshared nodes: 16\nnets 40\n",
+        ),
     ] {
         expect(&rt, alloc, words, "?", "?", Status::Passed, out, "")?;
     }
