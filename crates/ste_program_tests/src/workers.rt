@@ -114,7 +114,7 @@ fn two_workers_meet(rt: HostRuntime) -> Result<(), Fail> {
 fn many_tasks(alloc: Global, count: u32) -> Result<String, AllocError> {
     let mut text = String::from_str(alloc, ".vars p q r\n")?;
     for i in 0..count {
-        let to = 1 + (i * 7) % 40;
+        let to = 1 + i.wrapping_mul(7) % 40;
         let value = if i % 3 == 0 { "p | q" } else { "p & q" };
         let task = format!(in alloc;
             ".ste t{i}\n.ant d = p from 0 to {to}\n.ant e = q from 0 to {to}\n.con a = {value} from 1 to {to}\n.end\n"
