@@ -1,12 +1,12 @@
 -- What is found: the functions of each part are among those of the whole, and one turn of the loop over consequents.
-use Rattle.std.proofs.Common.{◌≡◌, ℕ, zero, suc, ◌+◌, ◌<◌, false, List, [], ◌∷◌, ◌++◌, length, take, get_or, map, refl, sym, ◌∙◌, ap, subst, arith, Contains, Result, ⊎_elim}
+use Rattle.std.proofs.Common.{◌≡◌, ℕ, zero, suc, ◌+◌, ◌<◌, ◌&&◌, ◌||◌, Bool, true, false, not, List, [], ◌∷◌, ◌++◌, length, take, get_or, map, refl, sym, ◌∙◌, ap, subst, arith, Contains, Result, ⊎_elim}
 use Rattle.std.specs.List.{AllZip}
 use Rattle.std.proofs.lemmas.List.{get_or_default}
 use Rattle.std.proofs.lemmas.List.Elements.{Contains-append_cases, Contains-append_left, Contains-append_right}
 use Rattle.dd_nodes.specs.declared.node.Ref.{Ref}
 use Rattle.dd_nodes.specs.Diagram.{Function}
 use Rattle.dd_nodes.specs.Stores.{Store, IsRef, Keeps, Means, function}
-use Rattle.dd_nodes.proofs.Spending.{own}
+use Rattle.dd_nodes.proofs.Spending.{own, zero_means}
 use Rattle.dd_nodes.proofs.Stores.{IsGood}
 use Rattle.dd_ops.specs.declared.fault.OpFault.{OpFault}
 use Rattle.net_core.specs.Work.{SymbolicCut, SymbolicSet, chain, conjunction, disjunction, negation, whole}
@@ -45,6 +45,23 @@ module _ (w : SymbolicSet) (x : Function) where
 
   pub refutes_in : Contains (refutes_work w x) (refutes w x)
   refutes_in = Contains-append_right low_work (high_work ++ refutes w x ∷ []) (refutes w x) (Contains-append_right high_work (refutes w x ∷ []) (refutes w x) (0, omega arith, refl))
+
+-- a set that has 1 just where the value is 1 is nowhere the opposite of it
+nowhere : (z x : Bool) → ((x && (z && not x)) || (not x && (x && not z))) ≡ false
+nowhere true true = refl
+nowhere true false = refl
+nowhere false true = refl
+nowhere false false = refl
+
+pub none_refuted : (s : Store) (r : Rails) (value : Ref) (w : SymbolicSet) (x : Function) → IsGood s → r.can1.0 ≡ value.0 → AreRails s w r → Means s x value → Means s (refutes w x) (record { 0 = 0 })
+none_refuted s r value w x gs e mw mx =
+    let zero = zero_means s gs in
+    record {
+      ref = zero.ref;
+      value = λ bits l.
+          let one : w.one bits ≡ x bits = sym (mw.one.value bits l) ∙ (ap (λ (n : ℕ). function s (record { 0 = n }) bits) e ∙ mx.value bits l) in
+          zero.value bits l ∙ sym (ap (λ (o : Bool). (x bits && (w.zero bits && not o)) || (not (x bits) && (o && not (w.zero bits)))) one ∙ nowhere (w.zero bits) (x bits));
+    }
 
 -- all but the two sums is among the functions for the consequent
 module _ (f h : Function) (w : SymbolicSet) (g x : Function) (work : List Function) (strong : Contains work (disjunction f (found_strong w g x))) (weak : Contains work (disjunction h (found_weak w g x))) (rest : Within (consequent_work w g x) work) where

@@ -70,8 +70,8 @@ fn refuted_zero<N: Nodes>(
     refuted_one(ops, nodes, opposite, one, other)
 }
 
-/// Where a set is exactly the opposite of the value.
-pub fn refuted<N: Nodes>(ops: &Ops, nodes: &mut N, r: Rails, value: Ref) -> Result<Ref, OpFault>
+/// Where a set is exactly the opposite of the value, by where the value is 1 and where it is 0.
+fn refuted_either<N: Nodes>(ops: &Ops, nodes: &mut N, r: Rails, value: Ref) -> Result<Ref, OpFault>
     requires rails { AreRefs (N.store nodes.old) r }
     requires value { IsRef (N.store nodes.old) value }
     ensures { (w : SymbolicSet) (x : Function)
@@ -82,6 +82,22 @@ pub fn refuted<N: Nodes>(ops: &Ops, nodes: &mut N, r: Rails, value: Ref) -> Resu
     let low = refuted_one(ops, nodes, value, r.can0, r.can1)?;
     let high = refuted_zero(ops, nodes, value, r.can1, r.can0)?;
     either(ops, nodes, low, high)
+}
+
+/// Where a set is exactly the opposite of the value. It is so nowhere, and nothing is called, where the set has 1 just
+/// where the value is 1, as that of a net that passes has.
+pub fn refuted<N: Nodes>(ops: &Ops, nodes: &mut N, r: Rails, value: Ref) -> Result<Ref, OpFault>
+    requires rails { AreRefs (N.store nodes.old) r }
+    requires value { IsRef (N.store nodes.old) value }
+    ensures { (w : SymbolicSet) (x : Function)
+        → AreRails (N.store nodes.old) w r → Means (N.store nodes.old) x value
+        → Built (refutes_work w x) (HasFunction (refutes w x))
+        (N.store nodes.old) (N.store nodes.new) result }
+{
+    if r.can1 == value {
+        return Ok(Ref::FALSE);
+    }
+    refuted_either(ops, nodes, r, value)
 }
 
 /// The sum with where the guard is 1 and something is found.
