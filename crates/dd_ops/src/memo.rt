@@ -93,7 +93,7 @@ fn find_among(entries: &[Entry], x: Operands) -> Option<Ref>
 fn map_of(alloc: Global, entries: &[Entry]) -> Result<HashMap<Operands, Ref>, AllocError>
     ensures { IfOk result (λ map. IsMapOf entries.now map) }
 {
-    let mut map = HashMap::new(alloc);
+    let mut map = HashMap::with_capacity(alloc, 112)?;
     for entry in entries {
         insert(&mut map, *entry)?;
     }

@@ -15,11 +15,13 @@ use dd_nodes::{Node, Ref, Steps};
 use std::marker::Brand;
 use std::sync::ledger::{Blank, Ledger};
 
-/// The reference of a node whose children differ, or none where it is not held and no step is left.
+/// The reference of a node whose children differ, or none where it is not held and no step is left. Each slot is looked at
+/// by one compare-exchange or one load where `once` says so.
 fn make<L: Ledger>(
     table: &SharedTable,
     session: &mut Session,
     node: Node,
+    once: bool,
     steps: &mut Steps<L>,
 ) -> Option<Ref>
     requires table { session.old.table ≡ table.now }
@@ -37,6 +39,7 @@ fn make<L: Ledger>(
         word,
         session.slots,
         left,
+        once,
         steps,
     )?;
     if wrote {
@@ -51,6 +54,7 @@ pub(crate) fn make_node<L: Ledger>(
     table: &SharedTable,
     session: &mut Session,
     node: Node,
+    once: bool,
     steps: &mut Steps<L>,
 ) -> Option<Ref>
     requires table { session.old.table ≡ table.now }
@@ -61,12 +65,12 @@ pub(crate) fn make_node<L: Ledger>(
     ensures found { IfSome result (λ r. CountsWalk session.old.slots node r.0 steps.old steps.new) }
     ensures cost { (steps.old < steps.new) × (steps.new ≤ steps.old + session.old.slots) }
 {
-    let made = make(table, session, node, steps);
+    let made = make(table, session, node, once, steps);
     session.shown();
     made
 }
 
-/// The same with a counter that is thrown away.
+/// The same with a counter that is thrown away, and with a load before each compare-exchange.
 fn make_from<L: Ledger>(
     table: &SharedTable,
     session: &mut Session,
@@ -82,7 +86,7 @@ fn make_from<L: Ledger>(
     ensures none { IfNone result ((session.new ≡ session.old) × IsOutFor session.old node) }
     ensures good { IsGoodSession session.new }
 {
-    make_node(table, session, node, &mut Steps::<L>::new(blank))
+    make_node(table, session, node, false, &mut Steps::<L>::new(blank))
 }
 
 /// The same for a caller that counts nothing.

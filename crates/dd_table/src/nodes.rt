@@ -78,7 +78,8 @@ impl<'a> TableNodes<'a> {
         if lo == hi {
             return Ok(lo);
         }
-        match make_node(self.table, &mut self.session, Node { var, lo, hi }, steps) {
+        let node = Node { var, lo, hi };
+        match make_node(self.table, &mut self.session, node, true, steps) {
             Some(r) => Ok(r),
             None => Err(MkFault::StepsOut),
         }

@@ -3,7 +3,7 @@
 ghost use Rattle.std.specs.Prelude.{◌≡◌, ℕ, ◌<◌, ◌≤◌, ◌+◌, ◌%◌, length, true, false, IfSome, IfNone};
 ghost use Rattle.dd_table.specs.Tells.{MayMake, SearchEnds, CameTo};
 
-use crate::steps::{TableSeat, TableWords, look, try_word};
+use crate::steps::{TableSeat, TableWords, look, try_at};
 use crate::word::home_of_word;
 use dd_nodes::Steps;
 use std::sync::ledger::Ledger;
@@ -17,13 +17,15 @@ fn next(at: u32, slots: u32) -> u32
 }
 
 /// Walks from the home of the word on, one counted step a slot, until it finds the word or an empty slot. Where a step
-/// is left it writes the word to the empty slot, and gives the slot and whether it wrote.
+/// is left it writes the word to the empty slot, and gives the slot and whether it wrote. A counted step is one
+/// compare-exchange or one load where `once` says so; else there are both at an empty slot.
 pub(crate) fn search<L: Ledger>(
     words: &TableWords,
     seat: &mut TableSeat,
     word: u64,
     slots: u32,
     left: bool,
+    once: bool,
     steps: &mut Steps<L>,
 ) -> Option<(u32, bool)>
     requires table { seat.old.table_id ≡ words.now.table_id }
@@ -42,7 +44,7 @@ pub(crate) fn search<L: Ledger>(
     for n in 0..slots {
         steps.tick();
         let found = if left {
-            try_word(words, seat, word, at as usize)
+            try_at(words, seat, word, at as usize, once)
         } else {
             look(words, seat, word, at as usize)
         };

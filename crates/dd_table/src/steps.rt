@@ -1,4 +1,4 @@
-//! The single steps on the table, each one compare-exchange or one load of one word. Begin with `try_word`.
+//! The single steps on the table, each one compare-exchange or one load of one word, and two of them in a row. Begin with `try_word`.
 
 ghost use Rattle.std.specs.Prelude.{◌≡◌, ◌≢◌, ℕ, ◌<◌, ◌≤◌, ◌+◌, ◌/◌, [], length};
 ghost use Rattle.std.specs.FinMap.{get};
@@ -20,7 +20,7 @@ pub(crate) type TableWords = Shared<(), View, Sizes, NodeTable>;
 pub(crate) type TableSeat = Seat<(), View>;
 
 /// A compare-exchange from 0 to the word, at the next slot on its walk. It gives the word that was there.
-pub(crate) fn try_word(words: &TableWords, seat: &mut TableSeat, word: u64, slot: usize) -> u64
+fn try_word(words: &TableWords, seat: &mut TableSeat, word: u64, slot: usize) -> u64
     requires table { seat.old.table_id ≡ words.now.table_id }
     requires size { seat.old.me.0.slots ≡ words.now.table_id.words }
     requires live { 0 < seat.old.me.0.slots }
@@ -59,6 +59,51 @@ pub(crate) fn look(words: &TableWords, seat: &mut TableSeat, word: u64, slot: us
     ensures told { LookTells slot word seat.old.me result seat.new.me }
 {
     look_for::<Brand>(words, seat, word, slot)
+}
+
+/// A load at the next slot on the walk of the word, and only where the slot is empty a compare-exchange from 0 to the word. It
+/// gives the word that was there. A word that stands in the table already is found without a compare-exchange, which takes
+/// several times as long as a load.
+fn look_and_try(words: &TableWords, seat: &mut TableSeat, word: u64, slot: usize) -> u64
+    requires table { seat.old.table_id ≡ words.now.table_id }
+    requires size { seat.old.me.0.slots ≡ words.now.table_id.words }
+    requires live { 0 < seat.old.me.0.slots }
+    requires may { MayMake seat.old.me.0 word }
+    requires left { length seat.old.me.0.made < seat.old.me.0.limit }
+    requires next { ComesNext seat.old.me.0 word slot }
+    ensures table { seat.new.table_id ≡ seat.old.table_id }
+    ensures told { TryTells slot word seat.old.me result seat.new.me }
+{
+    let seen = look(words, seat, word, slot);
+    if seen != 0 {
+        return seen;
+    }
+    try_word(words, seat, word, slot)
+}
+
+/// Writes the word to the next slot on its walk, where this is empty, by a compare-exchange alone where `once` says so, and
+/// else behind a load. It gives the word that was there.
+pub(crate) fn try_at(
+    words: &TableWords,
+    seat: &mut TableSeat,
+    word: u64,
+    slot: usize,
+    once: bool,
+) -> u64
+    requires table { seat.old.table_id ≡ words.now.table_id }
+    requires size { seat.old.me.0.slots ≡ words.now.table_id.words }
+    requires live { 0 < seat.old.me.0.slots }
+    requires may { MayMake seat.old.me.0 word }
+    requires left { length seat.old.me.0.made < seat.old.me.0.limit }
+    requires next { ComesNext seat.old.me.0 word slot }
+    ensures table { seat.new.table_id ≡ seat.old.table_id }
+    ensures told { TryTells slot word seat.old.me result seat.new.me }
+{
+    if once {
+        try_word(words, seat, word, slot)
+    } else {
+        look_and_try(words, seat, word, slot)
+    }
 }
 
 /// A load of any slot, which tells what the rules say of the seat's view.

@@ -1,10 +1,10 @@
 //! What is told of the tasks of a file; begin with `reports_of`.
-ghost use Rattle.std.specs.Prelude.{◌≡◌, ◌*◌, ◌≤◌, All, IfOk, IfSome, Option, is_some, length, map};
-ghost use Rattle.std.specs.List.{AllZip};
+ghost use Rattle.std.specs.Prelude.{◌≡◌, ◌*◌, ◌≤◌, All, IfOk, IfSome, Option, is_some, length, map, min};
+ghost use Rattle.std.specs.List.{AllZip, list_any};
 ghost use Rattle.command_line.specs.Bounds.{IsBounded};
 ghost use Rattle.sym_step.specs.Step.{rows_of};
 ghost use Rattle.ste_program.specs.Check.{is_pass};
-ghost use Rattle.ste_program.specs.private.Made.{IsCheckable};
+ghost use Rattle.ste_program.specs.private.Made.{IsCheckable, first_steps, is_budget};
 ghost use Rattle.work_pool.specs.Told.{IsSharedCount, IsToldOf};
 
 use command_line::Command;
@@ -29,8 +29,81 @@ pub struct Reports {
     pub shared: Option<u32>,
 }
 
+/// Whether the verdict is budget.
+fn is_budget(verdict: Verdict) -> bool
+    ensures { result ≡ is_budget verdict }
+{
+    matches!(verdict, Verdict::Budget)
+}
+
+/// Whether some report says budget.
+fn some_budget(reports: &[Report]) -> bool
+    ensures { result ≡ list_any (λ report. is_budget report.verdict) reports.now }
+{
+    reports.iter().any(|report| is_budget(report.verdict))
+}
+
+/// The node steps of each of so many tasks that are tried first: for all tasks together eight for each net and task, but at
+/// least 262,144, which is a table of 4 MB, and at most 2,097,152; and at least 4,096 for each task.
+fn first_steps(nets: u32, tasks: u32, steps: u32) -> u32
+    requires { (1 ≤ tasks) × (1 ≤ steps) }
+    ensures exact { result ≡ first_steps nets tasks steps }
+    ensures within { (1 ≤ result) × (result ≤ steps) }
+{
+    let each = (nets as u64).saturating_mul(8);
+    let all = each.saturating_mul(tasks as u64).clamp(262144, 2097152);
+    let share = (all as u32) / tasks;
+    share.max(4096).min(steps)
+}
+
+/// The node steps of each task that are tried next.
+fn next_steps(tried: u32, steps: u32) -> u32
+    ensures { result ≡ min (8 * tried) steps }
+{
+    tried.saturating_mul(8).min(steps)
+}
+
 /// What is told of tasks, with so many node steps for each: they are checked by the command's workers over one table.
+///
+/// A table takes two words for each step, and to open a large one takes longer than most checks. So few steps are tried
+/// first, and then more. What is told stands where no task says budget: more steps would tell the same.
 pub fn reports_of<R: Threads + Sync, G: Gate + Sync>(
+    rt: &R,
+    alloc: Global,
+    asked: &Command<'_>,
+    net: &Net,
+    rows: &GateRows,
+    tasks: &Tasks,
+    steps: u32,
+    gate: &G,
+) -> Result<Reports, AllocError>
+    requires bounded { IsBounded asked.now }
+    requires rows { rows.now.covers ≡ map rows_of net.now.raw.covers }
+    requires checkable { All (IsCheckable net.now.raw.nets (length tasks.now.vars))
+        tasks.now.tasks }
+    requires some { 1 ≤ length tasks.now.tasks }
+    requires vars { length tasks.now.vars ≤ 1000 }
+    requires steps { (1 ≤ steps) × (length tasks.now.tasks * steps ≤ 16000000) }
+    ensures told { IfOk result (λ told. AllZip
+        (IsToldOf net.now.raw (length tasks.now.vars) steps asked.now.cubes) tasks.now.tasks
+        told.reports.items) }
+    ensures shown { IfOk result (λ told. is_some told.shared ≡ asked.now.nodes) }
+    ensures counted { IfOk result (λ told. IfSome told.shared (IsSharedCount net.now.raw
+        (length tasks.now.vars) steps tasks.now.tasks told.reports.items)) }
+{
+    let mut tried = first_steps(net.nets(), tasks.tasks.len() as u32, steps);
+    for _ in 0..4 {
+        let told = told_within(rt, alloc, asked, net, rows, tasks, tried, gate)?;
+        if tried == steps || !some_budget(&told.reports) {
+            return Ok(told);
+        }
+        tried = next_steps(tried, steps);
+    }
+    told_within(rt, alloc, asked, net, rows, tasks, steps, gate)
+}
+
+/// What is told of tasks that are checked once, with so many node steps for each.
+fn told_within<R: Threads + Sync, G: Gate + Sync>(
     rt: &R,
     alloc: Global,
     asked: &Command<'_>,

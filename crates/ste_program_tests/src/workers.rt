@@ -186,3 +186,60 @@ fn shared_nodes(rt: HostRuntime) -> Result<(), Fail> {
     }
     Ok(())
 }
+
+/// Small tasks, so many, over the inverter, and behind them one that takes some 10,000 nodes: sums of products of variables
+/// that stand far apart in the order.
+fn one_large_task(alloc: Global, count: u32) -> Result<String, AllocError> {
+    let mut text = String::from_str(alloc, ".vars")?;
+    for name in ["p", "q"] {
+        for i in 0..11 {
+            text.push_str(&format!(in alloc; " {name}{i}")?)?;
+        }
+    }
+    text.push_str("\n")?;
+    for i in 0..count {
+        let task = format!(in alloc;
+            ".ste t{i}\n.ant a = p0 from 0 to 1\n.con y = !p0 from 0 to 1\n.end\n"
+        )?;
+        text.push_str(&task)?;
+    }
+    let mut sum = String::from_str(alloc, "p0 & q0")?;
+    for i in 1..11 {
+        sum.push_str(&format!(in alloc; " | p{i} & q{i}")?)?;
+    }
+    let large = format!(in alloc;
+        ".ste large\n.ant a = {sum} from 0 to 1\n.con y = !({sum}) from 0 to 1\n.end\n"
+    )?;
+    text.push_str(&large)?;
+    Ok(text)
+}
+
+/// The steps of a task that are tried first do not suffice for the large one; all of them do, and 5,000 do not.
+#[test]
+fn few_steps_first(rt: HostRuntime) -> Result<(), Fail> {
+    let alloc = rt.alloc();
+    let tasks = one_large_task(alloc, 40)?;
+    for words in [
+        "--workers 1 --steps 100000",
+        "--workers 4 --steps 300000 --nodes",
+    ] {
+        let text = report(&rt, alloc, words, INVERTER, &tasks, Status::Passed, &NoGate)?;
+        assert!(&rt; text.starts_with(b"t0: pass\nt1: pass\n"), "{words}");
+        assert!(&rt;
+            text.ends_with(b"large: pass\n") || words.ends_with("--nodes"),
+            "{words}"
+        );
+    }
+    let words = "--workers 2 --steps 5000";
+    let text = report(
+        &rt,
+        alloc,
+        words,
+        INVERTER,
+        &tasks,
+        Status::NotPassed,
+        &NoGate,
+    )?;
+    assert!(&rt; text.ends_with(b"t39: pass\nlarge: budget\n"), "{words}");
+    Ok(())
+}

@@ -5,7 +5,7 @@ use Rattle.dd_ops.proofs.Keeping.{mapof-more, mapof-nothing}
 use Rattle.dd_ops.proofs.memo.map_of.Goals as goal
 
 pub loop-entry-init : goal.loop-entry-init
-loop-entry-init c = mapof-nothing c.new-map.result c.new-map.ensures.empty
+loop-entry-init c = mapof-nothing c.in_ok-map.map c.in_ok-map.ensures.empty
 
 pub loop-entry-preserved : goal.loop-entry-preserved
 loop-entry-preserved c =

@@ -18,9 +18,9 @@ loop-n-preserved g c =
     let counted = let k = c.tick.ensures in let l = i.cost in let sum : c.tick.new.self ≡ c.args.steps.now + (c.loop-n.n + 1) = omega arith in sum in
     elim c.if-left.branch [
       | then-left w ↦
-          let e = w.try_word-found.ensures in
-          let ne0 : w.try_word-found.result ≢ 0 = λ z. c.if-found-eq0.false (w.found-is ∙ z) in
-          let new : w.try_word-found.result ≢ c.args.word = λ z. c.if-found-word.false (w.found-is ∙ z) in
+          let e = w.try_at-found.ensures in
+          let ne0 : w.try_at-found.result ≢ 0 = λ z. c.if-found-eq0.false (w.found-is ∙ z) in
+          let new : w.try_at-found.result ≢ c.args.word = λ z. c.if-found-word.false (w.found-is ∙ z) in
           let seat_is = w.seat-is in
           let told = subst (λ (x : TableSeat). IsSoundWithRoom x.me.0) (sym seat_is) e.told.1 in
           let met = ap (λ (x : TableSeat). x.me.0) seat_is ∙ e.told.4 ne0 new in
@@ -29,7 +29,7 @@ loop-n-preserved g c =
             empty = ap (λ (x : TableSeat). x.me.1) seat_is ∙ e.told.0 ∙ i.empty;
             in_range = c.next-at.ensures.1;
             cost = counted;
-            seen = advances c.args.word c.loop-n.n c.loop-n.at w.try_word-found.result c.next-at.result _ c.loop-n.seat.me.0 c.if-left.seat.me.0
+            seen = advances c.args.word c.loop-n.n c.loop-n.at w.try_at-found.result c.next-at.result _ c.loop-n.seat.me.0 c.if-left.seat.me.0
                 i.seen (omega arith) met new told next_is;
           }
       | else-left w ↦

@@ -5,8 +5,8 @@ use Rattle.std.specs.List.{AllZip}
 use Rattle.work_pool.proofs.Shared.{shared_of}
 use Rattle.work_pool.specs.Told.{IsSharedCount, IsToldOf}
 use Rattle.ste_program.proofs.TaskLists.{over_all}
-use Rattle.ste_program.proofs.judging.reports_of.Goals as goal
-use Rattle.ste_program.proofs.judging.reports_of.Goals.{then-asked, else-asked}
+use Rattle.ste_program.proofs.judging.told_within.Goals as goal
+use Rattle.ste_program.proofs.judging.told_within.Goals.{then-asked, else-asked}
 
 pub run_tasks-requires-clause-over : goal.run_tasks-requires-clause-over
 run_tasks-requires-clause-over g c κs within = over_all c.args.net.now.raw (length c.args.tasks.now.vars) c.args.tasks.now.tasks c.requires.checkable
