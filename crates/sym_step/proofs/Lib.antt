@@ -13,3 +13,4 @@ pub mod Pairs
 pub mod Summing
 pub mod RowSums
 pub mod Whole
+pub mod Framing

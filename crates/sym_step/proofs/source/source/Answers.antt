@@ -11,8 +11,8 @@ use Rattle.net_core.specs.declared.source.Source.TheVariants.{Input, Free, Latch
 use Rattle.net_core.specs.Work.{uncut, everything}
 use Rattle.dual_rail.proofs.Works.{Built-good}
 use Rattle.dual_rail.proofs.Turns.{zip_at}
-use Rattle.sym_step.proofs.Sourced.{unknown_refs, unknown_set, known, before_by}
-use Rattle.sym_step.specs.private.NetSets.{AreNetRefs, HasNetSet}
+use Rattle.sym_step.proofs.Sourced.{unknown_set, known, before_by}
+use Rattle.sym_step.specs.private.NetSets.{HasNetSet}
 use Rattle.sym_step.proofs.NetRefs.{refs_of_net}
 use Rattle.net_core.specs.Work.{some_bit}
 use Rattle.std.proofs.Common.{◌∷◌}
@@ -26,8 +26,8 @@ returns-in-Gate g c = λ ls ds sets zip asked.
     let s : Store = g.N.Nodes.store c.args.nodes.now in
     let net = c.args.net.now.raw in
     let work : List Function = some_bit (after_cuts ds (uncut net ls sets) c.args.id) ∷ cuts_work ds (uncut net ls sets) in
-    Built-made work (HasSource net (after_cuts ds (uncut net ls sets)) c.args.id) s s c.free.result (So-start work s)
-    (subst (AreNetRefs s) (sym c.free.ensures) (unknown_refs s (g.met.N.Nodes.diagram c.args.nodes.now)), λ is. absurd (is c.in-Gate.field-0 (sym c.in-Gate.ensures)))
+    Built-made work (HasSource net (after_cuts ds (uncut net ls sets)) c.args.id) s s c.args.now (So-start work s)
+    (c.requires.now, λ is. absurd (is c.in-Gate.field-0 (sym c.in-Gate.ensures)))
 
 pub returns-in-Latch : goal.returns-in-Latch
 returns-in-Latch g c = λ ls ds sets zip asked.
@@ -47,7 +47,7 @@ returns-in-Input g c = λ ls ds sets zip asked.
     let t : Store = g.N.Nodes.store c.cut_net-in-Input.new.nodes in
     let net = c.args.net.now.raw in
     let before : ℕ → SymbolicSet = uncut net ls sets in
-    let have : AreRails s (before c.args.id) c.free-in-Input.result = subst (λ (w : SymbolicSet). AreRails s w c.free-in-Input.result) (sym (before_by net ls sets c.args.id Input c.in-Input.ensures)) (subst (AreRails s everything) (sym c.free-in-Input.ensures) (unknown_set s (g.met.N.Nodes.diagram c.args.nodes.now))) in
+    let have : AreRails s (before c.args.id) c.free.result = subst (λ (w : SymbolicSet). AreRails s w c.free.result) (sym (before_by net ls sets c.args.id Input c.in-Input.ensures)) (subst (AreRails s everything) (sym c.free.ensures) (unknown_set s (g.met.N.Nodes.diagram c.args.nodes.now))) in
     Built-good (some_bit (after_cuts ds before c.args.id) ∷ cuts_work ds before) (HasNetSet (after_cuts ds before c.args.id)) (HasSource net (after_cuts ds before) c.args.id) s t c.cut_net-in-Input.result (λ a h. (refs_of_net t _ a h, λ is. h)) (c.cut_net-in-Input.ensures ds before asked have)
 
 pub returns-in-Free : goal.returns-in-Free

@@ -1,0 +1,40 @@
+-- For private functions. What is kept of one time for the next.
+use Rattle.std.specs.Prelude.{◌≡◌, All, Bool, false, ℕ, List, length, slice_index_or}
+use Rattle.dd_nodes.specs.Stores.{Store}
+use Rattle.net_core.specs.declared.raw.Gate.{Gate}
+use Rattle.net_core.specs.declared.raw.RawNet.{RawNet}
+use Rattle.net_core.specs.Work.{SymbolicSet, output_set}
+use Rattle.sym_step.specs.declared.frame.Frame.{Frame}
+use Rattle.sym_step.specs.declared.net_rails.NetRails.{NetRails}
+use Rattle.sym_step.specs.private.NetSets.{AreNetRails, AreNetRefs, HaveInputs, net_at}
+
+-- the flag of a net in a list; none for a number that is no net
+abbrev pub flag_at : List Bool → ℕ → Bool
+flag_at flags id = slice_index_or flags id false
+
+-- the gate's output has the set that the gate gives, whatever sets its inputs have
+abbrev pub IsGiven : Store → RawNet → List NetRails → Gate → Type 0
+IsGiven s net nets gate =
+    (sets : ℕ → SymbolicSet) → HaveInputs s sets nets gate.inputs →
+    AreNetRails s (output_set net sets gate) (net_at nets gate.output.0)
+
+-- the same, where neither its inputs nor its output have changed, and the output was not cut
+abbrev pub IsKept : Store → RawNet → List Bool → List Bool → List NetRails → Gate → Type 0
+IsKept s net cut changed nets gate =
+    flag_at cut gate.output.0 ≡ false → flag_at changed gate.output.0 ≡ false →
+    All (λ input. flag_at changed input.0 ≡ false) gate.inputs → IsGiven s net nets gate
+
+abbrev pub AreKept : Store → RawNet → List Bool → List Bool → List NetRails → Type 0
+AreKept s net cut changed nets = All (IsKept s net cut changed nets) net.gates
+
+-- a net that has not changed had not before, and has the references of before
+abbrev pub AreNoted : List Bool → List NetRails → List Bool → List NetRails → Type 0
+AreNoted before old after new =
+    (id : ℕ) → flag_at after id ≡ false → (flag_at before id ≡ false) × (net_at new id ≡ net_at old id)
+
+-- A frame of a time: each net has references that are held, and a gate whose output was not cut has given it its set.
+pub record IsFrame (s : Store) (net : RawNet) (frame : Frame) : Type 0 where
+  pub long : length frame.nets.items ≡ net.nets
+  pub marked : length frame.cut.items ≡ net.nets
+  pub refs : All (AreNetRefs s) frame.nets.items
+  pub kept : All (λ gate. flag_at frame.cut.items gate.output.0 ≡ false → IsGiven s net frame.nets.items gate) net.gates
