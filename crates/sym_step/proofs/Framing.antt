@@ -16,7 +16,7 @@ use Rattle.net_core.specs.declared.raw.RawNet.{RawNet}
 use Rattle.net_core.specs.Flat.{IsInRange, HasOneDriver, IsSettledOrder}
 use Rattle.net_core.specs.Possible.{MayGive}
 use Rattle.net_core.specs.Run.{gate_bit}
-use Rattle.net_core.specs.Work.{ArePossibleEach, SymbolicCut, SymbolicSet, output_set, set_at, uncut}
+use Rattle.net_core.specs.Work.{ArePossibleEach, SymbolicCut, SymbolicSet, everything, output_set, set_at, uncut}
 use Rattle.net_core.proofs.OneTime.{fixed, gate_in}
 use Rattle.net_core.proofs.Possible.{same_fields, same_set}
 use Rattle.sym_step.specs.declared.cut.Cut.{Cut}
@@ -114,6 +114,8 @@ frame_keeps s t net frame range ds dt k f = record {
   long = f.long;
   marked = f.marked;
   refs = All-net-refs-keep s t frame.nets.items ds dt k f.refs;
+  inside = f.inside;
+  undriven = λ id lt is none. Net-keeps s t everything (net_at frame.nets.items id) ds dt k (f.undriven id lt is none);
   kept = λ n d lt uncut. given_keeps s t net frame.nets.items (get_or net.gates n d) ds dt k f.refs (inside_by net frame.nets.items range f.long n d lt) (f.kept n d lt uncut);
 }
 

@@ -14,3 +14,4 @@ pub mod Summing
 pub mod RowSums
 pub mod Whole
 pub mod Framing
+pub mod Opened

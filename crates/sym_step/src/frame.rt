@@ -1,23 +1,25 @@
 //! What is kept of one time for the next; begin with `Frame`.
 
-ghost use Rattle.std.specs.Prelude.{◌≡◌, ◌<◌, IfOk, IsTrue, All, false, length, set};
+ghost use Rattle.std.specs.Prelude.{◌≡◌, ◌<◌, IfOk, IsTrue, All, false, length, map, set};
 ghost use Rattle.dd_nodes.specs.Diagram.{IsDiagram};
 ghost use Rattle.dd_nodes.specs.Stores.{Store};
 ghost use Rattle.sym_step.specs.private.NetSets.{net_at};
 ghost use Rattle.sym_step.specs.private.Frames.{IsFrame, flag_at};
 
+use crate::cut::Cut;
 use crate::net_rails::NetRails;
-use net_core::Net;
+use net_core::{Latch, Net};
 use std::alloc::{AllocError, Global};
 use ste_base::NodeId;
 
-/// What is kept of one time for the next: the set of each net, and a mark for each net of which there was a cut. In a
-/// blank frame all nets have marks. A gate of which no input has another set than before, and whose output is not cut now
+/// What is kept of one time for the next: the set of each net, a mark for each net of which there was a cut, and the list
+/// of these nets. In a blank frame all nets have marks and both bits, and none is listed. A gate of which no input has another set than before, and whose output is not cut now
 /// and was not before, keeps its output's set.
 #[derive(Debug, Drop)]
 pub struct Frame {
     pub(crate) nets: Vec<NetRails>,
     pub(crate) cut: Vec<bool>,
+    pub(crate) asked: Vec<NodeId>,
 }
 
 impl Frame {
@@ -28,8 +30,33 @@ impl Frame {
     {
         let nets = vec![in alloc; NetRails::free(); net.nets() as usize]?;
         let cut = vec![in alloc; true; net.nets() as usize]?;
-        Ok(Frame { nets, cut })
+        let asked = Vec::new(alloc);
+        Ok(Frame { nets, cut, asked })
     }
+}
+
+/// The nets of which there is a cut.
+pub fn asked_nets(alloc: Global, cuts: &[Cut]) -> Result<Vec<NodeId>, AllocError>
+    ensures { IfOk result (λ ids. ids.items ≡ map (λ c. c.node) cuts.now) }
+{
+    cuts.iter().map(|c| c.node).collect::<Vec<NodeId>>(alloc)
+}
+
+/// The sets of the latches' inputs.
+pub fn latch_inputs(
+    alloc: Global,
+    nets: &[NetRails],
+    latches: &[Latch],
+) -> Result<Vec<NetRails>, AllocError>
+    requires { All (λ latch. latch.input.0 < length nets.now) latches.now }
+    ensures { IfOk result (λ found. found.items
+        ≡ map (λ latch. net_at nets.now latch.input.0) latches.now) }
+{
+    let mut found = Vec::with_capacity(alloc, latches.len())?;
+    for latch in latches {
+        found.push(nets[latch.input.0 as usize])?;
+    }
+    Ok(found)
 }
 
 /// Whether both are the same references.

@@ -7,13 +7,13 @@ ghost use Rattle.dd_nodes.specs.Stores.{IsRef, Keeps, Means};
 ghost use Rattle.net_core.specs.Work.{ArePossibleEach, SymbolicSet, SymbolicAsked, disjunction, no_bit, some_bit, sum, sums, time_work};
 ghost use Rattle.dual_rail.specs.Rail.{AreRefs, AreRails, Built, HasFunction, Whatever};
 ghost use Rattle.sym_step.specs.Step.{IsCutOf, IsCutBy, IsPossibleStep, IsStep, rails_at, rows_of};
-ghost use Rattle.sym_step.specs.private.Frames.{AreKept, IsFrame};
+ghost use Rattle.sym_step.specs.private.Frames.{AreKept, AreOpen, IsFrame};
 ghost use Rattle.sym_step.specs.private.NetSets.{AreNetRails, AreNetRefs};
 ghost use Rattle.sym_step.specs.private.Parts.{AreMarks, HaveNets};
 
 use crate::cut::Cut;
 use crate::cuts::marked;
-use crate::frame::Frame;
+use crate::frame::{Frame, asked_nets, latch_inputs};
 use crate::made::Step;
 use crate::net_rails::NetRails;
 use crate::place::place_gates;
@@ -24,7 +24,7 @@ use dd_ops::{OpFault, Ops};
 use dual_rail::{Rails, either};
 use net_core::{Gate, Latch, Net};
 use std::alloc::{AllocError, Global};
-use ste_base::Items;
+use ste_base::{Items, NodeId};
 
 /// The sum so far with where one more net is empty. `some` is where it has a bit; nothing is called where that is
 /// everywhere.
@@ -128,16 +128,20 @@ fn finished(
     })
 }
 
-/// Gives all nets their sets: first those that no gate drives, and then the gates' outputs. `cut` has a mark at each net
-/// that was cut at the time before, and `changed` at each that has another set than then.
+/// Gives all nets their sets: first those that no gate drives, and then the gates' outputs. `given` are the sets of the
+/// latches' inputs at the time before, `before` are the nets that were cut then, at which `cut` has marks; `changed` has a
+/// mark at each net that has another set than then.
 fn set_nets<N: Nodes>(
     ops: &Ops,
     nodes: &mut N,
     net: &Net,
     rows: &GateRows,
     latches: &[Rails],
+    given: &[NetRails],
     cuts: &[Cut],
     marks: &[bool],
+    asked: &[NodeId],
+    before: &[NodeId],
     products: &mut [Ref],
     cut: &[bool],
     nets: &mut [NetRails],
@@ -146,10 +150,16 @@ fn set_nets<N: Nodes>(
     requires rows { rows.now.covers ≡ map rows_of net.now.raw.covers }
     requires long { length latches.now ≡ length net.now.raw.latches }
     requires latches { All (AreRefs (N.store nodes.old)) latches.now }
+    requires given_long { length given.now ≡ length net.now.raw.latches }
+    requires given { All (AreNetRefs (N.store nodes.old)) given.now }
     requires guards { All (λ c. IsRef (N.store nodes.old) c.guard) cuts.now }
     requires values { All (λ c. IsRef (N.store nodes.old) c.value) cuts.now }
     requires marked { length marks.now ≡ net.now.raw.nets }
     requires marks { AreMarks cuts.now marks.now }
+    requires asked { asked.now ≡ map (λ c. c.node) cuts.now }
+    requires inside { All (λ c. c.node.0 < net.now.raw.nets) cuts.now }
+    requires before { All (λ node. node.0 < net.now.raw.nets) before.now }
+    requires undriven { AreOpen (N.store nodes.old) net.now.raw before.now nets.old }
     requires room { All (λ gate. length gate.inputs < length products.old) net.now.raw.gates }
     requires cut { length cut.now ≡ net.now.raw.nets }
     requires nets { length nets.old ≡ net.now.raw.nets }
@@ -171,7 +181,9 @@ fn set_nets<N: Nodes>(
         → ArePossibleEach (N.store nodes.old).vars net.now.raw ls asked sets
         → HaveNets net.now.raw sets (N.store nodes.new) nets.new) }
 {
-    sources(ops, nodes, net, latches, cuts, marks, nets, changed)?;
+    sources(
+        ops, nodes, net, latches, given, cuts, marks, asked, before, nets, changed,
+    )?;
     place_gates(
         ops, nodes, net, rows, cuts, marks, products, cut, nets, changed,
     )
@@ -209,6 +221,8 @@ fn renew_frame<N: Nodes>(
 {
     let marks = marked(alloc, cuts, net.nets())?;
     let mut changed = vec![in alloc; false; net.nets() as usize]?;
+    let asked = asked_nets(alloc, cuts)?;
+    let given = latch_inputs(alloc, &frame.nets, net.latches())?;
     let mut products = room(alloc, net.gates())?;
     set_nets(
         ops,
@@ -216,14 +230,18 @@ fn renew_frame<N: Nodes>(
         net,
         rows,
         latches,
+        &given,
         cuts,
         &marks,
+        &asked,
+        &frame.asked,
         &mut products,
         &frame.cut,
         &mut frame.nets,
         &mut changed,
     )?;
     frame.cut = marks;
+    frame.asked = asked;
     Ok(())
 }
 

@@ -9,8 +9,12 @@ use Rattle.dual_rail.proofs.Works.{So-start, Built-made, first, pass, set_where}
 use Rattle.dual_rail.proofs.Turns.{own_zip}
 use Rattle.sym_step.specs.declared.net_rails.NetRails.{NetRails}
 use Rattle.sym_step.proofs.Cutting.{own_demands}
-use Rattle.sym_step.specs.private.Frames.{AreKept, IsGiven, flag_at}
-use Rattle.sym_step.specs.private.NetSets.{AreNetRefs}
+use Rattle.sym_step.specs.private.Frames.{AreKept, AreOpen, IsGiven, flag_at}
+use Rattle.sym_step.proofs.Opened.{given_refs, nodes_inside, undriven_here}
+use Rattle.ste_base.specs.declared.id.NodeId.{NodeId}
+use Rattle.net_core.specs.declared.raw.Latch.{Latch}
+use Rattle.std.proofs.Common.{◌<◌, get_or, map}
+use Rattle.sym_step.specs.private.NetSets.{AreNetRefs, net_at}
 use Rattle.sym_step.specs.private.Parts.{HaveNets}
 use Rattle.sym_step.proofs.Framing.{given_here, written}
 use Rattle.sym_step.proofs.Whole as whole
@@ -35,9 +39,32 @@ pub set_nets-requires-clause-kept : goal.set_nets-requires-clause-kept
 set_nets-requires-clause-kept g c =
     let s : Store = g.N.Nodes.store c.args.nodes.now in
     let net = c.args.net.now in
-    subst (λ (cut : List Bool). AreKept s net.raw cut c.deref_mut-3.result.now c.deref_mut-2.result.now) (sym c.deref-2.ensures.value)
+    subst (λ (cut : List Bool). AreKept s net.raw cut c.deref_mut-3.result.now c.deref_mut-2.result.now) (sym c.deref-6.ensures.value)
     (subst (AreKept s net.raw c.args.frame.now.cut.items c.deref_mut-3.result.now) (sym c.deref_mut-2.ensures.value)
     (λ k d lt uncut out ins. c.requires.frame.kept k d lt uncut))
+
+pub set_nets-requires-clause-given_long : goal.set_nets-requires-clause-given_long
+set_nets-requires-clause-given_long g c =
+    ap length (c.deref-2.ensures.value ∙ c.in_ok-given.ensures) ∙ length-map _ (λ (latch : Latch). net_at c.deref.result.now latch.input.0) ∙ ap (λ (xs : List Latch). length xs) c.latches.ensures
+
+pub set_nets-requires-clause-given : goal.set_nets-requires-clause-given
+set_nets-requires-clause-given g c =
+    let s : Store = g.N.Nodes.store c.args.nodes.now in
+    let net = c.args.net.now in
+    let nets : List NetRails = c.args.frame.now.nets.items in
+    let inside : All (λ latch. latch.input.0 < length nets) net.raw.latches = λ k d lt. subst (λ n. (get_or net.raw.latches k d).input.0 < n) (sym c.requires.frame.long) (net.in_range.latch_inputs k d lt) in
+    let is : c.deref-2.result.now ≡ map (λ latch. net_at nets latch.input.0) net.raw.latches =
+    c.deref-2.ensures.value ∙ c.in_ok-given.ensures ∙ ap (λ (xs : List NetRails). map (λ latch. net_at xs latch.input.0) c.latches.result.now) c.deref.ensures.value ∙ ap (λ (xs : List Latch). map (λ latch. net_at nets latch.input.0) xs) c.latches.ensures in
+    subst (All (AreNetRefs s)) (sym is) (given_refs s nets net.raw.latches c.requires.frame.refs inside)
+
+pub set_nets-requires-clause-before : goal.set_nets-requires-clause-before
+set_nets-requires-clause-before g c = subst (All (λ (node : NodeId). node.0 < c.args.net.now.raw.nets)) (sym c.deref-5.ensures.value) c.requires.frame.inside
+
+pub set_nets-requires-clause-undriven : goal.set_nets-requires-clause-undriven
+set_nets-requires-clause-undriven g c =
+    let s : Store = g.N.Nodes.store c.args.nodes.now in
+    subst (λ (xs : List NodeId). AreOpen s c.args.net.now.raw xs c.deref_mut-2.result.now) (sym c.deref-5.ensures.value)
+    (subst (AreOpen s c.args.net.now.raw c.args.frame.now.asked.items) (sym c.deref_mut-2.ensures.value) c.requires.frame.undriven)
 
 pub returns-clause-have : goal.returns-clause-have
 returns-clause-have g c = λ ls asked sets zip zipc family.
@@ -72,5 +99,8 @@ returns-clause-frame g c =
       long = ap length back ∙ p.long;
       marked = c.in_ok-marks.ensures.long ∙ c.nets.ensures;
       refs = subst (All (AreNetRefs u)) (sym back) p.refs;
+      inside = subst (All (λ (node : NodeId). node.0 < net.raw.nets)) (sym c.in_ok-asked.ensures) (nodes_inside net.raw.nets cuts (λ k d l. (c.requires.cuts k d l).node));
+      undriven = subst (AreOpen u net.raw c.in_ok-asked.asked.items) (sym back)
+          (undriven_here net.raw net.in_range net.one_driver ls asked.cuts exist.0 (length-map latches (set_where s) ∙ c.requires.long) s u cuts c.in_ok-asked.asked.items nets keeps exist.1 zipc c.in_ok-asked.ensures (p.have ls asked exist.0 zip zipc exist.1));
       kept = subst Kept (sym back) (given_here net.raw net.settled net.in_range net.one_driver net.in_order ls asked.cuts exist.0 (length-map latches (set_where s) ∙ c.requires.long) s u cuts marks nets keeps exist.1 zipc c.in_ok-marks.ensures.marks (p.have ls asked exist.0 zip zipc exist.1));
     }

@@ -1,6 +1,4 @@
-use Rattle.std.proofs.Common.{List, sym, ◌∙◌, subst, Ok, Err, Result}
-use Rattle.std.specs.Prelude.{OnOk}
-use Rattle.dd_ops.specs.declared.fault.OpFault.{OpFault}
+use Rattle.std.proofs.Common.{List, sym, ◌∙◌, subst, Ok}
 use Rattle.dd_nodes.specs.Diagram.{Function}
 use Rattle.dd_nodes.specs.Stores.{Store}
 use Rattle.net_core.specs.Work.{ArePossibleEach, time_work}
@@ -9,6 +7,7 @@ use Rattle.dual_rail.proofs.Works.{So-start, first, last, pass}
 use Rattle.dual_rail.proofs.Turns.{zip_long}
 use Rattle.sym_step.proofs.Cutting.{Demands-keep}
 use Rattle.sym_step.proofs.Framing.{kept_keeps, kept_noted}
+use Rattle.sym_step.proofs.Opened.{ok_then}
 use Rattle.sym_step.proofs.Sourced.{to_gates, all_placed}
 use Rattle.sym_step.proofs.time.set_nets.Goals as goal
 
@@ -46,10 +45,6 @@ returns-clause-built g c = λ ls asked sets zip zipc family.
     let have0 = to_gates net.raw net.settled sets t c.sources.new.nets net.one_driver net.in_order (p.have ls asked.cuts sets zip family zipc) in
     last work Whatever s t u c.place_gates.result gt gu (first work Whatever s t (Ok c.in_ok-sources.field-0) (p.built ls asked.cuts sets zip family zipc))
     (c.place_gates.ensures.built ls asked.cuts sets long family' zipc' have0)
-
-ok_then : {A P Q : Type 0} (r : Result A OpFault) → (P → Q) → OnOk r P → OnOk r Q
-ok_then (Ok a) f h = f h
-ok_then (Err e) f h = tt
 
 pub returns-clause-have : goal.returns-clause-have
 returns-clause-have g c =
