@@ -114,6 +114,7 @@ frame_keeps s t net frame range ds dt k f = record {
   long = f.long;
   marked = f.marked;
   refs = All-net-refs-keep s t frame.nets.items ds dt k f.refs;
+  room = f.room;
   inside = f.inside;
   undriven = λ id lt is none. Net-keeps s t everything (net_at frame.nets.items id) ds dt k (f.undriven id lt is none);
   kept = λ n d lt uncut. given_keeps s t net frame.nets.items (get_or net.gates n d) ds dt k f.refs (inside_by net frame.nets.items range f.long n d lt) (f.kept n d lt uncut);

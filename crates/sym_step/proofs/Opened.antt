@@ -65,8 +65,9 @@ at_replicate (suc n) zero x d lt = refl
 at_replicate (suc n) (suc k) x d lt = at_replicate n k x d (omega (arith, lt))
 
 -- a frame of no time is one
-pub blank_is : (s : Store) (net : RawNet) (frame : Frame) → IsGood s → IsInRange net → frame.nets.items ≡ replicate net.nets unknown → frame.cut.items ≡ replicate net.nets true → frame.asked.items ≡ [] → IsFrame s net frame
-blank_is s net frame gs range nets cut asked = record {
+pub blank_is : (s : Store) (net : RawNet) (frame : Frame) → IsGood s → IsInRange net → frame.nets.items ≡ replicate net.nets unknown → frame.cut.items ≡ replicate net.nets true → frame.asked.items ≡ [] → All (λ gate. length gate.inputs < length frame.products.items) net.gates → IsFrame s net frame
+blank_is s net frame gs range nets cut asked room = record {
+  room = room;
   long = ap length nets ∙ length-replicate net.nets unknown;
   marked = ap length cut ∙ length-replicate net.nets true;
   refs = subst (All (AreNetRefs s)) (sym nets) (all_unknown s net.nets gs);

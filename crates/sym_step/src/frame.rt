@@ -1,6 +1,6 @@
 //! What is kept of one time for the next; begin with `Frame`.
 
-ghost use Rattle.std.specs.Prelude.{◌≡◌, ◌<◌, IfOk, IsTrue, All, false, length, map, set};
+ghost use Rattle.std.specs.Prelude.{◌≡◌, ◌<◌, ◌≤◌, IfOk, IsTrue, All, false, length, map, set};
 ghost use Rattle.dd_nodes.specs.Diagram.{IsDiagram};
 ghost use Rattle.dd_nodes.specs.Stores.{Store};
 ghost use Rattle.sym_step.specs.private.NetSets.{net_at};
@@ -8,18 +8,20 @@ ghost use Rattle.sym_step.specs.private.Frames.{IsFrame, flag_at};
 
 use crate::cut::Cut;
 use crate::net_rails::NetRails;
-use net_core::{Latch, Net};
+use dd_nodes::Ref;
+use net_core::{Gate, Latch, Net};
 use std::alloc::{AllocError, Global};
 use ste_base::NodeId;
 
 /// What is kept of one time for the next: the set of each net, a mark for each net of which there was a cut, and the list
-/// of these nets. In a blank frame all nets have marks and both bits, and none is listed. A gate of which no input has another set than before, and whose output is not cut now
+/// of these nets; beside them room for the products of a row. In a blank frame all nets have marks and both bits, and none is listed. A gate of which no input has another set than before, and whose output is not cut now
 /// and was not before, keeps its output's set.
 #[derive(Debug, Drop)]
 pub struct Frame {
     pub(crate) nets: Vec<NetRails>,
     pub(crate) cut: Vec<bool>,
     pub(crate) asked: Vec<NodeId>,
+    pub(crate) products: Vec<Ref>,
 }
 
 impl Frame {
@@ -31,8 +33,35 @@ impl Frame {
         let nets = vec![in alloc; NetRails::free(); net.nets() as usize]?;
         let cut = vec![in alloc; true; net.nets() as usize]?;
         let asked = Vec::new(alloc);
-        Ok(Frame { nets, cut, asked })
+        let products = room(alloc, net.gates())?;
+        Ok(Frame {
+            nets,
+            cut,
+            asked,
+            products,
+        })
     }
+}
+
+/// The greatest number of inputs of a gate.
+fn widest(gates: &[Gate]) -> usize
+    ensures { All (λ gate. length gate.inputs ≤ result) gates.now }
+{
+    let mut most = 0;
+    for gate in gates {
+        most = most.max(gate.inputs.len());
+    }
+    most
+}
+
+/// Room for the products of the first literals of a row.
+fn room(alloc: Global, gates: &[Gate]) -> Result<Vec<Ref>, AllocError>
+    ensures { IfOk result (λ products.
+        All (λ gate. length gate.inputs < length products.items) gates.now) }
+{
+    let mut products = vec![in alloc; Ref::FALSE; widest(gates)]?;
+    products.push(Ref::FALSE)?;
+    Ok(products)
 }
 
 /// The nets of which there is a cut.

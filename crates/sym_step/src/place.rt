@@ -249,6 +249,7 @@ pub fn place_gates<N: Nodes>(
     requires cut { length cut.now ≡ net.now.raw.nets }
     requires changed { length changed.old ≡ net.now.raw.nets }
     requires kept { AreKept (N.store nodes.old) net.now.raw cut.now changed.old nets.old }
+    ensures room { OnOk result (length products.new ≡ length products.old) }
     ensures long { OnOk result (length nets.new ≡ net.now.raw.nets) }
     ensures refs { OnOk result (All (AreNetRefs (N.store nodes.new)) nets.new) }
     ensures built { (ls : List SymbolicSet) (ds : List SymbolicCut) (sets : ℕ → SymbolicSet)

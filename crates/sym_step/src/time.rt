@@ -22,7 +22,7 @@ use crate::source::sources;
 use dd_nodes::{Nodes, Ref};
 use dd_ops::{OpFault, Ops};
 use dual_rail::{Rails, either};
-use net_core::{Gate, Latch, Net};
+use net_core::{Latch, Net};
 use std::alloc::{AllocError, Global};
 use ste_base::{Items, NodeId};
 
@@ -82,27 +82,6 @@ fn rails_of(alloc: Global, nets: &[NetRails]) -> Result<Items<Rails>, AllocError
         rails.push(r.rails())?;
     }
     Ok(Items::from(rails))
-}
-
-/// The greatest number of inputs of a gate.
-fn widest(gates: &[Gate]) -> usize
-    ensures { All (λ gate. length gate.inputs ≤ result) gates.now }
-{
-    let mut most = 0;
-    for gate in gates {
-        most = most.max(gate.inputs.len());
-    }
-    most
-}
-
-/// Room for the products of the first literals of a row.
-fn room(alloc: Global, gates: &[Gate]) -> Result<Vec<Ref>, AllocError>
-    ensures { IfOk result (λ products.
-        All (λ gate. length gate.inputs < length products.items) gates.now) }
-{
-    let mut products = vec![in alloc; Ref::FALSE; widest(gates)]?;
-    products.push(Ref::FALSE)?;
-    Ok(products)
 }
 
 /// The step of these sets.
@@ -166,6 +145,7 @@ fn set_nets<N: Nodes>(
     requires refs { All (AreNetRefs (N.store nodes.old)) nets.old }
     requires changed { length changed.old ≡ net.now.raw.nets }
     requires kept { AreKept (N.store nodes.old) net.now.raw cut.now changed.old nets.old }
+    ensures room { OnOk result (length products.new ≡ length products.old) }
     ensures long { OnOk result (length nets.new ≡ net.now.raw.nets) }
     ensures refs { OnOk result (All (AreNetRefs (N.store nodes.new)) nets.new) }
     ensures built { (ls : List SymbolicSet) (asked : SymbolicAsked) (sets : ℕ → SymbolicSet)
@@ -223,7 +203,6 @@ fn renew_frame<N: Nodes>(
     let mut changed = vec![in alloc; false; net.nets() as usize]?;
     let asked = asked_nets(alloc, cuts)?;
     let given = latch_inputs(alloc, &frame.nets, net.latches())?;
-    let mut products = room(alloc, net.gates())?;
     set_nets(
         ops,
         nodes,
@@ -235,7 +214,7 @@ fn renew_frame<N: Nodes>(
         &marks,
         &asked,
         &frame.asked,
-        &mut products,
+        &mut frame.products,
         &frame.cut,
         &mut frame.nets,
         &mut changed,

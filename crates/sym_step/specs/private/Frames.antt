@@ -76,6 +76,7 @@ pub record IsFrame (s : Store) (net : RawNet) (frame : Frame) : Type 0 where
   pub long : length frame.nets.items ≡ net.nets
   pub marked : length frame.cut.items ≡ net.nets
   pub refs : All (AreNetRefs s) frame.nets.items
+  pub room : All (λ gate. length gate.inputs < length frame.products.items) net.gates
   pub inside : All (λ node. node.0 < net.nets) frame.asked.items
   pub undriven : AreOpen s net frame.asked.items frame.nets.items
   pub kept : All (λ gate. flag_at frame.cut.items gate.output.0 ≡ false → IsGiven s net frame.nets.items gate) net.gates

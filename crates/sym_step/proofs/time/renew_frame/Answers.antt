@@ -11,6 +11,7 @@ use Rattle.sym_step.specs.declared.net_rails.NetRails.{NetRails}
 use Rattle.sym_step.proofs.Cutting.{own_demands}
 use Rattle.sym_step.specs.private.Frames.{AreKept, AreOpen, IsGiven, flag_at}
 use Rattle.sym_step.proofs.Opened.{given_refs, nodes_inside, undriven_here}
+use Rattle.dd_nodes.specs.declared.node.Ref.{Ref}
 use Rattle.ste_base.specs.declared.id.NodeId.{NodeId}
 use Rattle.net_core.specs.declared.raw.Latch.{Latch}
 use Rattle.std.proofs.Common.{◌<◌, get_or, map}
@@ -94,11 +95,15 @@ returns-clause-frame g c =
     let keeps = (p.built ls asked exist.0 zip zipc exist.1).spends.keeps in
     let old : List NetRails = c.args.frame.now.nets.items in
     let back = written c.args.frame.now.nets.len nets (drop (length nets) old) (c.args.frame.now.nets.ok.0 ∙ c.requires.frame.long ∙ sym p.long) in
+    let room : List Ref = c.set_nets.new.products in
+    let same_room : length room ≡ length c.args.frame.now.products.items = p.room ∙ ap length c.deref_mut.ensures.value in
+    let back_room = written c.args.frame.now.products.len room (drop (length room) c.args.frame.now.products.items) (c.args.frame.now.products.ok.0 ∙ sym same_room) in
     let Kept : List NetRails → Type 0 = λ xs. All (λ gate. flag_at marks gate.output.0 ≡ false → IsGiven u net.raw xs gate) net.raw.gates in
     record {
       long = ap length back ∙ p.long;
       marked = c.in_ok-marks.ensures.long ∙ c.nets.ensures;
       refs = subst (All (AreNetRefs u)) (sym back) p.refs;
+      room = subst (λ (xs : List Ref). All (λ gate. length gate.inputs < length xs) net.raw.gates) (sym back_room) (subst (λ n. All (λ gate. length gate.inputs < n) net.raw.gates) (sym same_room) c.requires.frame.room);
       inside = subst (All (λ (node : NodeId). node.0 < net.raw.nets)) (sym c.in_ok-asked.ensures) (nodes_inside net.raw.nets cuts (λ k d l. (c.requires.cuts k d l).node));
       undriven = subst (AreOpen u net.raw c.in_ok-asked.asked.items) (sym back)
           (undriven_here net.raw net.in_range net.one_driver ls asked.cuts exist.0 (length-map latches (set_where s) ∙ c.requires.long) s u cuts c.in_ok-asked.asked.items nets keeps exist.1 zipc c.in_ok-asked.ensures (p.have ls asked exist.0 zip zipc exist.1));
