@@ -25,7 +25,7 @@ use net_core::Net;
 use std::alloc::{AllocError, Global};
 use ste_base::Time;
 use ste_model::{Assertion, Quint, Report, depth};
-use sym_step::GateRows;
+use sym_step::{Frame, GateRows};
 
 /// The references of quintuples, as a timeline before time 0.
 fn line_of<N: Nodes>(
@@ -73,6 +73,10 @@ fn results<N: Nodes>(
         Ok(reached) => reached,
         Err(_) => return Err(OpFault::OutOfMemory),
     };
+    let mut frame = match Frame::blank(alloc, net) {
+        Ok(frame) => frame,
+        Err(_) => return Err(OpFault::OutOfMemory),
+    };
     for t in 0..depth {
         let asked = match ant.cuts_at(alloc, t) {
             Ok(cuts) => cuts,
@@ -91,6 +95,7 @@ fn results<N: Nodes>(
             asked.as_slice(),
             wanted.as_slice(),
             &reached,
+            &mut frame,
         )?;
     }
     finish(ops, nodes, reached.contradictory, reached.found)

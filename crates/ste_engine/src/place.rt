@@ -18,7 +18,7 @@ use net_core::Net;
 use std::alloc::{AllocError, Global};
 use ste_base::{NodeId, Time};
 use ste_model::{Assertion, Quint, depth};
-use sym_step::{Cut, GateRows, step};
+use sym_step::{Cut, Frame, GateRows, advance};
 
 /// The constant of a bit.
 pub fn constant(bit: bool) -> Ref
@@ -92,10 +92,11 @@ pub fn failing_place<N: Nodes>(
     let mut ant = fixed_line(alloc, task.ant.as_slice(), bits, depth)?;
     let mut con = fixed_line(alloc, task.con.as_slice(), bits, depth)?;
     let mut latches = first_sets(alloc, net, task.reset)?;
+    let mut frame = Frame::blank(alloc, net)?;
     for t in 0..depth {
         let asked = ant.cuts_at(alloc, t)?;
         let wanted = con.cuts_at(alloc, t)?;
-        let made = match step(
+        let made = match advance(
             alloc,
             ops,
             nodes,
@@ -103,6 +104,7 @@ pub fn failing_place<N: Nodes>(
             rows,
             latches.as_slice(),
             asked.as_slice(),
+            &mut frame,
         ) {
             Ok(made) => made,
             Err(OpFault::OutOfMemory) => return Err(AllocError),

@@ -1,12 +1,13 @@
 //! One time of an assertion; begin with `turn`.
 
-ghost use Rattle.std.specs.Prelude.{◌≡◌, ℕ, List, All, IfOk, map};
+ghost use Rattle.std.specs.Prelude.{◌≡◌, ℕ, List, All, IfOk, OnOk, map};
 ghost use Rattle.std.specs.List.{AllZip};
 ghost use Rattle.dd_nodes.specs.Diagram.{Function};
 ghost use Rattle.dd_nodes.specs.Stores.{Means};
 ghost use Rattle.net_core.specs.Work.{ArePossibleEach, SymbolicCut, SymbolicSet};
 ghost use Rattle.dual_rail.specs.Rail.{AreRails, Built};
 ghost use Rattle.sym_step.specs.Step.{IsCutBy, IsCutOf, rows_of};
+ghost use Rattle.sym_step.specs.private.Frames.{IsFrame};
 ghost use Rattle.ste_engine.specs.private.Finds.{AreFound};
 ghost use Rattle.ste_engine.specs.private.Turns.{AreTurnedRefs, IsTurned, asked_by, first_rails, turned_work};
 
@@ -18,7 +19,7 @@ use dual_rail::{Rails, either, free, one, zero};
 use net_core::{Init, Latch, Net};
 use std::alloc::{AllocError, Global};
 use ste_base::Items;
-use sym_step::{Cut, GateRows, step};
+use sym_step::{Cut, Frame, GateRows, advance};
 
 /// What the times so far leave: the latches' sets of the next time, where some net was empty, and what is found.
 #[derive(Debug, Drop)]
@@ -70,7 +71,8 @@ pub fn at_start(alloc: Global, net: &Net, reset: bool) -> Result<Turned, AllocEr
     })
 }
 
-/// One time: its sets, and what is found there. `ant` is what is asked, `con` what is to follow.
+/// One time: its sets, and what is found there. `ant` is what is asked, `con` what is to follow; the frame keeps the time
+/// for the next.
 pub fn turn<N: Nodes>(
     alloc: Global,
     ops: &Ops,
@@ -80,12 +82,15 @@ pub fn turn<N: Nodes>(
     ant: &[Cut],
     con: &[Cut],
     before: &Turned,
+    frame: &mut Frame,
 ) -> Result<Turned, OpFault>
     requires rows { rows.now.covers ≡ map rows_of net.now.raw.covers }
     requires ant { All (IsCutOf (N.store nodes.old) net.now.raw) ant.now }
     requires con { All (IsCutOf (N.store nodes.old) net.now.raw) con.now }
     requires before { AreTurnedRefs (N.store nodes.old) net.now.raw before.now }
-    ensures { (ls : List SymbolicSet) (ds es : List SymbolicCut)
+    requires frame { IsFrame (N.store nodes.old) net.now.raw frame.old }
+    ensures frame { OnOk result (IsFrame (N.store nodes.new) net.now.raw frame.new) }
+    ensures built { (ls : List SymbolicSet) (ds es : List SymbolicCut)
         (sets : ℕ → SymbolicSet) (c f h : Function)
         → AllZip (AreRails (N.store nodes.old)) ls before.now.next
         → AllZip (IsCutBy (N.store nodes.old)) ds ant.now
@@ -96,7 +101,16 @@ pub fn turn<N: Nodes>(
         → Built (turned_work net.now.raw ls ds es sets c f h) (IsTurned net.now.raw es sets c f h)
         (N.store nodes.old) (N.store nodes.new) result }
 {
-    let made = step(alloc, ops, nodes, net, rows, before.next.as_slice(), ant)?;
+    let made = advance(
+        alloc,
+        ops,
+        nodes,
+        net,
+        rows,
+        before.next.as_slice(),
+        ant,
+        frame,
+    )?;
     let contradictory = either(ops, nodes, before.contradictory, made.contradictory)?;
     let found = find_all(ops, nodes, made.nets.as_slice(), con, before.found)?;
     Ok(Turned {

@@ -1,7 +1,7 @@
 //! The program `step_bench`: times the step of a net of two-input gates, over the plain store.
 //! `step_bench MIX GATES VARS STEPS`, where MIX is `and` or `mixed`, prints the nets and the nodes made, and to
-//! the error output the time of a first step, and that of a step among so many more. VARS, at most 8, is how many
-//! of the free nets have a variable.
+//! the error output the time of a first step, that of a step among so many more, and that of a step of which nothing
+//! has changed since the step before. VARS, at most 8, is how many of the free nets have a variable.
 #![tactic(auto)]
 
 mod nets;
@@ -17,7 +17,7 @@ use std::alloc::Global;
 use std::time::Instant;
 use std::{env, io};
 use ste_base::NodeId;
-use sym_step::{Cut, GateRows, step};
+use sym_step::{Cut, Frame, GateRows, advance, step};
 
 /// What is asked: a variable on each of the first nets.
 fn cuts<N: Nodes>(
@@ -71,12 +71,35 @@ fn steps<N: Nodes>(
     Ok(())
 }
 
-/// What was measured: nodes made, and nanoseconds of the first step and of the others.
+/// So many steps, each from what was kept of the step before.
+fn kept_steps<N: Nodes>(
+    alloc: Global,
+    ops: &Ops,
+    nodes: &mut N,
+    net: &Net,
+    rows: &GateRows,
+    cuts: &[Cut],
+    count: u32,
+) -> Result<(), OpFault>
+    requires rows { rows.now.covers ≡ map rows_of net.now.raw.covers }
+    requires latches { net.now.raw.latches ≡ [] }
+    requires cuts { All (IsCutOf (N.store nodes.old) net.now.raw) cuts.now }
+    ensures { All (IsCutOf (N.store nodes.new) net.now.raw) cuts.now }
+{
+    let mut frame = Frame::blank(alloc, net)?;
+    for _ in 0..count {
+        advance(alloc, ops, nodes, net, rows, &[], cuts, &mut frame)?;
+    }
+    Ok(())
+}
+
+/// What was measured: nodes made, and nanoseconds of the first step, of the others, and of those with what was kept.
 #[derive(Clone, Copy, Drop)]
 struct Figures {
     used: u32,
     first: u64,
     others: u64,
+    kept: u64,
 }
 
 fn nanos(rt: &HostRuntime, start: Instant) -> io::Result<u64> {
@@ -118,10 +141,16 @@ fn measure(
         return Ok(None);
     }
     let others = nanos(rt, start)?;
+    let start = Instant::now(rt)?;
+    if kept_steps(alloc, &ops, &mut nodes, &net, &rows, &cuts, count).is_err() {
+        return Ok(None);
+    }
+    let kept = nanos(rt, start)?;
     Ok(Some(Figures {
         used: nodes.used(),
         first,
         others,
+        kept,
     }))
 }
 
@@ -158,5 +187,7 @@ fn main(rt: HostRuntime) -> io::Result<()> {
     let first = found.first;
     let each = found.others.checked_div(count as u64).unwrap_or(0);
     let net = each.checked_div(nets as u64).unwrap_or(0);
-    eprintln!(rt; "{form}: first step {first} ns, then {each} ns a step, {net} ns a net")
+    eprintln!(rt; "{form}: first step {first} ns, then {each} ns a step, {net} ns a net")?;
+    let kept = found.kept.checked_div(count as u64).unwrap_or(0);
+    eprintln!(rt; "{form}: {kept} ns a step of which nothing has changed")
 }

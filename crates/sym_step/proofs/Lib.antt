@@ -13,3 +13,5 @@ pub mod Pairs
 pub mod Summing
 pub mod RowSums
 pub mod Whole
+pub mod Framing
+pub mod Opened

@@ -75,3 +75,15 @@ input_here s sets nets inputs k id r inside lt is_id is_r h =
 
 pub set_here : (sets : ℕ → SymbolicSet) (inputs : List NodeId) (k : ℕ) (id : NodeId) → k < length inputs → get_or inputs k id ≡ id → get_or (sets_at sets inputs) k everything ≡ sets id.0
 set_here sets inputs k id lt is = get_or-map (λ (input : NodeId). sets input.0) inputs k id everything lt ∙ ap (λ (x : NodeId). sets x.0) is
+
+-- references whose rails are those of a set have it
+pub net_by_rails : (s : Store) (w : SymbolicSet) (r : NetRails) (rails : Rails) → r.can0 ≡ rails.can0 → r.can1 ≡ rails.can1 → AreNetRefs s r → AreRails s w rails → AreNetRails s w r
+net_by_rails s w r rails zero one h m =
+    let z : Means s w.zero r.can0 = subst (Means s w.zero) (sym zero) m.zero in
+    let o : Means s w.one r.can1 = subst (Means s w.one) (sym one) m.one in
+    record {
+      zero = z;
+      one = o;
+      some = record { ref = h.some.ref; value = λ bits l. h.some.value bits l ∙ ap (λ x. x || function s r.can1 bits) (z.value bits l) ∙ ap (λ x. w.zero bits || x) (o.value bits l) };
+      known = λ yes bits l. sym (z.value bits l) ∙ h.known yes bits l ∙ ap not (o.value bits l);
+    }

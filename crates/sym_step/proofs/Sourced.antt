@@ -1,17 +1,17 @@
 -- The nets that no gate drives get their sets.
-use Rattle.sym_step.specs.private.Parts.{IsSource, HaveSources, HaveGates, HaveNets, asks}
+use Rattle.sym_step.specs.private.Parts.{HaveSources, HaveGates, HaveNets, asks}
 use Rattle.sym_step.specs.declared.net_rails.NetRails.{NetRails}
 use Rattle.sym_step.specs.private.NetSets.{AreNetRails, AreNetRefs, net_at}
-use Rattle.sym_step.proofs.NetRefs.{Net-keeps, refs_of_net}
+use Rattle.sym_step.proofs.NetRefs.{refs_of_net}
 use Rattle.std.proofs.lemmas.List.{get_or-map, length-map}
-use Rattle.std.proofs.Common.{◌≡◌, false, ℕ, zero, suc, ◌+◌, ◌<◌, List, [], ◌∷◌, ◌++◌, length, map, get_or, set, replicate, sym, ◌∙◌, ap, subst, arith, inl, inr, All, get_or-set_same, get_or-set_other}
-use Rattle.std.proofs.lemmas.Bool.{cases_eq, false≢true}
+use Rattle.std.proofs.Common.{◌≡◌, false, ℕ, zero, suc, ◌<◌, List, [], ◌∷◌, ◌++◌, length, map, get_or, replicate, sym, ◌∙◌, ap, subst, arith, All}
+use Rattle.std.proofs.lemmas.Bool.{false≢true}
 use Rattle.std.proofs.lemmas.List.{get_or_default}
 use Rattle.std.proofs.lemmas.List.Elements.{All-nil, All-cons, All-head, All-tail, Contains-append_left, Contains-append_right}
 use Rattle.net_core.specs.declared.raw.Latch.{Latch}
 use Rattle.sym_step.specs.declared.made.Step.{Step}
 use Rattle.std.specs.List.{AllZip}
-use Rattle.dd_nodes.specs.Stores.{Store, Keeps, Means}
+use Rattle.dd_nodes.specs.Stores.{Store, Means}
 use Rattle.dd_nodes.proofs.Stores.{IsGood}
 use Rattle.net_core.specs.declared.raw.Gate.{Gate}
 use Rattle.net_core.specs.declared.raw.RawNet.{RawNet}
@@ -19,16 +19,15 @@ use Rattle.net_core.specs.declared.source.Source.{Source}
 use Rattle.net_core.specs.declared.source.Source.TheVariants.{Gate as OfGate}
 use Rattle.net_core.specs.Flat.{IsInRange, HasOneDriver, IsSettledOrder}
 use Rattle.net_core.specs.Source.{source_of}
-use Rattle.net_core.specs.Work.{SymbolicSet, SymbolicCut, after_cuts, uncut, by_source, everything, cuts_work, time_work, gates_work, first_sets, some_bit, no_bit, some_empty, sums}
+use Rattle.net_core.specs.Work.{SymbolicSet, SymbolicCut, uncut, by_source, everything, cuts_work, time_work, gates_work, first_sets, some_bit, no_bit, some_empty, sums}
 use Rattle.net_core.proofs.Ordered.{place_of}
 use Rattle.dual_rail.specs.declared.rails.Rails.{Rails}
 use Rattle.dual_rail.specs.Rail.{AreRails}
 use Rattle.dual_rail.proofs.Works.{Within}
 use Rattle.dd_nodes.proofs.Spending.{one_means}
 use Rattle.sym_step.specs.Step.{IsStep, HaveSets, rails_at}
-use Rattle.net_core.specs.Work.{ArePossibleEach}
-use Rattle.net_core.proofs.OneTime.{Facts, facts, fixed}
-use Rattle.sym_step.proofs.Turning.{Net-same, length-first_sets, first_sets-at}
+use Rattle.net_core.proofs.OneTime.{Facts, facts}
+use Rattle.sym_step.proofs.Turning.{length-first_sets, first_sets-at}
 
 abbrev pub unknown : NetRails
 unknown = record { can0 = record { 0 = 1 }; can1 = record { 0 = 1 }; some = record { 0 = 1 }; known = false }
@@ -51,17 +50,6 @@ known net one id src e = subst (Facts net id) (sym e) (facts net one id)
 
 pub before_by : (net : RawNet) (ls : List SymbolicSet) (sets : ℕ → SymbolicSet) (id : ℕ) (src : Source) → src ≡ source_of net id → uncut net ls sets id ≡ by_source net ls sets src
 before_by net ls sets id src e = ap (by_source net ls sets) (sym e)
-
--- one net more
-pub sourced : (net : RawNet) (range : IsInRange net) (one : HasOneDriver net) (ls : List SymbolicSet) (ds : List SymbolicCut) (sets : ℕ → SymbolicSet) (long : length ls ≡ length net.latches)
-    (s t u : Store) (nets : List NetRails) (id : ℕ) (r : NetRails) → IsGood t → IsGood u → Keeps s u → Keeps t u → length nets ≡ net.nets → id < net.nets → ArePossibleEach s.vars net ls (asks ds) sets
-    → HaveSources net sets t id nets → (IsSource net id → AreNetRails u (after_cuts ds (uncut net ls sets) id) r) → HaveSources net sets u (id + 1) (set nets id r)
-sourced net range one ls ds sets long s t u nets id r gt gu ksu ktu size inside family have made k lt source = elim (cases_eq k id) [
-  | inl same ↦
-      let right : AreNetRails u (sets id) r = Net-same u (after_cuts ds (uncut net ls sets) id) (sets id) r (λ bits l. fixed net s.vars ls (asks ds) sets bits range one long family (l ∙ ksu.vars) id) (made (subst (IsSource net) same source)) in
-      subst (λ (i : ℕ). AreNetRails u (sets i) (net_at (set nets id r) i)) (sym same) (subst (AreNetRails u (sets id)) (sym (get_or-set_same nets id r unknown (omega (arith, size, inside)))) right)
-  | inr other ↦ subst (AreNetRails u (sets k)) (sym (get_or-set_other nets id k r unknown other)) (Net-keeps t u (sets k) (net_at nets k) gt gu ktu (have k (omega (arith, other)) source))
-]
 
 -- before any gate is placed
 pub to_gates : (net : RawNet) (order : List ℕ) (sets : ℕ → SymbolicSet) (t : Store) (rails : List NetRails) → HasOneDriver net → IsSettledOrder net order → HaveSources net sets t net.nets rails → HaveGates net order sets t 0 rails

@@ -20,7 +20,7 @@ use Rattle.net_core.specs.Flat.{IsInRange, HasOneDriver, IsSettledOrder}
 use Rattle.net_core.specs.Source.{source_of}
 use Rattle.net_core.specs.Work.{SymbolicSet, SymbolicCut, set_at, after_cuts, by_source, by_gate, uncut, cover_work, cuts_work, gates_work, output_set, input_sets, time_work, first_sets, some_bit, no_bit, sums}
 use Rattle.sym_step.specs.declared.net_rails.NetRails.{NetRails}
-use Rattle.sym_step.specs.private.NetSets.{AreNetRails, AreNetRefs, HasNetSet, net_at}
+use Rattle.sym_step.specs.private.NetSets.{AreNetRails, AreNetRefs, net_at}
 use Rattle.sym_step.proofs.NetRefs.{Net-keeps}
 use Rattle.dd_nodes.specs.Spending.{Has}
 use Rattle.dd_nodes.proofs.Spending.{Covers}
@@ -30,7 +30,7 @@ use Rattle.dual_rail.proofs.Works.{Built-covers, within_covers}
 use Rattle.std.specs.Prelude.{◌||◌, not}
 use Rattle.std.proofs.lemmas.List.{length-append, get_or_push}
 use Rattle.std.proofs.Math.ListN.{get_or-append}
-use Rattle.dual_rail.specs.Rail.{Built}
+use Rattle.dual_rail.specs.Rail.{Built, Whatever}
 use Rattle.dual_rail.proofs.Works.{SoFar}
 use Rattle.dual_rail.proofs.Works.{Within, last}
 use Rattle.sym_step.specs.declared.cut.Cut.{Cut}
@@ -82,7 +82,7 @@ module _ (net : RawNet) (order : List ℕ) (range : IsInRange net) (one : HasOne
   before = uncut net ls sets
 
   -- the set before cuts at a gate's output
-  before_is : (k : ℕ) (gate : Gate) → k < length net.gates → gate ≡ get_or net.gates k gate → before gate.output.0 ≡ output_set net sets gate
+  pub before_is : (k : ℕ) (gate : Gate) → k < length net.gates → gate ≡ get_or net.gates k gate → before gate.output.0 ≡ output_set net sets gate
   before_is k gate lt is =
       let source : source_of net gate.output.0 ≡ OfGate k = ap (λ (x : Gate). source_of net x.output.0) is ∙ gate_source net one k gate lt in
       ap (by_source net ls sets) source ∙ ap (by_gate net sets) (slice_get-get_or net.gates k gate lt) ∙ ap (output_set net sets) (sym is)
@@ -122,25 +122,30 @@ module _ (net : RawNet) (order : List ℕ) (range : IsInRange net) (one : HasOne
       (λ (later : Contains part f). within_covers v part work within f later)
       (Contains-cons_cases (some_bit (after_cuts ds before id)) part f has)
 
-  -- one gate more has its set
-  pub place_turn : (s t u : Store) (cuts : List Cut) (nets : List NetRails) (n number : ℕ) (gate : Gate) (result : Result NetRails OpFault) → IsGood s → IsGood t → IsGood u
-      → ArePossibleEach s.vars net ls (asks ds) sets → AllZip (IsCutBy s) ds cuts → SoFar work s t → HaveGates net order sets t n nets
-      → n < length order → number ≡ get_or order n 0 → gate ≡ get_or net.gates number gate
-      → ((bs : List SymbolicCut) (b ws : ℕ → SymbolicSet) → AllZip (IsCutBy t) bs cuts → All (λ input. AreNetRails t (ws input.0) (net_at nets input.0)) gate.inputs → b gate.output.0 ≡ output_set net ws gate
-      → Built (some_bit (after_cuts bs b gate.output.0) ∷ (cover_work (slice_get net.covers gate.cover) (input_sets ws gate) ++ cuts_work bs b)) (HasNetSet (after_cuts bs b gate.output.0)) t u result)
-      → Built work (HasNetSet (after_cuts ds before gate.output.0)) s u result
-  place_turn s t u cuts nets n number gate result gs gt gu family zip so have lt at_n is call =
+  -- the inputs of the next gate have their sets
+  pub ready : (t : Store) (nets : List NetRails) (n number : ℕ) (gate : Gate) → HaveGates net order sets t n nets → n < length order → number ≡ get_or order n 0 → gate ≡ get_or net.gates number gate
+      → All (λ input. AreNetRails t (sets input.0) (net_at nets input.0)) gate.inputs
+  ready t nets n number gate have lt at_n is i d li =
       let known : number < length net.gates = rw at_n (is_order.gates n 0 lt) in
-      let ready : All (λ input. AreNetRails t (sets input.0) (net_at nets input.0)) gate.inputs = λ i d li.
       have (get_or gate.inputs i d).0 (subst (λ (x : Gate). All (λ input. input.0 < net.nets) x.inputs) (sym is) (range.gate_inputs number gate known) i d li)
       (λ k e le l same.
       let same_gate : get_or net.gates (get_or order n 0) e ≡ gate = ap (λ (j : ℕ). get_or net.gates j e) (sym at_n) ∙ get_or_default net.gates number e gate known ∙ sym is in
-      subst (λ (x : Gate). All (λ input. input.0 ≢ (get_or net.gates (get_or order k 0) e).output.0) x.inputs) same_gate (is_order.behind n k e le l) i d li (sym same)) in
-      last work (HasNetSet (after_cuts ds before gate.output.0)) s t u result gt gu so
-      (Built-covers work (some_bit (after_cuts ds before gate.output.0) ∷ (cover_work (slice_get net.covers gate.cover) (input_sets sets gate) ++ cuts_work ds before)) (HasNetSet (after_cuts ds before gate.output.0)) t u result
+      subst (λ (x : Gate). All (λ input. input.0 ≢ (get_or net.gates (get_or order k 0) e).output.0) x.inputs) same_gate (is_order.behind n k e le l) i d li (sym same))
+
+  -- one gate more has its set
+  pub place_turn : {A : Type 0} (s t u : Store) (cuts : List Cut) (nets : List NetRails) (n number : ℕ) (gate : Gate) (result : Result A OpFault) → IsGood s → IsGood t → IsGood u
+      → ArePossibleEach s.vars net ls (asks ds) sets → AllZip (IsCutBy s) ds cuts → SoFar work s t → HaveGates net order sets t n nets
+      → n < length order → number ≡ get_or order n 0 → gate ≡ get_or net.gates number gate
+      → ((bs : List SymbolicCut) (b ws : ℕ → SymbolicSet) → AllZip (IsCutBy t) bs cuts → All (λ input. AreNetRails t (ws input.0) (net_at nets input.0)) gate.inputs → b gate.output.0 ≡ output_set net ws gate
+      → Built (some_bit (after_cuts bs b gate.output.0) ∷ (cover_work (slice_get net.covers gate.cover) (input_sets ws gate) ++ cuts_work bs b)) Whatever t u result)
+      → Built work Whatever s u result
+  place_turn s t u cuts nets n number gate result gs gt gu family zip so have lt at_n is call =
+      let known : number < length net.gates = rw at_n (is_order.gates n 0 lt) in
+      last work Whatever s t u result gt gu so
+      (Built-covers work (some_bit (after_cuts ds before gate.output.0) ∷ (cover_work (slice_get net.covers gate.cover) (input_sets sets gate) ++ cuts_work ds before)) Whatever t u result
       (with_some t.vars gate.output.0 (cover_work (slice_get net.covers gate.cover) (input_sets sets gate) ++ cuts_work ds before) (subst (λ v. ArePossibleEach v net ls (asks ds) sets) (sym so.keeps.vars) family)
       (subst (λ (x : Gate). x.output.0 < net.nets) (sym is) (range.gate_outputs number gate known)) (gate_within number gate known is))
-      (call ds before sets (Demands-keep s t ds cuts gs gt so.keeps zip) ready (before_is number gate known is)))
+      (call ds before sets (Demands-keep s t ds cuts gs gt so.keeps zip) (ready t nets n number gate have lt at_n is) (before_is number gate known is)))
 
   -- and the others keep theirs
   pub placed : (s t u : Store) (nets : List NetRails) (n number : ℕ) (gate : Gate) (r : NetRails) → IsGood t → IsGood u → Keeps s u → Keeps t u → length nets ≡ net.nets

@@ -240,7 +240,8 @@ fn by_list<N: Nodes>(
     Ok(Rails { can0, can1 })
 }
 
-/// The set that a gate gives, where each input has exactly one bit everywhere.
+/// The set that a gate gives, where each input has exactly one bit everywhere. One input's rails are at hand, so that
+/// nothing is called for a buffer or an inverter.
 fn by_shorter<N: Nodes>(
     ops: &Ops,
     nodes: &mut N,
@@ -266,6 +267,9 @@ fn by_shorter<N: Nodes>(
         (HasSet (gate_set rows.now.on.list rows.now.off.list (sets_at sets inputs.now)))
         (N.store nodes.old) (N.store nodes.new) result }
 {
+    if inputs.len() == 1 {
+        return by_rows(ops, nodes, rows, products, nets, inputs);
+    }
     if size(&rows.on) <= size(&rows.off) {
         return by_list(ops, nodes, &rows.on, products, nets, inputs);
     }

@@ -5,6 +5,7 @@
 pub mod cut;
 mod cuts;
 mod flagged;
+pub mod frame;
 mod gates;
 pub mod laws;
 pub mod made;
@@ -19,8 +20,9 @@ mod sums;
 pub mod time;
 
 pub use cut::Cut;
+pub use frame::Frame;
 pub use made::Step;
 pub use piece::Piece;
 pub use row_list::RowList;
 pub use rows::{CoverRows, GateRows};
-pub use time::step;
+pub use time::{advance, step};

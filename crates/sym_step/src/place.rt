@@ -1,6 +1,6 @@
 //! The sets of the gates' outputs, in settled order; begin with `place_gates`.
 
-ghost use Rattle.std.specs.Prelude.{◌≡◌, ◌<◌, ◌∷◌, ◌++◌, [], true, ℕ, List, All, IsTrue, OnOk, Some, length, map, slice_get};
+ghost use Rattle.std.specs.Prelude.{◌≡◌, ◌<◌, ◌∷◌, ◌++◌, [], false, true, ℕ, List, All, IsTrue, OnOk, Some, length, map, set, slice_get};
 ghost use Rattle.std.specs.List.{AllZip};
 ghost use Rattle.dd_nodes.specs.Stores.{IsRef};
 ghost use Rattle.net_core.specs.declared.cover.Cover.{Cover};
@@ -9,12 +9,14 @@ ghost use Rattle.net_core.specs.Cover.{IsCover};
 ghost use Rattle.net_core.specs.Work.{ArePossibleEach, SymbolicSet, SymbolicCut, after_cuts, cover_work, cuts_work, gate_set, gate_work, output_set, input_sets, some_bit, time_work};
 ghost use Rattle.dual_rail.specs.Rail.{Built, HasSet, Whatever};
 ghost use Rattle.sym_step.specs.Step.{IsCutBy, rows_of};
-ghost use Rattle.sym_step.specs.private.NetSets.{AreNetRefs, HasNetSet, HaveInputs, net_at, sets_at};
+ghost use Rattle.sym_step.specs.private.Frames.{AreKept, AreNoted, IsKept, flag_at};
+ghost use Rattle.sym_step.specs.private.NetSets.{AreNetRails, AreNetRefs, HasNetSet, HaveInputs, net_at, sets_at};
 ghost use Rattle.sym_step.specs.private.Parts.{AreMarks, HaveGates, asks};
 ghost use Rattle.sym_step.specs.private.Refused.{is_rising};
 
 use crate::cut::Cut;
 use crate::cuts::cut_full;
+use crate::frame::{are_unchanged, put};
 use crate::gates::{Filling, filling_of, gate_at};
 use crate::net_rails::NetRails;
 use crate::one_row::{by_row, only_rising};
@@ -144,7 +146,86 @@ fn place<N: Nodes>(
     cut_full(ops, nodes, cuts, marks, g.output.0, given, full, known)
 }
 
-/// Gives the gates' outputs their sets, one after another.
+/// Whether a gate's output keeps the set of the time before: neither it nor an input has another, and it is not cut now
+/// and was not then.
+fn is_kept(marks: &[bool], cut: &[bool], changed: &[bool], g: &Gate) -> bool
+    requires output { g.now.output.0 < length marks.now }
+    requires marked { length cut.now ≡ length marks.now }
+    requires changed { length changed.now ≡ length marks.now }
+    requires inputs { All (λ input. input.0 < length changed.now) g.now.inputs }
+    ensures mark { IsTrue result → flag_at marks.now g.now.output.0 ≡ false }
+    ensures cut { IsTrue result → flag_at cut.now g.now.output.0 ≡ false }
+    ensures output { IsTrue result → flag_at changed.now g.now.output.0 ≡ false }
+    ensures inputs { IsTrue result
+        → All (λ input. flag_at changed.now input.0 ≡ false) g.now.inputs }
+{
+    let out = g.output.0 as usize;
+    if marks[out] || cut[out] || changed[out] {
+        return false;
+    }
+    are_unchanged(changed, g.inputs.as_slice())
+}
+
+/// Gives a gate's output its set, where its inputs have these sets; nothing is called where it keeps that of before.
+fn renew<N: Nodes>(
+    ops: &Ops,
+    nodes: &mut N,
+    net: &Net,
+    rows: &GateRows,
+    cuts: &[Cut],
+    marks: &[bool],
+    products: &mut [Ref],
+    cut: &[bool],
+    nets: &mut [NetRails],
+    changed: &mut [bool],
+    g: &Gate,
+) -> Result<(), OpFault>
+    requires width { (cover : Cover) → slice_get net.now.raw.covers g.now.cover ≡ Some cover
+        → cover.inputs ≡ length g.now.inputs }
+    requires cover { g.now.cover < length net.now.raw.covers }
+    requires output { g.now.output.0 < length nets.old }
+    requires room { length g.now.inputs < length products.old }
+    requires inside { All (λ input. input.0 < length nets.old) g.now.inputs }
+    requires refs { All (AreNetRefs (N.store nodes.old)) nets.old }
+    requires rows { rows.now.covers ≡ map rows_of net.now.raw.covers }
+    requires guards { All (λ c. IsRef (N.store nodes.old) c.guard) cuts.now }
+    requires values { All (λ c. IsRef (N.store nodes.old) c.value) cuts.now }
+    requires marks { AreMarks cuts.now marks.now }
+    requires marked { length marks.now ≡ length nets.old }
+    requires cut { length cut.now ≡ length nets.old }
+    requires changed { length changed.old ≡ length nets.old }
+    requires kept { IsKept (N.store nodes.old) net.now.raw cut.now changed.old nets.old g.now }
+    ensures room { length products.new ≡ length products.old }
+    ensures nets { OnOk result (nets.new
+        ≡ set nets.old g.now.output.0 (net_at nets.new g.now.output.0)) }
+    ensures changed { OnOk result (length changed.new ≡ length changed.old) }
+    ensures noted { OnOk result (AreNoted changed.old nets.old changed.new nets.new) }
+    ensures built { (ds : List SymbolicCut) (before sets : ℕ → SymbolicSet)
+        → AllZip (IsCutBy (N.store nodes.old)) ds cuts.now
+        → HaveInputs (N.store nodes.old) sets nets.old g.now.inputs
+        → before g.now.output.0 ≡ output_set net.now.raw sets g.now
+        → Built (some_bit (after_cuts ds before g.now.output.0)
+        ∷ (cover_work (slice_get net.now.raw.covers g.now.cover) (input_sets sets g.now)
+        ++ cuts_work ds before)) Whatever
+        (N.store nodes.old) (N.store nodes.new) result }
+    ensures have { OnOk result (
+        (ds : List SymbolicCut) (before sets : ℕ → SymbolicSet)
+        → AllZip (IsCutBy (N.store nodes.old)) ds cuts.now
+        → HaveInputs (N.store nodes.old) sets nets.old g.now.inputs
+        → before g.now.output.0 ≡ output_set net.now.raw sets g.now
+        → AreNetRails (N.store nodes.new) (after_cuts ds before g.now.output.0)
+        (net_at nets.new g.now.output.0)) }
+{
+    if is_kept(marks, cut, changed, g) {
+        return Ok(());
+    }
+    let r = place(ops, nodes, net, rows, cuts, marks, products, nets, g)?;
+    put(nets, changed, g.output.0, r);
+    Ok(())
+}
+
+/// Gives the gates' outputs their sets, one after another. `cut` has a mark at each net that was cut at the time before,
+/// and `changed` at each that has another set than then.
 pub fn place_gates<N: Nodes>(
     ops: &Ops,
     nodes: &mut N,
@@ -153,23 +234,29 @@ pub fn place_gates<N: Nodes>(
     cuts: &[Cut],
     marks: &[bool],
     products: &mut [Ref],
-    nets: &mut Vec<NetRails>,
+    cut: &[bool],
+    nets: &mut [NetRails],
+    changed: &mut [bool],
 ) -> Result<(), OpFault>
-    requires long { length nets.old.items ≡ net.now.raw.nets }
+    requires long { length nets.old ≡ net.now.raw.nets }
     requires room { All (λ gate. length gate.inputs < length products.old) net.now.raw.gates }
-    requires refs { All (AreNetRefs (N.store nodes.old)) nets.old.items }
+    requires refs { All (AreNetRefs (N.store nodes.old)) nets.old }
     requires rows { rows.now.covers ≡ map rows_of net.now.raw.covers }
     requires guards { All (λ c. IsRef (N.store nodes.old) c.guard) cuts.now }
     requires values { All (λ c. IsRef (N.store nodes.old) c.value) cuts.now }
     requires marked { length marks.now ≡ net.now.raw.nets }
     requires marks { AreMarks cuts.now marks.now }
-    ensures long { OnOk result (length nets.new.items ≡ net.now.raw.nets) }
-    ensures refs { OnOk result (All (AreNetRefs (N.store nodes.new)) nets.new.items) }
+    requires cut { length cut.now ≡ net.now.raw.nets }
+    requires changed { length changed.old ≡ net.now.raw.nets }
+    requires kept { AreKept (N.store nodes.old) net.now.raw cut.now changed.old nets.old }
+    ensures room { OnOk result (length products.new ≡ length products.old) }
+    ensures long { OnOk result (length nets.new ≡ net.now.raw.nets) }
+    ensures refs { OnOk result (All (AreNetRefs (N.store nodes.new)) nets.new) }
     ensures built { (ls : List SymbolicSet) (ds : List SymbolicCut) (sets : ℕ → SymbolicSet)
         → length ls ≡ length net.now.raw.latches
         → ArePossibleEach (N.store nodes.old).vars net.now.raw ls (asks ds) sets
         → AllZip (IsCutBy (N.store nodes.old)) ds cuts.now
-        → HaveGates net.now.raw net.now.settled sets (N.store nodes.old) 0 nets.old.items
+        → HaveGates net.now.raw net.now.settled sets (N.store nodes.old) 0 nets.old
         → Built (time_work net.now.raw ls (asks ds) sets) Whatever
         (N.store nodes.old) (N.store nodes.new) result }
     ensures have { OnOk result (
@@ -177,14 +264,15 @@ pub fn place_gates<N: Nodes>(
         → length ls ≡ length net.now.raw.latches
         → ArePossibleEach (N.store nodes.old).vars net.now.raw ls (asks ds) sets
         → AllZip (IsCutBy (N.store nodes.old)) ds cuts.now
-        → HaveGates net.now.raw net.now.settled sets (N.store nodes.old) 0 nets.old.items
+        → HaveGates net.now.raw net.now.settled sets (N.store nodes.old) 0 nets.old
         → HaveGates net.now.raw net.now.settled sets (N.store nodes.new)
-        (length net.now.settled) nets.new.items) }
+        (length net.now.settled) nets.new) }
 {
     for number in net.settled() {
         let g = &net.gates()[*number as usize];
-        let r = place(ops, nodes, net, rows, cuts, marks, products, nets, g)?;
-        nets[g.output.0 as usize] = r;
+        renew(
+            ops, nodes, net, rows, cuts, marks, products, cut, nets, changed, g,
+        )?;
     }
     Ok(())
 }

@@ -1,88 +1,235 @@
 //! The sets of the nets that no gate drives; begin with `sources`.
 
-ghost use Rattle.std.specs.Prelude.{◌≡◌, ◌<◌, ◌∷◌, ℕ, List, All, IfOk, length};
+ghost use Rattle.std.specs.Prelude.{◌≡◌, ◌<◌, ◌∷◌, ℕ, List, All, OnOk, length, map};
 ghost use Rattle.std.specs.List.{AllZip};
 ghost use Rattle.dd_nodes.specs.Stores.{IsRef, Keeps};
 ghost use Rattle.net_core.specs.Work.{ArePossibleEach, SymbolicSet, SymbolicCut, after_cuts, cuts_work, some_bit, time_work, uncut};
-ghost use Rattle.dual_rail.specs.Rail.{AreRefs, AreRails, Built};
+ghost use Rattle.dual_rail.specs.Rail.{AreRefs, AreRails, Built, Whatever};
 ghost use Rattle.sym_step.specs.Step.{IsCutBy};
-ghost use Rattle.sym_step.specs.private.NetSets.{AreNetRefs};
-ghost use Rattle.sym_step.specs.private.Parts.{AreMarks, HasSource, HaveSources, asks};
+ghost use Rattle.sym_step.specs.private.Frames.{AreNoted, AreOpen, HaveLatches, HaveOpen, IsOpened, StayRight};
+ghost use Rattle.sym_step.specs.private.NetSets.{AreNetRefs, HasNetSet};
+ghost use Rattle.sym_step.specs.private.Parts.{AreMarks, HaveSources, asks};
 
 use crate::cut::Cut;
 use crate::cuts::cut_net;
+use crate::frame::put;
 use crate::net_rails::NetRails;
 use dd_nodes::Nodes;
 use dd_ops::{OpFault, Ops};
 use dual_rail::{Rails, free};
 use net_core::{Net, Source};
-use std::alloc::Global;
 use ste_base::NodeId;
 
-/// The set of a net behind its cuts, where no gate drives it. A gate's output is left free.
-fn source<N: Nodes>(
+/// The set of a latch's output behind its cuts, where the latch has the set `r`. Where its input had `r` at the time
+/// before, with where it had a bit, and no cut is of the output, nothing is called.
+fn latch_source<N: Nodes>(
+    ops: &Ops,
+    nodes: &mut N,
+    cuts: &[Cut],
+    marks: &[bool],
+    id: u32,
+    r: Rails,
+    given: NetRails,
+) -> Result<NetRails, OpFault>
+    requires rails { AreRefs (N.store nodes.old) r }
+    requires given { AreNetRefs (N.store nodes.old) given }
+    requires guards { All (λ c. IsRef (N.store nodes.old) c.guard) cuts.now }
+    requires values { All (λ c. IsRef (N.store nodes.old) c.value) cuts.now }
+    requires id { id < length marks.now }
+    requires marks { AreMarks cuts.now marks.now }
+    ensures { (ds : List SymbolicCut) (sets : ℕ → SymbolicSet)
+        → AllZip (IsCutBy (N.store nodes.old)) ds cuts.now
+        → AreRails (N.store nodes.old) (sets id) r
+        → Built (some_bit (after_cuts ds sets id) ∷ cuts_work ds sets)
+        (HasNetSet (after_cuts ds sets id))
+        (N.store nodes.old) (N.store nodes.new) result }
+{
+    if !marks[id as usize] && given.can0 == r.can0 && given.can1 == r.can1 {
+        return Ok(given);
+    }
+    cut_net(ops, nodes, cuts, marks, id, r)
+}
+
+/// Gives the latches' outputs their sets. `given` are the sets of the latches' inputs at the time before.
+fn latch_sources<N: Nodes>(
     ops: &Ops,
     nodes: &mut N,
     net: &Net,
     latches: &[Rails],
+    given: &[NetRails],
     cuts: &[Cut],
     marks: &[bool],
-    id: u32,
-) -> Result<NetRails, OpFault>
-    requires id { id < net.now.raw.nets }
+    nets: &mut [NetRails],
+    changed: &mut [bool],
+) -> Result<(), OpFault>
     requires long { length latches.now ≡ length net.now.raw.latches }
     requires latches { All (AreRefs (N.store nodes.old)) latches.now }
+    requires given_long { length given.now ≡ length net.now.raw.latches }
+    requires given { All (AreNetRefs (N.store nodes.old)) given.now }
     requires guards { All (λ c. IsRef (N.store nodes.old) c.guard) cuts.now }
     requires values { All (λ c. IsRef (N.store nodes.old) c.value) cuts.now }
     requires marked { length marks.now ≡ net.now.raw.nets }
     requires marks { AreMarks cuts.now marks.now }
-    ensures { (ls : List SymbolicSet) (ds : List SymbolicCut) (sets : ℕ → SymbolicSet)
+    requires nets { length nets.old ≡ net.now.raw.nets }
+    requires refs { All (AreNetRefs (N.store nodes.old)) nets.old }
+    requires changed { length changed.old ≡ net.now.raw.nets }
+    ensures keeps { OnOk result (Keeps (N.store nodes.old) (N.store nodes.new)) }
+    ensures long { OnOk result (length nets.new ≡ net.now.raw.nets) }
+    ensures refs { OnOk result (All (AreNetRefs (N.store nodes.new)) nets.new) }
+    ensures changed { OnOk result (length changed.new ≡ net.now.raw.nets) }
+    ensures noted { OnOk result (AreNoted changed.old nets.old changed.new nets.new) }
+    ensures built { (ls : List SymbolicSet) (ds : List SymbolicCut) (sets : ℕ → SymbolicSet)
         → AllZip (AreRails (N.store nodes.old)) ls latches.now
+        → ArePossibleEach (N.store nodes.old).vars net.now.raw ls (asks ds) sets
+        → AllZip (IsCutBy (N.store nodes.old)) ds cuts.now
+        → Built (time_work net.now.raw ls (asks ds) sets) Whatever
+        (N.store nodes.old) (N.store nodes.new) result }
+    ensures have { OnOk result (
+        (ls : List SymbolicSet) (ds : List SymbolicCut) (sets : ℕ → SymbolicSet)
+        → AllZip (AreRails (N.store nodes.old)) ls latches.now
+        → ArePossibleEach (N.store nodes.old).vars net.now.raw ls (asks ds) sets
+        → AllZip (IsCutBy (N.store nodes.old)) ds cuts.now
+        → HaveLatches net.now.raw sets (N.store nodes.new)
+        (length net.now.raw.latches) nets.new
+        × StayRight sets (N.store nodes.old) nets.old (N.store nodes.new) nets.new) }
+{
+    for l in 0..latches.len() {
+        let id = net.latches()[l].output.0;
+        let r = latch_source(ops, nodes, cuts, marks, id, latches[l], given[l])?;
+        put(nets, changed, id, r);
+    }
+    Ok(())
+}
+
+/// The set of a net behind its cuts, where nothing drives it. Any other net keeps the set that it has.
+fn open_source<N: Nodes>(
+    ops: &Ops,
+    nodes: &mut N,
+    net: &Net,
+    cuts: &[Cut],
+    marks: &[bool],
+    id: u32,
+    now: NetRails,
+) -> Result<NetRails, OpFault>
+    requires id { id < net.now.raw.nets }
+    requires guards { All (λ c. IsRef (N.store nodes.old) c.guard) cuts.now }
+    requires values { All (λ c. IsRef (N.store nodes.old) c.value) cuts.now }
+    requires marked { length marks.now ≡ net.now.raw.nets }
+    requires marks { AreMarks cuts.now marks.now }
+    requires now { AreNetRefs (N.store nodes.old) now }
+    ensures { (ls : List SymbolicSet) (ds : List SymbolicCut) (sets : ℕ → SymbolicSet)
         → AllZip (IsCutBy (N.store nodes.old)) ds cuts.now
         → Built (some_bit (after_cuts ds (uncut net.now.raw ls sets) id)
         ∷ cuts_work ds (uncut net.now.raw ls sets))
-        (HasSource net.now.raw (after_cuts ds (uncut net.now.raw ls sets)) id)
+        (IsOpened net.now.raw (after_cuts ds (uncut net.now.raw ls sets) id)
+        (N.store nodes.old) now id)
         (N.store nodes.old) (N.store nodes.new) result }
 {
     match net.source(NodeId(id)) {
-        Source::Gate(_) => Ok(NetRails::free()),
-        Source::Latch(l) => cut_net(ops, nodes, cuts, marks, id, latches[l as usize]),
+        Source::Gate(_) => Ok(now),
+        Source::Latch(_) => Ok(now),
         Source::Input => cut_net(ops, nodes, cuts, marks, id, free()),
         Source::Free => cut_net(ops, nodes, cuts, marks, id, free()),
     }
 }
 
-/// The sets of all nets that no gate drives.
-pub fn sources<N: Nodes>(
-    alloc: Global,
+/// Gives those of these nets that nothing drives their sets.
+fn open_sources<N: Nodes>(
     ops: &Ops,
     nodes: &mut N,
     net: &Net,
-    latches: &[Rails],
     cuts: &[Cut],
     marks: &[bool],
-) -> Result<Vec<NetRails>, OpFault>
-    requires long { length latches.now ≡ length net.now.raw.latches }
-    requires latches { All (AreRefs (N.store nodes.old)) latches.now }
+    ids: &[NodeId],
+    nets: &mut [NetRails],
+    changed: &mut [bool],
+) -> Result<(), OpFault>
     requires guards { All (λ c. IsRef (N.store nodes.old) c.guard) cuts.now }
     requires values { All (λ c. IsRef (N.store nodes.old) c.value) cuts.now }
     requires marked { length marks.now ≡ net.now.raw.nets }
     requires marks { AreMarks cuts.now marks.now }
-    ensures keeps { IfOk result (λ nets. Keeps (N.store nodes.old) (N.store nodes.new)) }
-    ensures long { IfOk result (λ nets. length nets.items ≡ net.now.raw.nets) }
-    ensures refs { IfOk result (λ nets. All (AreNetRefs (N.store nodes.new)) nets.items) }
+    requires ids { All (λ node. node.0 < net.now.raw.nets) ids.now }
+    requires nets { length nets.old ≡ net.now.raw.nets }
+    requires refs { All (AreNetRefs (N.store nodes.old)) nets.old }
+    requires changed { length changed.old ≡ net.now.raw.nets }
+    ensures keeps { OnOk result (Keeps (N.store nodes.old) (N.store nodes.new)) }
+    ensures long { OnOk result (length nets.new ≡ net.now.raw.nets) }
+    ensures refs { OnOk result (All (AreNetRefs (N.store nodes.new)) nets.new) }
+    ensures changed { OnOk result (length changed.new ≡ net.now.raw.nets) }
+    ensures noted { OnOk result (AreNoted changed.old nets.old changed.new nets.new) }
+    ensures built { (ls : List SymbolicSet) (ds : List SymbolicCut) (sets : ℕ → SymbolicSet)
+        → length ls ≡ length net.now.raw.latches
+        → ArePossibleEach (N.store nodes.old).vars net.now.raw ls (asks ds) sets
+        → AllZip (IsCutBy (N.store nodes.old)) ds cuts.now
+        → Built (time_work net.now.raw ls (asks ds) sets) Whatever
+        (N.store nodes.old) (N.store nodes.new) result }
+    ensures have { OnOk result (
+        (ls : List SymbolicSet) (ds : List SymbolicCut) (sets : ℕ → SymbolicSet)
+        → length ls ≡ length net.now.raw.latches
+        → ArePossibleEach (N.store nodes.old).vars net.now.raw ls (asks ds) sets
+        → AllZip (IsCutBy (N.store nodes.old)) ds cuts.now
+        → HaveOpen net.now.raw sets (N.store nodes.new) ids.now (length ids.now) nets.new
+        × StayRight sets (N.store nodes.old) nets.old (N.store nodes.new) nets.new) }
+{
+    for node in ids {
+        let id = node.0;
+        let now = nets[id as usize];
+        let r = open_source(ops, nodes, net, cuts, marks, id, now)?;
+        put(nets, changed, id, r);
+    }
+    Ok(())
+}
+
+/// Gives all nets that no gate drives their sets. `given` are the sets of the latches' inputs at the time before, `asked`
+/// are the nets that are cut now, and `before` those that were cut then; a net that nothing drives, and that is not among
+/// them, has both bits already.
+pub fn sources<N: Nodes>(
+    ops: &Ops,
+    nodes: &mut N,
+    net: &Net,
+    latches: &[Rails],
+    given: &[NetRails],
+    cuts: &[Cut],
+    marks: &[bool],
+    asked: &[NodeId],
+    before: &[NodeId],
+    nets: &mut [NetRails],
+    changed: &mut [bool],
+) -> Result<(), OpFault>
+    requires long { length latches.now ≡ length net.now.raw.latches }
+    requires latches { All (AreRefs (N.store nodes.old)) latches.now }
+    requires given_long { length given.now ≡ length net.now.raw.latches }
+    requires given { All (AreNetRefs (N.store nodes.old)) given.now }
+    requires guards { All (λ c. IsRef (N.store nodes.old) c.guard) cuts.now }
+    requires values { All (λ c. IsRef (N.store nodes.old) c.value) cuts.now }
+    requires marked { length marks.now ≡ net.now.raw.nets }
+    requires marks { AreMarks cuts.now marks.now }
+    requires asked { asked.now ≡ map (λ c. c.node) cuts.now }
+    requires inside { All (λ c. c.node.0 < net.now.raw.nets) cuts.now }
+    requires before { All (λ node. node.0 < net.now.raw.nets) before.now }
+    requires nets { length nets.old ≡ net.now.raw.nets }
+    requires refs { All (AreNetRefs (N.store nodes.old)) nets.old }
+    requires undriven { AreOpen (N.store nodes.old) net.now.raw before.now nets.old }
+    requires changed { length changed.old ≡ net.now.raw.nets }
+    ensures keeps { OnOk result (Keeps (N.store nodes.old) (N.store nodes.new)) }
+    ensures long { OnOk result (length nets.new ≡ net.now.raw.nets) }
+    ensures refs { OnOk result (All (AreNetRefs (N.store nodes.new)) nets.new) }
+    ensures changed { OnOk result (length changed.new ≡ net.now.raw.nets) }
+    ensures noted { OnOk result (AreNoted changed.old nets.old changed.new nets.new) }
     ensures built { (ls : List SymbolicSet) (ds : List SymbolicCut) (sets : ℕ → SymbolicSet)
         → AllZip (AreRails (N.store nodes.old)) ls latches.now
         → ArePossibleEach (N.store nodes.old).vars net.now.raw ls (asks ds) sets
         → AllZip (IsCutBy (N.store nodes.old)) ds cuts.now
-        → Built (time_work net.now.raw ls (asks ds) sets)
-        (λ t nets. HaveSources net.now.raw sets t net.now.raw.nets nets.items)
+        → Built (time_work net.now.raw ls (asks ds) sets) Whatever
         (N.store nodes.old) (N.store nodes.new) result }
+    ensures have { OnOk result (
+        (ls : List SymbolicSet) (ds : List SymbolicCut) (sets : ℕ → SymbolicSet)
+        → AllZip (AreRails (N.store nodes.old)) ls latches.now
+        → ArePossibleEach (N.store nodes.old).vars net.now.raw ls (asks ds) sets
+        → AllZip (IsCutBy (N.store nodes.old)) ds cuts.now
+        → HaveSources net.now.raw sets (N.store nodes.new) net.now.raw.nets nets.new) }
 {
-    let mut nets = vec![in alloc; NetRails::free(); net.nets() as usize]?;
-    for id in 0..net.nets() {
-        let r = source(ops, nodes, net, latches, cuts, marks, id)?;
-        nets[id as usize] = r;
-    }
-    Ok(nets)
+    latch_sources(ops, nodes, net, latches, given, cuts, marks, nets, changed)?;
+    open_sources(ops, nodes, net, cuts, marks, before, nets, changed)?;
+    open_sources(ops, nodes, net, cuts, marks, asked, nets, changed)
 }

@@ -1,17 +1,19 @@
 //! One step of a net; begin with `step`.
 
-ghost use Rattle.std.specs.Prelude.{◌≡◌, ◌<◌, ◌∷◌, ◌++◌, [], ◌≤◌, ℕ, List, All, IfOk, length, map};
+ghost use Rattle.std.specs.Prelude.{◌≡◌, ◌<◌, ◌∷◌, ◌++◌, [], ◌≤◌, ℕ, List, All, IfOk, OnOk, length, map};
 ghost use Rattle.std.specs.List.{AllZip};
 ghost use Rattle.dd_nodes.specs.Diagram.{Function};
 ghost use Rattle.dd_nodes.specs.Stores.{IsRef, Keeps, Means};
 ghost use Rattle.net_core.specs.Work.{ArePossibleEach, SymbolicSet, SymbolicAsked, disjunction, no_bit, some_bit, sum, sums, time_work};
-ghost use Rattle.dual_rail.specs.Rail.{AreRefs, AreRails, Built, HasFunction};
+ghost use Rattle.dual_rail.specs.Rail.{AreRefs, AreRails, Built, HasFunction, Whatever};
 ghost use Rattle.sym_step.specs.Step.{IsCutOf, IsCutBy, IsPossibleStep, IsStep, rails_at, rows_of};
+ghost use Rattle.sym_step.specs.private.Frames.{AreKept, AreOpen, IsFrame};
 ghost use Rattle.sym_step.specs.private.NetSets.{AreNetRails, AreNetRefs};
-ghost use Rattle.sym_step.specs.private.Parts.{HaveNets};
+ghost use Rattle.sym_step.specs.private.Parts.{AreMarks, HaveNets};
 
 use crate::cut::Cut;
 use crate::cuts::marked;
+use crate::frame::{Frame, asked_nets, latch_inputs};
 use crate::made::Step;
 use crate::net_rails::NetRails;
 use crate::place::place_gates;
@@ -20,9 +22,9 @@ use crate::source::sources;
 use dd_nodes::{Nodes, Ref};
 use dd_ops::{OpFault, Ops};
 use dual_rail::{Rails, either};
-use net_core::{Gate, Latch, Net};
+use net_core::{Latch, Net};
 use std::alloc::{AllocError, Global};
-use ste_base::Items;
+use ste_base::{Items, NodeId};
 
 /// The sum so far with where one more net is empty. `some` is where it has a bit; nothing is called where that is
 /// everywhere.
@@ -82,27 +84,6 @@ fn rails_of(alloc: Global, nets: &[NetRails]) -> Result<Items<Rails>, AllocError
     Ok(Items::from(rails))
 }
 
-/// The greatest number of inputs of a gate.
-fn widest(gates: &[Gate]) -> usize
-    ensures { All (λ gate. length gate.inputs ≤ result) gates.now }
-{
-    let mut most = 0;
-    for gate in gates {
-        most = most.max(gate.inputs.len());
-    }
-    most
-}
-
-/// Room for the products of the first literals of a row.
-fn room(alloc: Global, gates: &[Gate]) -> Result<Vec<Ref>, AllocError>
-    ensures { IfOk result (λ products.
-        All (λ gate. length gate.inputs < length products.items) gates.now) }
-{
-    let mut products = vec![in alloc; Ref::FALSE; widest(gates)]?;
-    products.push(Ref::FALSE)?;
-    Ok(products)
-}
-
 /// The step of these sets.
 fn finished(
     alloc: Global,
@@ -126,8 +107,70 @@ fn finished(
     })
 }
 
-/// The sets of all nets.
-fn nets_of<N: Nodes>(
+/// Gives all nets their sets: first those that no gate drives, and then the gates' outputs. `given` are the sets of the
+/// latches' inputs at the time before, `before` are the nets that were cut then, at which `cut` has marks; `changed` has a
+/// mark at each net that has another set than then.
+fn set_nets<N: Nodes>(
+    ops: &Ops,
+    nodes: &mut N,
+    net: &Net,
+    rows: &GateRows,
+    latches: &[Rails],
+    given: &[NetRails],
+    cuts: &[Cut],
+    marks: &[bool],
+    asked: &[NodeId],
+    before: &[NodeId],
+    products: &mut [Ref],
+    cut: &[bool],
+    nets: &mut [NetRails],
+    changed: &mut [bool],
+) -> Result<(), OpFault>
+    requires rows { rows.now.covers ≡ map rows_of net.now.raw.covers }
+    requires long { length latches.now ≡ length net.now.raw.latches }
+    requires latches { All (AreRefs (N.store nodes.old)) latches.now }
+    requires given_long { length given.now ≡ length net.now.raw.latches }
+    requires given { All (AreNetRefs (N.store nodes.old)) given.now }
+    requires guards { All (λ c. IsRef (N.store nodes.old) c.guard) cuts.now }
+    requires values { All (λ c. IsRef (N.store nodes.old) c.value) cuts.now }
+    requires marked { length marks.now ≡ net.now.raw.nets }
+    requires marks { AreMarks cuts.now marks.now }
+    requires asked { asked.now ≡ map (λ c. c.node) cuts.now }
+    requires inside { All (λ c. c.node.0 < net.now.raw.nets) cuts.now }
+    requires before { All (λ node. node.0 < net.now.raw.nets) before.now }
+    requires undriven { AreOpen (N.store nodes.old) net.now.raw before.now nets.old }
+    requires room { All (λ gate. length gate.inputs < length products.old) net.now.raw.gates }
+    requires cut { length cut.now ≡ net.now.raw.nets }
+    requires nets { length nets.old ≡ net.now.raw.nets }
+    requires refs { All (AreNetRefs (N.store nodes.old)) nets.old }
+    requires changed { length changed.old ≡ net.now.raw.nets }
+    requires kept { AreKept (N.store nodes.old) net.now.raw cut.now changed.old nets.old }
+    ensures room { OnOk result (length products.new ≡ length products.old) }
+    ensures long { OnOk result (length nets.new ≡ net.now.raw.nets) }
+    ensures refs { OnOk result (All (AreNetRefs (N.store nodes.new)) nets.new) }
+    ensures built { (ls : List SymbolicSet) (asked : SymbolicAsked) (sets : ℕ → SymbolicSet)
+        → AllZip (AreRails (N.store nodes.old)) ls latches.now
+        → AllZip (IsCutBy (N.store nodes.old)) asked.cuts cuts.now
+        → ArePossibleEach (N.store nodes.old).vars net.now.raw ls asked sets
+        → Built (time_work net.now.raw ls asked sets) Whatever
+        (N.store nodes.old) (N.store nodes.new) result }
+    ensures have { OnOk result (
+        (ls : List SymbolicSet) (asked : SymbolicAsked) (sets : ℕ → SymbolicSet)
+        → AllZip (AreRails (N.store nodes.old)) ls latches.now
+        → AllZip (IsCutBy (N.store nodes.old)) asked.cuts cuts.now
+        → ArePossibleEach (N.store nodes.old).vars net.now.raw ls asked sets
+        → HaveNets net.now.raw sets (N.store nodes.new) nets.new) }
+{
+    sources(
+        ops, nodes, net, latches, given, cuts, marks, asked, before, nets, changed,
+    )?;
+    place_gates(
+        ops, nodes, net, rows, cuts, marks, products, cut, nets, changed,
+    )
+}
+
+/// Gives all nets of a frame their sets.
+fn renew_frame<N: Nodes>(
     alloc: Global,
     ops: &Ops,
     nodes: &mut N,
@@ -135,35 +178,50 @@ fn nets_of<N: Nodes>(
     rows: &GateRows,
     latches: &[Rails],
     cuts: &[Cut],
-) -> Result<Vec<NetRails>, OpFault>
+    frame: &mut Frame,
+) -> Result<(), OpFault>
     requires rows { rows.now.covers ≡ map rows_of net.now.raw.covers }
     requires long { length latches.now ≡ length net.now.raw.latches }
     requires latches { All (AreRefs (N.store nodes.old)) latches.now }
     requires cuts { All (IsCutOf (N.store nodes.old) net.now.raw) cuts.now }
-    ensures long { IfOk result (λ nets. length nets.items ≡ net.now.raw.nets) }
-    ensures refs { IfOk result (λ nets. All (AreNetRefs (N.store nodes.new)) nets.items) }
+    requires frame { IsFrame (N.store nodes.old) net.now.raw frame.old }
+    ensures frame { OnOk result (IsFrame (N.store nodes.new) net.now.raw frame.new) }
     ensures built { (ls : List SymbolicSet) (asked : SymbolicAsked) (sets : ℕ → SymbolicSet)
         → AllZip (AreRails (N.store nodes.old)) ls latches.now
         → AllZip (IsCutBy (N.store nodes.old)) asked.cuts cuts.now
         → ArePossibleEach (N.store nodes.old).vars net.now.raw ls asked sets
-        → Built (time_work net.now.raw ls asked sets)
-        (λ t nets. HaveNets net.now.raw sets t nets.items)
+        → Built (time_work net.now.raw ls asked sets) Whatever
         (N.store nodes.old) (N.store nodes.new) result }
+    ensures have { OnOk result (
+        (ls : List SymbolicSet) (asked : SymbolicAsked) (sets : ℕ → SymbolicSet)
+        → AllZip (AreRails (N.store nodes.old)) ls latches.now
+        → AllZip (IsCutBy (N.store nodes.old)) asked.cuts cuts.now
+        → ArePossibleEach (N.store nodes.old).vars net.now.raw ls asked sets
+        → HaveNets net.now.raw sets (N.store nodes.new) frame.new.nets.items) }
 {
     let marks = marked(alloc, cuts, net.nets())?;
-    let mut products = room(alloc, net.gates())?;
-    let mut nets = sources(alloc, ops, nodes, net, latches, cuts, marks.as_slice())?;
-    place_gates(
+    let mut changed = vec![in alloc; false; net.nets() as usize]?;
+    let asked = asked_nets(alloc, cuts)?;
+    let given = latch_inputs(alloc, &frame.nets, net.latches())?;
+    set_nets(
         ops,
         nodes,
         net,
         rows,
+        latches,
+        &given,
         cuts,
-        marks.as_slice(),
-        products.as_mut_slice(),
-        &mut nets,
+        &marks,
+        &asked,
+        &frame.asked,
+        &mut frame.products,
+        &frame.cut,
+        &mut frame.nets,
+        &mut changed,
     )?;
-    Ok(nets)
+    frame.cut = marks;
+    frame.asked = asked;
+    Ok(())
 }
 
 /// The step, by the work functions of one time.
@@ -175,22 +233,60 @@ fn made_at<N: Nodes>(
     rows: &GateRows,
     latches: &[Rails],
     cuts: &[Cut],
+    frame: &mut Frame,
 ) -> Result<Step, OpFault>
     requires rows { rows.now.covers ≡ map rows_of net.now.raw.covers }
     requires long { length latches.now ≡ length net.now.raw.latches }
     requires latches { All (AreRefs (N.store nodes.old)) latches.now }
     requires cuts { All (IsCutOf (N.store nodes.old) net.now.raw) cuts.now }
-    ensures { (ls : List SymbolicSet) (asked : SymbolicAsked) (sets : ℕ → SymbolicSet)
+    requires frame { IsFrame (N.store nodes.old) net.now.raw frame.old }
+    ensures frame { OnOk result (IsFrame (N.store nodes.new) net.now.raw frame.new) }
+    ensures built { (ls : List SymbolicSet) (asked : SymbolicAsked) (sets : ℕ → SymbolicSet)
         → AllZip (AreRails (N.store nodes.old)) ls latches.now
         → AllZip (IsCutBy (N.store nodes.old)) asked.cuts cuts.now
         → ArePossibleEach (N.store nodes.old).vars net.now.raw ls asked sets
         → Built (time_work net.now.raw ls asked sets) (IsStep net.now.raw sets)
         (N.store nodes.old) (N.store nodes.new) result }
 {
-    let nets = nets_of(alloc, ops, nodes, net, rows, latches, cuts)?;
-    let contradictory = some_empty(ops, nodes, nets.as_slice())?;
-    let made = finished(alloc, net, nets.as_slice(), contradictory)?;
+    renew_frame(alloc, ops, nodes, net, rows, latches, cuts, frame)?;
+    let contradictory = some_empty(ops, nodes, frame.nets.as_slice())?;
+    let made = finished(alloc, net, frame.nets.as_slice(), contradictory)?;
     Ok(made)
+}
+
+/// The possible sets of one time for every assignment at once, where some set is empty, and the next latch sets, from
+/// what was kept of the time before; the frame then keeps this time. `rows` are those of the net, `latches` are the
+/// latches' sets, `cuts` is what is asked. `StepsOut` comes only where all steps are spent and a node of the work
+/// functions of this time is not held; after any error what was held stays, and the frame is not to be used.
+pub fn advance<N: Nodes>(
+    alloc: Global,
+    ops: &Ops,
+    nodes: &mut N,
+    net: &Net,
+    rows: &GateRows,
+    latches: &[Rails],
+    cuts: &[Cut],
+    frame: &mut Frame,
+) -> Result<Step, OpFault>
+    requires rows { rows.now.covers ≡ map rows_of net.now.raw.covers }
+    requires long { length latches.now ≡ length net.now.raw.latches }
+    requires latches { All (AreRefs (N.store nodes.old)) latches.now }
+    requires cuts { All (IsCutOf (N.store nodes.old) net.now.raw) cuts.now }
+    requires frame { IsFrame (N.store nodes.old) net.now.raw frame.old }
+    ensures keeps { Keeps (N.store nodes.old) (N.store nodes.new) }
+    ensures refs { IfOk result (λ r. All (AreRefs (N.store nodes.new)) r.nets
+        × IsRef (N.store nodes.new) r.contradictory × All (AreRefs (N.store nodes.new)) r.next) }
+    ensures possible { IfOk result (λ r. IsPossibleStep net.now.raw latches.now cuts.now
+        (N.store nodes.old) (N.store nodes.new) r) }
+    ensures built { (ls : List SymbolicSet) (asked : SymbolicAsked) (sets : ℕ → SymbolicSet)
+        → AllZip (AreRails (N.store nodes.old)) ls latches.now
+        → AllZip (IsCutBy (N.store nodes.old)) asked.cuts cuts.now
+        → ArePossibleEach (N.store nodes.old).vars net.now.raw ls asked sets
+        → Built (time_work net.now.raw ls asked sets) (IsStep net.now.raw sets)
+        (N.store nodes.old) (N.store nodes.new) result }
+    ensures frame { OnOk result (IsFrame (N.store nodes.new) net.now.raw frame.new) }
+{
+    made_at(alloc, ops, nodes, net, rows, latches, cuts, frame)
 }
 
 /// The possible sets of one time for every assignment at once, where some set is empty, and the next latch sets. `rows`
@@ -221,5 +317,6 @@ pub fn step<N: Nodes>(
         → Built (time_work net.now.raw ls asked sets) (IsStep net.now.raw sets)
         (N.store nodes.old) (N.store nodes.new) result }
 {
-    made_at(alloc, ops, nodes, net, rows, latches, cuts)
+    let mut frame = Frame::blank(alloc, net)?;
+    advance(alloc, ops, nodes, net, rows, latches, cuts, &mut frame)
 }

@@ -1,12 +1,13 @@
 //! The sets of two time steps of small nets, under each assignment of two variables, against the verdicts of the plain
 //! checker on the claim that a net has 1.
 
-ghost use Rattle.std.specs.Prelude.{◌≡◌, ◌≤◌, ◌<◌, ℕ, All, IfOk, IsTrue, length, map, nat_le};
+ghost use Rattle.std.specs.Prelude.{◌≡◌, ◌≤◌, ◌<◌, ℕ, All, IfOk, IsTrue, length, map, nat_le, OnOk};
 ghost use Rattle.std.specs.List.{list_all};
 ghost use Rattle.dd_nodes.specs.Stores.{Store, IsRef, Keeps};
 ghost use Rattle.net_core.specs.Cases.{cases_of};
 ghost use Rattle.dual_rail.specs.Rail.{AreRefs};
 ghost use Rattle.sym_step.specs.Step.{IsCutOf, rows_of};
+ghost use Rattle.sym_step.specs.private.Frames.{IsFrame};
 
 use blif_lines::logical_lines;
 use blif_syntax::read_models;
@@ -22,7 +23,7 @@ use std::alloc::{AllocError, Global};
 use std::test::Fail;
 use ste_base::{Items, Name, NodeId, Time};
 use ste_model::{Assertion, Quint, Verdict};
-use sym_step::{Cut, GateRows, Step, step};
+use sym_step::{Cut, Frame, GateRows, Step, advance, step};
 
 /// A bit, or one of two variables.
 #[derive(Clone, Copy, Debug, Drop)]
@@ -256,6 +257,7 @@ fn step_of<N: Nodes>(
     requires long { length latches.now ≡ length net.now.raw.latches }
     requires latches { All (AreRefs (N.store nodes.old)) latches.now }
     requires cuts { All (IsCutOf (N.store nodes.old) net.now.raw) cuts.now }
+    ensures keeps { Keeps (N.store nodes.old) (N.store nodes.new) }
     ensures refs { IfOk result (λ r. All (AreRefs (N.store nodes.new)) r.nets) }
     ensures next { IfOk result (λ r. All (AreRefs (N.store nodes.new)) r.next) }
 {
@@ -578,6 +580,111 @@ fn steps_agree_with_the_plain_checker(rt: HostRuntime) -> Result<(), Fail> {
         let bytes = text.as_bytes();
         assert!(rt; bytes.len() <= 10000);
         assert!(rt; case_agrees(alloc, bytes, asked)?, "{text}");
+    }
+    Ok(())
+}
+
+/// The step from what was kept of the step before; an error where nodes are wanting.
+fn advance_of<N: Nodes>(
+    alloc: Global,
+    ops: &Ops,
+    nodes: &mut N,
+    net: &Net,
+    rows: &GateRows,
+    latches: &[Rails],
+    cuts: &[Cut],
+    frame: &mut Frame,
+) -> Result<Step, Fail>
+    requires rows { rows.now.covers ≡ map rows_of net.now.raw.covers }
+    requires long { length latches.now ≡ length net.now.raw.latches }
+    requires latches { All (AreRefs (N.store nodes.old)) latches.now }
+    requires cuts { All (IsCutOf (N.store nodes.old) net.now.raw) cuts.now }
+    requires frame { IsFrame (N.store nodes.old) net.now.raw frame.old }
+    ensures keeps { Keeps (N.store nodes.old) (N.store nodes.new) }
+    ensures refs { IfOk result (λ r. All (AreRefs (N.store nodes.new)) r.nets) }
+    ensures next { IfOk result (λ r. All (AreRefs (N.store nodes.new)) r.next) }
+    ensures frame { OnOk result (IsFrame (N.store nodes.new) net.now.raw frame.new) }
+{
+    match advance(alloc, ops, nodes, net, rows, latches, cuts, frame) {
+        Ok(made) => Ok(made),
+        Err(_) => Err("no step".into()),
+    }
+}
+
+/// Whether steps that go on from one another give what steps of their own give, over five times at which the cuts come
+/// and go.
+fn frames_agree<N: Nodes>(
+    alloc: Global,
+    ops: &Ops,
+    nodes: &mut N,
+    net: &Net,
+    rows: &GateRows,
+    asked: &[Asked],
+) -> Result<bool, Fail>
+    requires vars { 2 ≤ (N.store nodes.old).vars }
+    requires rows { rows.now.covers ≡ map rows_of net.now.raw.covers }
+    requires asked { All (λ a. a.node.0 < net.now.raw.nets) asked.now }
+{
+    let Ok(p) = ops.var(nodes, 0) else {
+        return Err("no variable".into());
+    };
+    let Ok(q) = ops.var(nodes, 1) else {
+        return Err("no variable".into());
+    };
+    let cuts = cuts_of(alloc, &*nodes, net, asked, p, q)?;
+    let mut latches = Items::from(unknowns(alloc, net.latches().len())?);
+    let mut frame = Frame::blank(alloc, net)?;
+    for time in 0..5 {
+        let few = if time == 1 || time == 4 { 0 } else { cuts.len() };
+        let held = latches.as_slice();
+        let kept = advance_of(
+            alloc,
+            ops,
+            nodes,
+            net,
+            rows,
+            held,
+            &cuts[..few],
+            &mut frame,
+        )?;
+        let anew = step_of(alloc, ops, nodes, net, rows, held, &cuts[..few])?;
+        if kept.nets.as_slice() != anew.nets.as_slice()
+            || kept.contradictory != anew.contradictory
+            || kept.next.len() != net.latches().len()
+        {
+            return Ok(false);
+        }
+        latches = kept.next;
+    }
+    Ok(true)
+}
+
+/// Whether the steps of a net of a text that go on from one another give what others do.
+fn case_frames_agree(
+    alloc: Global,
+    text: &[u8],
+    asked: &[(&str, Bit, Bit)],
+) -> Result<bool, Fail>
+    requires { length text.now ≤ 10000 }
+{
+    let named = net_of(alloc, text)?;
+    let asked = asked_of(alloc, &named.names, named.net.nets(), asked)?;
+    if !are_few(alloc, named.net.covers())? {
+        return Err("too many cases".into());
+    }
+    let rows = GateRows::of(alloc, &named.net)?;
+    let ops = Ops::new(alloc);
+    let mut nodes = PlainNodes::new(alloc, 2, 100)?;
+    frames_agree(alloc, &ops, &mut nodes, &named.net, &rows, &asked)
+}
+
+#[test]
+fn steps_with_a_frame_agree_with_steps_without(rt: HostRuntime) -> Result<(), Fail> {
+    let alloc = rt.alloc();
+    for (text, asked) in CASES {
+        let bytes = text.as_bytes();
+        assert!(rt; bytes.len() <= 10000);
+        assert!(rt; case_frames_agree(alloc, bytes, asked)?, "{text}");
     }
     Ok(())
 }

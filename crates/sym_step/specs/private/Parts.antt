@@ -8,7 +8,7 @@ use Rattle.net_core.specs.Source.{source_of}
 use Rattle.net_core.specs.Work.{Function, SymbolicSet, SymbolicCut, SymbolicAsked}
 use Rattle.sym_step.specs.declared.cut.Cut.{Cut}
 use Rattle.sym_step.specs.declared.net_rails.NetRails.{NetRails}
-use Rattle.sym_step.specs.private.NetSets.{AreNetRails, AreNetRefs, net_at}
+use Rattle.sym_step.specs.private.NetSets.{AreNetRails, net_at}
 
 -- what these cuts ask
 abbrev pub asks : List SymbolicCut → SymbolicAsked
@@ -26,10 +26,6 @@ HaveSources net sets t n rails = (id : ℕ) → id < n → IsSource net id → A
 abbrev pub HaveGates : RawNet → List ℕ → (ℕ → SymbolicSet) → Store → ℕ → List NetRails → Type 0
 HaveGates net order sets t n rails =
     (id : ℕ) → id < net.nets → ((k : ℕ) (d : Gate) → n ≤ k → k < length order → (slice_index_or net.gates (slice_index order k) d).output.0 ≢ id) → AreNetRails t (sets id) (net_at rails id)
-
--- what is said of one source net: where no gate drives it, it has its set behind its cuts
-abbrev pub HasSource : RawNet → (ℕ → SymbolicSet) → ℕ → Store → NetRails → Type 0
-HasSource net sets id t r = AreNetRefs t r × (IsSource net id → AreNetRails t (sets id) r)
 
 -- each net has its set
 abbrev pub HaveNets : RawNet → (ℕ → SymbolicSet) → Store → List NetRails → Type 0

@@ -48,11 +48,12 @@ loop-t-init g c =
       con = record { asks = fixed_asks bits 0 task.con; fit = fixed_are bits s 0 task.con gs; is = subst (λ (xs : List Quint). IsTimeline (fixed_asks bits 0 xs) n 0 c.in_ok-con.con) c.as_slice-2.ensures c.in_ok-con.ensures };
       reached = λ table is. place_begins net task bits f table s c.in_ok-latches.latches gs
           (subst (λ (xs : List Rails). AllZip (AreRails s) (latches_at net (fixed_task bits task) (constant_table table) 0) xs) (sym c.in_ok-latches.ensures) (firsts_are s task.reset net.latches gs));
+      frame = c.in_ok-frame.ensures s gs;
       same = nothing_yet s;
     }
 
-pub step-requires-clause-long : goal.step-requires-clause-long
-step-requires-clause-long g c =
+pub advance-requires-clause-long : goal.advance-requires-clause-long
+advance-requires-clause-long g c =
     let net : RawNet = c.args.net.now.raw in
     let task : Assertion = c.args.task.now in
     let bits : List Bool = c.args.bits.now in
@@ -67,8 +68,8 @@ step-requires-clause-long g c =
     let at : IsPlaceAt net task bits f table t k held = subst (λ (xs : List Rails). IsPlaceAt net task bits f table t k xs) (sym c.as_slice-in-loop-t.ensures) (p.reached table is) in
     place_long net task bits f table t k held at
 
-pub step-requires-clause-latches : goal.step-requires-clause-latches
-step-requires-clause-latches g c =
+pub advance-requires-clause-latches : goal.advance-requires-clause-latches
+advance-requires-clause-latches g c =
     let net : RawNet = c.args.net.now.raw in
     let task : Assertion = c.args.task.now in
     let bits : List Bool = c.args.bits.now in
@@ -83,8 +84,8 @@ step-requires-clause-latches g c =
     let at : IsPlaceAt net task bits f table t k held = subst (λ (xs : List Rails). IsPlaceAt net task bits f table t k xs) (sym c.as_slice-in-loop-t.ensures) (p.reached table is) in
     place_refs net task bits f table t k held at
 
-pub step-requires-clause-cuts : goal.step-requires-clause-cuts
-step-requires-clause-cuts g c =
+pub advance-requires-clause-cuts : goal.advance-requires-clause-cuts
+advance-requires-clause-cuts g c =
     let net : RawNet = c.args.net.now.raw in
     let task : Assertion = c.args.task.now in
     let bits : List Bool = c.args.bits.now in
@@ -115,10 +116,10 @@ returns-in-Err-OutOfMemory-clause-same g c =
     let at : IsPlaceAt net task bits f table t k held = subst (λ (xs : List Rails). IsPlaceAt net task bits f table t k xs) (sym c.as_slice-in-loop-t.ensures) (p.reached table is) in
     let ant : IsNextLine t net (map (fixed_quint bits) task.ant) n k c.cuts_at.new.self c.as_slice-in-loop-t-2.result.now = next_line t net (map (fixed_quint bits) task.ant) n k c.loop-t.ant c.cuts_at.new.self c.in_ok-asked.asked.items c.as_slice-in-loop-t-2.result.now
     p.ant c.loop-t-test.true (fixed_inside bits net.nets task.ant c.requires.ant) c.as_slice-in-loop-t-2.ensures.value c.in_ok-asked.ensures in
-    let u : Store = g.N.Nodes.store c.step.new.nodes in
+    let u : Store = g.N.Nodes.store c.advance.new.nodes in
     let gt = g.met.N.Nodes.diagram c.loop-t.nodes in
-    let gu = g.met.N.Nodes.diagram c.step.new.nodes in
-    let makes = step_makes net task bits f table is t u k below c.as_slice-in-loop-t-2.result.now held (Err c.in-Err-OutOfMemory.field-0) gu (g.met.N.Nodes.made_held c.step.new.nodes) ant.by at c.in-Err-OutOfMemory.ensures.built in
+    let gu = g.met.N.Nodes.diagram c.advance.new.nodes in
+    let makes = step_makes net task bits f table is t u k below c.as_slice-in-loop-t-2.result.now held (Err c.in-Err-OutOfMemory.field-0) gu (g.met.N.Nodes.made_held c.advance.new.nodes) ant.by at c.in-Err-OutOfMemory.ensures.built in
     nothing_more s t u p.same makes
 
 pub unreachable-requires : goal.unreachable-requires
@@ -138,10 +139,10 @@ unreachable-requires g c =
     let at : IsPlaceAt net task bits f table t k held = subst (λ (xs : List Rails). IsPlaceAt net task bits f table t k xs) (sym c.as_slice-in-loop-t.ensures) (p.reached table is) in
     let ant : IsNextLine t net (map (fixed_quint bits) task.ant) n k c.cuts_at.new.self c.as_slice-in-loop-t-2.result.now = next_line t net (map (fixed_quint bits) task.ant) n k c.loop-t.ant c.cuts_at.new.self c.in_ok-asked.asked.items c.as_slice-in-loop-t-2.result.now
     p.ant c.loop-t-test.true (fixed_inside bits net.nets task.ant c.requires.ant) c.as_slice-in-loop-t-2.ensures.value c.in_ok-asked.ensures in
-    let u : Store = g.N.Nodes.store c.step.new.nodes in
+    let u : Store = g.N.Nodes.store c.advance.new.nodes in
     let gt = g.met.N.Nodes.diagram c.loop-t.nodes in
-    let gu = g.met.N.Nodes.diagram c.step.new.nodes in
-    step_goes net task bits f table is t u k below c.as_slice-in-loop-t-2.result.now held (Err c.in-Err-StepsOut.field-0) gu (g.met.N.Nodes.made_held c.step.new.nodes) ant.by at c.in-Err-StepsOut.ensures.built (ap Err c.in-Err-StepsOut.field-0-is)
+    let gu = g.met.N.Nodes.diagram c.advance.new.nodes in
+    step_goes net task bits f table is t u k below c.as_slice-in-loop-t-2.result.now held (Err c.in-Err-StepsOut.field-0) gu (g.met.N.Nodes.made_held c.advance.new.nodes) ant.by at c.in-Err-StepsOut.ensures.built (ap Err c.in-Err-StepsOut.field-0-is)
 
 pub first_failing-requires : goal.first_failing-requires
 first_failing-requires g c =
@@ -160,9 +161,9 @@ first_failing-requires g c =
     let at : IsPlaceAt net task bits f table t k held = subst (λ (xs : List Rails). IsPlaceAt net task bits f table t k xs) (sym c.as_slice-in-loop-t.ensures) (p.reached table is) in
     let ant : IsNextLine t net (map (fixed_quint bits) task.ant) n k c.cuts_at.new.self c.as_slice-in-loop-t-2.result.now = next_line t net (map (fixed_quint bits) task.ant) n k c.loop-t.ant c.cuts_at.new.self c.in_ok-asked.asked.items c.as_slice-in-loop-t-2.result.now
     p.ant c.loop-t-test.true (fixed_inside bits net.nets task.ant c.requires.ant) c.as_slice-in-loop-t-2.ensures.value c.in_ok-asked.ensures in
-    let u : Store = g.N.Nodes.store c.step.new.nodes in
+    let u : Store = g.N.Nodes.store c.advance.new.nodes in
     let gt = g.met.N.Nodes.diagram c.loop-t.nodes in
-    let gu = g.met.N.Nodes.diagram c.step.new.nodes in
+    let gu = g.met.N.Nodes.diagram c.advance.new.nodes in
     let con : IsNextLine t net (map (fixed_quint bits) task.con) n k c.cuts_at-in-loop-t.new.self c.as_slice-in-loop-t-4.result.now = next_line t net (map (fixed_quint bits) task.con) n k c.loop-t.con c.cuts_at-in-loop-t.new.self c.in_ok-wanted.wanted.items c.as_slice-in-loop-t-4.result.now
     p.con c.loop-t-test.true (fixed_inside bits net.nets task.con c.requires.con) c.as_slice-in-loop-t-4.ensures.value c.in_ok-wanted.ensures in
     let made : Step = c.in-Ok.made in
@@ -188,12 +189,12 @@ returns-in-Some-clause-place g c =
     let at : IsPlaceAt net task bits f table t k held = subst (λ (xs : List Rails). IsPlaceAt net task bits f table t k xs) (sym c.as_slice-in-loop-t.ensures) (p.reached table is) in
     let ant : IsNextLine t net (map (fixed_quint bits) task.ant) n k c.cuts_at.new.self c.as_slice-in-loop-t-2.result.now = next_line t net (map (fixed_quint bits) task.ant) n k c.loop-t.ant c.cuts_at.new.self c.in_ok-asked.asked.items c.as_slice-in-loop-t-2.result.now
     p.ant c.loop-t-test.true (fixed_inside bits net.nets task.ant c.requires.ant) c.as_slice-in-loop-t-2.ensures.value c.in_ok-asked.ensures in
-    let u : Store = g.N.Nodes.store c.step.new.nodes in
+    let u : Store = g.N.Nodes.store c.advance.new.nodes in
     let gt = g.met.N.Nodes.diagram c.loop-t.nodes in
-    let gu = g.met.N.Nodes.diagram c.step.new.nodes in
+    let gu = g.met.N.Nodes.diagram c.advance.new.nodes in
     let con : IsNextLine t net (map (fixed_quint bits) task.con) n k c.cuts_at-in-loop-t.new.self c.as_slice-in-loop-t-4.result.now = next_line t net (map (fixed_quint bits) task.con) n k c.loop-t.con c.cuts_at-in-loop-t.new.self c.in_ok-wanted.wanted.items c.as_slice-in-loop-t-4.result.now
     p.con c.loop-t-test.true (fixed_inside bits net.nets task.con c.requires.con) c.as_slice-in-loop-t-4.ensures.value c.in_ok-wanted.ensures in
-    let makes = step_makes net task bits f table is t u k below c.as_slice-in-loop-t-2.result.now held (Ok c.in-Ok.made) gu (g.met.N.Nodes.made_held c.step.new.nodes) ant.by at c.in-Ok.ensures.built in
+    let makes = step_makes net task bits f table is t u k below c.as_slice-in-loop-t-2.result.now held (Ok c.in-Ok.made) gu (g.met.N.Nodes.made_held c.advance.new.nodes) ant.by at c.in-Ok.ensures.built in
     let made : Step = c.in-Ok.made in
     let step : IsStep net (constant_table table k) u made = (step_built net task bits f table is t u k below c.as_slice-in-loop-t-2.result.now held (Ok made) ant.by at c.in-Ok.ensures.built).ok in
     let nets : List Rails = c.as_slice-in-loop-t-3.result.now in
@@ -222,10 +223,10 @@ returns-in-Some-clause-same g c =
     let at : IsPlaceAt net task bits f table t k held = subst (λ (xs : List Rails). IsPlaceAt net task bits f table t k xs) (sym c.as_slice-in-loop-t.ensures) (p.reached table is) in
     let ant : IsNextLine t net (map (fixed_quint bits) task.ant) n k c.cuts_at.new.self c.as_slice-in-loop-t-2.result.now = next_line t net (map (fixed_quint bits) task.ant) n k c.loop-t.ant c.cuts_at.new.self c.in_ok-asked.asked.items c.as_slice-in-loop-t-2.result.now
     p.ant c.loop-t-test.true (fixed_inside bits net.nets task.ant c.requires.ant) c.as_slice-in-loop-t-2.ensures.value c.in_ok-asked.ensures in
-    let u : Store = g.N.Nodes.store c.step.new.nodes in
+    let u : Store = g.N.Nodes.store c.advance.new.nodes in
     let gt = g.met.N.Nodes.diagram c.loop-t.nodes in
-    let gu = g.met.N.Nodes.diagram c.step.new.nodes in
-    let makes = step_makes net task bits f table is t u k below c.as_slice-in-loop-t-2.result.now held (Ok c.in-Ok.made) gu (g.met.N.Nodes.made_held c.step.new.nodes) ant.by at c.in-Ok.ensures.built in
+    let gu = g.met.N.Nodes.diagram c.advance.new.nodes in
+    let makes = step_makes net task bits f table is t u k below c.as_slice-in-loop-t-2.result.now held (Ok c.in-Ok.made) gu (g.met.N.Nodes.made_held c.advance.new.nodes) ant.by at c.in-Ok.ensures.built in
     nothing_more s t u p.same makes
 
 pub loop-t-preserved : goal.loop-t-preserved
@@ -246,12 +247,12 @@ loop-t-preserved g c =
     let at : IsPlaceAt net task bits f table t k held = subst (λ (xs : List Rails). IsPlaceAt net task bits f table t k xs) (sym c.as_slice-in-loop-t.ensures) (p.reached table is) in
     let ant : IsNextLine t net (map (fixed_quint bits) task.ant) n k c.cuts_at.new.self c.as_slice-in-loop-t-2.result.now = next_line t net (map (fixed_quint bits) task.ant) n k c.loop-t.ant c.cuts_at.new.self c.in_ok-asked.asked.items c.as_slice-in-loop-t-2.result.now
     p.ant c.loop-t-test.true (fixed_inside bits net.nets task.ant c.requires.ant) c.as_slice-in-loop-t-2.ensures.value c.in_ok-asked.ensures in
-    let u : Store = g.N.Nodes.store c.step.new.nodes in
+    let u : Store = g.N.Nodes.store c.advance.new.nodes in
     let gt = g.met.N.Nodes.diagram c.loop-t.nodes in
-    let gu = g.met.N.Nodes.diagram c.step.new.nodes in
+    let gu = g.met.N.Nodes.diagram c.advance.new.nodes in
     let con : IsNextLine t net (map (fixed_quint bits) task.con) n k c.cuts_at-in-loop-t.new.self c.as_slice-in-loop-t-4.result.now = next_line t net (map (fixed_quint bits) task.con) n k c.loop-t.con c.cuts_at-in-loop-t.new.self c.in_ok-wanted.wanted.items c.as_slice-in-loop-t-4.result.now
     p.con c.loop-t-test.true (fixed_inside bits net.nets task.con c.requires.con) c.as_slice-in-loop-t-4.ensures.value c.in_ok-wanted.ensures in
-    let makes = step_makes net task bits f table is t u k below c.as_slice-in-loop-t-2.result.now held (Ok c.in-Ok.made) gu (g.met.N.Nodes.made_held c.step.new.nodes) ant.by at c.in-Ok.ensures.built in
+    let makes = step_makes net task bits f table is t u k below c.as_slice-in-loop-t-2.result.now held (Ok c.in-Ok.made) gu (g.met.N.Nodes.made_held c.advance.new.nodes) ant.by at c.in-Ok.ensures.built in
     record {
       ant = Line-keeps t u (map (fixed_quint bits) task.ant) n (k + 1) c.cuts_at.new.self gt gu makes.keeps ant.is;
       con = Line-keeps t u (map (fixed_quint bits) task.con) n (k + 1) c.cuts_at-in-loop-t.new.self gt gu makes.keeps con.is;
@@ -262,7 +263,7 @@ loop-t-preserved g c =
           p.ant c.loop-t-test.true (fixed_inside bits net.nets task.ant c.requires.ant) c.as_slice-in-loop-t-2.ensures.value c.in_ok-asked.ensures in
           let con : IsNextLine t net (map (fixed_quint bits) task.con) n k c.cuts_at-in-loop-t.new.self c.as_slice-in-loop-t-4.result.now = next_line t net (map (fixed_quint bits) task.con) n k c.loop-t.con c.cuts_at-in-loop-t.new.self c.in_ok-wanted.wanted.items c.as_slice-in-loop-t-4.result.now
           p.con c.loop-t-test.true (fixed_inside bits net.nets task.con c.requires.con) c.as_slice-in-loop-t-4.ensures.value c.in_ok-wanted.ensures in
-          let makes = step_makes net task bits f table is t u k below c.as_slice-in-loop-t-2.result.now held (Ok c.in-Ok.made) gu (g.met.N.Nodes.made_held c.step.new.nodes) ant.by at c.in-Ok.ensures.built in
+          let makes = step_makes net task bits f table is t u k below c.as_slice-in-loop-t-2.result.now held (Ok c.in-Ok.made) gu (g.met.N.Nodes.made_held c.advance.new.nodes) ant.by at c.in-Ok.ensures.built in
           let made : Step = c.in-Ok.made in
           let step : IsStep net (constant_table table k) u made = (step_built net task bits f table is t u k below c.as_slice-in-loop-t-2.result.now held (Ok made) ant.by at c.in-Ok.ensures.built).ok in
           let nets : List Rails = c.as_slice-in-loop-t-3.result.now in
@@ -272,6 +273,7 @@ loop-t-preserved g c =
           let inside : All (λ quint. quint.node.0 < length nets) task.con = λ j d lt. let within = c.requires.con j d lt in omega (arith, long, within) in
           let told = first_is f u (table k) nets bits k gu have task.con c.as_slice-in-loop-t-4.result.now inside wanted in
           place_next net task bits f table is t u k below held made at step (subst (λ (o : Option NodeId). IsTold f (table k) (cuts_at task.con bits k) o) (sym c.first_failing.ensures ∙ not_some c.first_failing.result c.in_default.not-Some) told);
+      frame = c.in-Ok.ensures.frame;
       same = nothing_more s t u p.same makes;
     }
 

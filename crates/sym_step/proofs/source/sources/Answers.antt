@@ -1,110 +1,105 @@
-use Rattle.std.proofs.Common.{◌≡◌, ◌<◌, List, map, length, replicate, All, ℕ, ◌∙◌, ap, arith, Ok, Err, subst, sym}
-use Rattle.sym_step.specs.private.Parts.{HasSource, HaveSources, asks}
-use Rattle.sym_step.specs.private.NetSets.{AreNetRefs, own_where}
+use Rattle.std.proofs.Common.{◌<◌, List, length, All, sym, ◌∙◌, subst, Ok}
 use Rattle.dd_nodes.specs.Diagram.{Function}
-use Rattle.dd_nodes.specs.Stores.{Store, IsRef, function}
-use Rattle.dd_nodes.proofs.Walks.{IsFrom-grows}
-use Rattle.net_core.specs.Work.{SymbolicSet, after_cuts, cuts_work}
-use Rattle.dual_rail.specs.declared.rails.Rails.{Rails}
-use Rattle.dual_rail.specs.Rail.{Built}
-use Rattle.dual_rail.proofs.Works.{Built-made, So-start, set_where, more, pass}
-use Rattle.dual_rail.proofs.Turns.{All-refs-keep}
-use Rattle.dd_nodes.proofs.Stores.{Keeps-refl, Keeps-trans}
+use Rattle.dd_nodes.specs.Stores.{Store}
+use Rattle.dd_nodes.proofs.Stores.{Keeps-trans}
+use Rattle.net_core.specs.Work.{ArePossibleEach, time_work}
+use Rattle.dual_rail.specs.Rail.{AreRails, Whatever}
+use Rattle.dual_rail.proofs.Turns.{zip_long}
+use Rattle.dual_rail.proofs.Works.{So-start, first, last, more, pass}
+use Rattle.ste_base.specs.declared.id.NodeId.{NodeId}
 use Rattle.sym_step.specs.declared.cut.Cut.{Cut}
-use Rattle.std.proofs.lemmas.List.{length-set, length-replicate}
-use Rattle.std.proofs.Common.{Vec, Global}
-use Rattle.net_core.specs.Work.{uncut, time_work}
-use Rattle.dual_rail.proofs.Turns.{zip_long, own_zip, Zip-keep}
+use Rattle.sym_step.specs.private.Frames.{HaveOpen}
+use Rattle.sym_step.specs.private.Parts.{asks}
 use Rattle.sym_step.proofs.Cutting.{Demands-keep}
-use Rattle.sym_step.proofs.Sourced.{sourced, cuts_within, all_unknown, unknown}
-use Rattle.sym_step.specs.declared.net_rails.NetRails.{NetRails}
-use Rattle.sym_step.proofs.NetRefs.{All-net-refs-keep}
-use Rattle.sym_step.proofs.Turning.{set_refs, with_some}
-use Rattle.dual_rail.proofs.Works.{Built-covers}
-use Rattle.dual_rail.specs.Rail.{AreRails}
-use Rattle.net_core.specs.Work.{ArePossibleEach, some_bit}
-use Rattle.sym_step.proofs.Cutting.{own_demands}
-use Rattle.std.proofs.Common.{◌∷◌}
+use Rattle.sym_step.proofs.Framing.{noted_then}
+use Rattle.sym_step.proofs.Opened.{all_sources, nodes_inside, ok_then}
 use Rattle.sym_step.proofs.source.sources.Goals as goal
 
-pub loop-id-preserved : goal.loop-id-preserved
-loop-id-preserved g c =
-    let s : Store = g.N.Nodes.store c.args.nodes.now in
-    let t : Store = g.N.Nodes.store c.loop-id.nodes in
-    let u : Store = g.N.Nodes.store c.source.new.nodes in
-    let gs = g.met.N.Nodes.diagram c.args.nodes.now in
-    let gt = g.met.N.Nodes.diagram c.loop-id.nodes in
-    let gu = g.met.N.Nodes.diagram c.source.new.nodes in
-    let net = c.args.net.now in
-    let cuts : List Cut = c.args.cuts.now in
-    let latches : List Rails = c.args.latches.now in
-    let nets : List NetRails = c.loop-id.nets.items in
-    let id = c.loop-id.id in
-    let r = c.in_ok-r.r in
-    let kst = c.loop-id.invariant.keeps in
-    let size = c.loop-id.invariant.long in
-    let inside : id < net.raw.nets = omega (arith, c.loop-id-test.true) in
-    let hg : All (λ c. IsRef t c.guard) cuts = λ i d l. IsFrom-grows s.held t.held 0 _ kst.grows (c.requires.guards i d l) in
-    let hv : All (λ c. IsRef t c.value) cuts = λ i d l. IsFrom-grows s.held t.held 0 _ kst.grows (c.requires.values i d l) in
-    let own_call = c.in_ok-r.ensures (map (set_where t) latches) (map (λ (x : Cut). record { node = x.node.0; guard = function t x.guard; value = function t x.value }) cuts) (λ k. own_where t r) (own_zip t latches (All-refs-keep s t latches kst c.requires.latches)) (own_demands t cuts hg hv) in
-    let ksu = Keeps-trans s t u kst own_call.spends.keeps in
-    record {
-      long = length-set nets id r ∙ size;
-      keeps = ksu;
-      refs = set_refs u nets id r (omega (arith, size, inside)) (All-net-refs-keep t u nets gt gu own_call.spends.keeps c.loop-id.invariant.refs) own_call.ok.0;
-      so = λ ls ds sets zip family asked.
-          let p = c.loop-id.invariant.so ls ds sets zip family asked in
-          let work : List Function = time_work net.raw ls (asks ds) sets in
-          let before : ℕ → SymbolicSet = uncut net.raw ls sets in
-          let good : Store → NetRails → Type 0 = HasSource net.raw (after_cuts ds before) id in
-          let b : Built work good t u (Ok r) = Built-covers work (some_bit (after_cuts ds before id) ∷ cuts_work ds before) good t u (Ok r) (with_some net.raw net.settled net.in_range net.one_driver net.in_order ls ds sets (zip_long (AreRails s) ls latches zip ∙ c.requires.long) t.vars id (cuts_work ds before) (subst (λ v. ArePossibleEach v net.raw ls (asks ds) sets) (sym kst.vars) family) inside (cuts_within net.raw ls ds sets)) (c.in_ok-r.ensures ls ds sets (Zip-keep s t ls latches gs gt kst zip) (Demands-keep s t ds cuts gs gt kst asked)) in (
-            more work good s t u (Ok r) gt gu p.0 b,
-            sourced net.raw net.in_range net.one_driver ls ds sets (zip_long (AreRails s) ls latches zip ∙ c.requires.long) s t u nets id r gt gu ksu own_call.spends.keeps size inside family p.1 b.ok.1,
-          );
-    }
+pub open_sources-requires-2-clause-ids : goal.open_sources-requires-2-clause-ids
+open_sources-requires-2-clause-ids g c = subst (All (λ (node : NodeId). node.0 < c.args.net.now.raw.nets)) (sym c.requires.asked) (nodes_inside c.args.net.now.raw.nets c.args.cuts.now c.requires.inside)
 
-pub returns-in_err-r-clause-built : goal.returns-in_err-r-clause-built
-returns-in_err-r-clause-built g c = λ ls ds sets zip family asked.
+pub returns-in_err-latch_sources-clause-built : goal.returns-in_err-latch_sources-clause-built
+returns-in_err-latch_sources-clause-built g c = λ ls ds sets zip family asked.
     let s : Store = g.N.Nodes.store c.args.nodes.now in
-    let t : Store = g.N.Nodes.store c.loop-id.nodes in
-    let u : Store = g.N.Nodes.store c.source.new.nodes in
+    let t : Store = g.N.Nodes.store c.latch_sources.new.nodes in
+    let work : List Function = time_work c.args.net.now.raw ls (asks ds) sets in
+    pass work Whatever Whatever s s t c.in_err-latch_sources.field-0.0 c.from_residual.result (g.met.N.Nodes.diagram c.args.nodes.now) (g.met.N.Nodes.diagram c.latch_sources.new.nodes) (So-start work s)
+    (c.in_err-latch_sources.ensures.built ls ds sets zip family asked) c.from_residual.ensures.1
+
+pub returns-in_err-open_sources-clause-built : goal.returns-in_err-open_sources-clause-built
+returns-in_err-open_sources-clause-built g c = λ ls ds sets zip family asked.
+    let s : Store = g.N.Nodes.store c.args.nodes.now in
+    let t : Store = g.N.Nodes.store c.latch_sources.new.nodes in
+    let u : Store = g.N.Nodes.store c.open_sources.new.nodes in
     let gs = g.met.N.Nodes.diagram c.args.nodes.now in
-    let gt = g.met.N.Nodes.diagram c.loop-id.nodes in
-    let gu = g.met.N.Nodes.diagram c.source.new.nodes in
+    let gt = g.met.N.Nodes.diagram c.latch_sources.new.nodes in
+    let gu = g.met.N.Nodes.diagram c.open_sources.new.nodes in
     let net = c.args.net.now in
-    let cuts : List Cut = c.args.cuts.now in
-    let latches : List Rails = c.args.latches.now in
-    let nets : List NetRails = c.loop-id.nets.items in
-    let id = c.loop-id.id in
-    let inside : id < net.raw.nets = omega (arith, c.loop-id-test.true) in
-    let fault = c.in_err-r.field-0.0 in
-    let p = c.loop-id.invariant.so ls ds sets zip family asked in
-    let kst = c.loop-id.invariant.keeps in
     let work : List Function = time_work net.raw ls (asks ds) sets in
-    let before : ℕ → SymbolicSet = uncut net.raw ls sets in
-    let good : Store → NetRails → Type 0 = HasSource net.raw (after_cuts ds before) id in
-    pass work good (λ x (found : Vec NetRails Global). HaveSources net.raw sets x net.raw.nets found.items) s t u fault c.from_residual-in_err-r.result gt gu p.0
-    (Built-covers work (some_bit (after_cuts ds before id) ∷ cuts_work ds before) good t u (Err fault) (with_some net.raw net.settled net.in_range net.one_driver net.in_order ls ds sets (zip_long (AreRails s) ls latches zip ∙ c.requires.long) t.vars id (cuts_work ds before) (subst (λ v. ArePossibleEach v net.raw ls (asks ds) sets) (sym kst.vars) family) inside (cuts_within net.raw ls ds sets)) (c.in_err-r.ensures ls ds sets (Zip-keep s t ls latches gs gt kst zip) (Demands-keep s t ds cuts gs gt kst asked))) c.from_residual-in_err-r.ensures.1
+    let long = zip_long (AreRails s) ls c.args.latches.now zip ∙ c.requires.long in
+    let p = c.in_ok-latch_sources.ensures in
+    let so1 = first work Whatever s t (Ok c.in_ok-latch_sources.field-0) (p.built ls ds sets zip family asked) in
+    pass work Whatever Whatever s t u c.in_err-open_sources.field-0.0 c.from_residual-in_err-open_sources.result gt gu so1
+    (c.in_err-open_sources.ensures.built ls ds sets long (subst (λ v. ArePossibleEach v net.raw ls (asks ds) sets) (sym p.keeps.vars) family) (Demands-keep s t ds c.args.cuts.now gs gt p.keeps asked)) c.from_residual-in_err-open_sources.ensures.1
 
 pub returns-clause-built : goal.returns-clause-built
 returns-clause-built g c = λ ls ds sets zip family asked.
     let s : Store = g.N.Nodes.store c.args.nodes.now in
-    let t : Store = g.N.Nodes.store c.loop-id.nodes in
-    let net = c.args.net.now in
-    let p = c.loop-id.invariant.so ls ds sets zip family asked in
-    Built-made (time_work net.raw ls (asks ds) sets) (λ x (found : Vec NetRails Global). HaveSources net.raw sets x net.raw.nets found.items) s t c.loop-id.nets p.0
-    (λ k lt source. p.1 k (omega (arith, lt, c.loop-id-test.false)) source)
-
-pub loop-id-init : goal.loop-id-init
-loop-id-init g c =
-    let s : Store = g.N.Nodes.store c.args.nodes.now in
+    let t : Store = g.N.Nodes.store c.latch_sources.new.nodes in
+    let u : Store = g.N.Nodes.store c.open_sources.new.nodes in
+    let v : Store = g.N.Nodes.store c.open_sources-2.new.nodes in
     let gs = g.met.N.Nodes.diagram c.args.nodes.now in
+    let gt = g.met.N.Nodes.diagram c.latch_sources.new.nodes in
+    let gu = g.met.N.Nodes.diagram c.open_sources.new.nodes in
+    let gv = g.met.N.Nodes.diagram c.open_sources-2.new.nodes in
     let net = c.args.net.now in
-    let blank : c.in_ok-nets.nets.items ≡ replicate net.raw.nets unknown = c.in_ok-nets.ensures.items_if_clones_equal (λ y e. e)
-    ∙ ap (λ n. replicate n c.free.result) c.nets.ensures ∙ ap (λ (r : NetRails). replicate net.raw.nets r) c.free.ensures in
-    record {
-      long = ap length blank ∙ length-replicate net.raw.nets unknown;
-      keeps = Keeps-refl s;
-      refs = subst (All (AreNetRefs s)) (sym blank) (all_unknown s net.raw.nets gs);
-      so = λ ls ds sets zip family asked. (So-start (time_work net.raw ls (asks ds) sets) s, λ id lt source. absurd (omega arith));
-    }
+    let work : List Function = time_work net.raw ls (asks ds) sets in
+    let long = zip_long (AreRails s) ls c.args.latches.now zip ∙ c.requires.long in
+    let p = c.in_ok-latch_sources.ensures in
+    let q = c.in_ok-open_sources.ensures in
+    let ksu = Keeps-trans s t u p.keeps q.keeps in
+    let so1 = first work Whatever s t (Ok c.in_ok-latch_sources.field-0) (p.built ls ds sets zip family asked) in
+    let so2 = more work Whatever s t u (Ok c.in_ok-open_sources.field-0) gt gu so1 (q.built ls ds sets long (subst (λ n. ArePossibleEach n net.raw ls (asks ds) sets) (sym p.keeps.vars) family) (Demands-keep s t ds c.args.cuts.now gs gt p.keeps asked)) in
+    last work Whatever s u v c.open_sources-2.result gu gv so2
+    (c.open_sources-2.ensures.built ls ds sets long (subst (λ n. ArePossibleEach n net.raw ls (asks ds) sets) (sym ksu.vars) family) (Demands-keep s u ds c.args.cuts.now gs gu ksu asked))
+
+pub returns-clause-keeps : goal.returns-clause-keeps
+returns-clause-keeps g c =
+    let s : Store = g.N.Nodes.store c.args.nodes.now in
+    let t : Store = g.N.Nodes.store c.latch_sources.new.nodes in
+    let u : Store = g.N.Nodes.store c.open_sources.new.nodes in
+    let v : Store = g.N.Nodes.store c.open_sources-2.new.nodes in
+    ok_then c.open_sources-2.result (λ k. Keeps-trans s u v (Keeps-trans s t u c.in_ok-latch_sources.ensures.keeps c.in_ok-open_sources.ensures.keeps) k) c.open_sources-2.ensures.keeps
+
+pub returns-clause-noted : goal.returns-clause-noted
+returns-clause-noted g c =
+    let p = c.in_ok-latch_sources.ensures in
+    let q = c.in_ok-open_sources.ensures in
+    let a = c.latch_sources.new in
+    let b = c.open_sources.new in
+    let d = c.open_sources-2.new in
+    ok_then c.open_sources-2.result (λ k. noted_then c.args.changed.now b.changed d.changed c.args.nets.now b.nets d.nets (noted_then c.args.changed.now a.changed b.changed c.args.nets.now a.nets b.nets p.noted q.noted) k) c.open_sources-2.ensures.noted
+
+pub returns-clause-have : goal.returns-clause-have
+returns-clause-have g c =
+    let s : Store = g.N.Nodes.store c.args.nodes.now in
+    let t : Store = g.N.Nodes.store c.latch_sources.new.nodes in
+    let u : Store = g.N.Nodes.store c.open_sources.new.nodes in
+    let v : Store = g.N.Nodes.store c.open_sources-2.new.nodes in
+    let gs = g.met.N.Nodes.diagram c.args.nodes.now in
+    let gt = g.met.N.Nodes.diagram c.latch_sources.new.nodes in
+    let gu = g.met.N.Nodes.diagram c.open_sources.new.nodes in
+    let gv = g.met.N.Nodes.diagram c.open_sources-2.new.nodes in
+    let net = c.args.net.now in
+    let cuts : List Cut = c.args.cuts.now in
+    let p = c.in_ok-latch_sources.ensures in
+    let q = c.in_ok-open_sources.ensures in
+    let ksu = Keeps-trans s t u p.keeps q.keeps in
+    ok_then c.open_sources-2.result (λ k ls ds sets zip family asked.
+    let long = zip_long (AreRails s) ls c.args.latches.now zip ∙ c.requires.long in
+    let h1 = p.have ls ds sets zip family asked in
+    let h2 = q.have ls ds sets long (subst (λ n. ArePossibleEach n net.raw ls (asks ds) sets) (sym p.keeps.vars) family) (Demands-keep s t ds cuts gs gt p.keeps asked) in
+    let h3 = k ls ds sets long (subst (λ n. ArePossibleEach n net.raw ls (asks ds) sets) (sym ksu.vars) family) (Demands-keep s u ds cuts gs gu ksu asked) in
+    all_sources net.raw net.in_range net.one_driver ls ds sets long s t u v cuts c.args.before.now c.args.nets.now c.latch_sources.new.nets c.open_sources.new.nets c.open_sources-2.new.nets
+    gs gv p.keeps family asked c.requires.undriven h1.0 h1.1 h2.0 h2.1
+    (subst (λ (ids : List NodeId). HaveOpen net.raw sets v ids (length ids) c.open_sources-2.new.nets) c.requires.asked h3.0) h3.1) c.open_sources-2.ensures.have

@@ -1,5 +1,5 @@
 use Rattle.std.proofs.Common.{◌≤◌, take, length, All}
-use Rattle.sym_step.proofs.time.widest.Given as goal
+use Rattle.sym_step.proofs.frame.widest.Given as goal
 
 -- none of the first gates has more inputs
 abbrev pub invariant-loop-gate : goal.invariant-loop-gate

@@ -1,5 +1,5 @@
 use Rattle.std.proofs.Common.{◌≡◌, List, ℕ, length, All}
-use Rattle.sym_step.specs.private.Parts.{HaveSources, asks}
+use Rattle.sym_step.specs.private.Parts.{asks}
 use Rattle.std.specs.List.{AllZip}
 use Rattle.dd_nodes.specs.Stores.{Keeps}
 use Rattle.net_core.specs.Work.{SymbolicSet, SymbolicCut, time_work}
@@ -7,15 +7,18 @@ use Rattle.dual_rail.specs.Rail.{AreRails}
 use Rattle.dual_rail.proofs.Works.{SoFar}
 use Rattle.sym_step.specs.Step.{IsCutBy}
 use Rattle.net_core.specs.Work.{ArePossibleEach}
+use Rattle.sym_step.specs.private.Frames.{AreNoted, HaveLatches, StayRight}
 use Rattle.sym_step.specs.private.NetSets.{AreNetRefs}
-use Rattle.sym_step.proofs.source.sources.Given as goal
+use Rattle.sym_step.proofs.source.latch_sources.Given as goal
 
--- the first sources have their sets
-abbrev pub invariant-loop-id : goal.invariant-loop-id
-invariant-loop-id g l = record {
-  long : length l.nets.items ≡ l.net.raw.nets;
+-- the first latches have their sets
+abbrev pub invariant-loop-l : goal.invariant-loop-l
+invariant-loop-l g l = record {
+  long : length l.nets ≡ l.net.raw.nets;
+  changed : length l.changed ≡ l.net.raw.nets;
   keeps : Keeps (g.N.Nodes.store l.fn.nodes) (g.N.Nodes.store l.nodes);
-  refs : All (AreNetRefs (g.N.Nodes.store l.nodes)) l.nets.items;
+  refs : All (AreNetRefs (g.N.Nodes.store l.nodes)) l.nets;
+  noted : AreNoted l.fn.changed l.fn.nets l.changed l.nets;
   so : (ls : List SymbolicSet) (ds : List SymbolicCut) (sets : ℕ → SymbolicSet) → AllZip (AreRails (g.N.Nodes.store l.fn.nodes)) ls l.latches → ArePossibleEach (g.N.Nodes.store l.fn.nodes).vars l.net.raw ls (asks ds) sets → AllZip (IsCutBy (g.N.Nodes.store l.fn.nodes)) ds l.cuts
-      → SoFar (time_work l.net.raw ls (asks ds) sets) (g.N.Nodes.store l.fn.nodes) (g.N.Nodes.store l.nodes) × HaveSources l.net.raw sets (g.N.Nodes.store l.nodes) l.id l.nets.items;
+      → SoFar (time_work l.net.raw ls (asks ds) sets) (g.N.Nodes.store l.fn.nodes) (g.N.Nodes.store l.nodes) × HaveLatches l.net.raw sets (g.N.Nodes.store l.nodes) l.l l.nets × StayRight sets (g.N.Nodes.store l.fn.nodes) l.fn.nets (g.N.Nodes.store l.nodes) l.nets;
 }

@@ -1,0 +1,209 @@
+-- The nets that latches drive, and those that nothing drives, get their sets.
+use Rattle.std.proofs.Common.{◌≡◌, ◌≢◌, ℕ, zero, suc, ◌+◌, ◌<◌, Bool, true, false, List, [], ◌∷◌, length, map, get_or, set, replicate, refl, sym, ◌∙◌, ap, subst, arith, inl, inr, All, get_or-set_same, get_or-set_other, ne_eqb, eq-eqb, eqb-true, Ok, Err, Result}
+use Rattle.dd_ops.specs.declared.fault.OpFault.{OpFault}
+use Rattle.std.specs.Prelude.{OnOk, ◌||◌, ◌==◌, AllPairs, if◌then◌else◌}
+use Rattle.std.specs.List.{AllZip}
+use Rattle.std.proofs.lemmas.Bool.{cases_eq, cases_lt, false≢true}
+use Rattle.std.proofs.lemmas.List.{get_or_default, length-replicate}
+use Rattle.std.proofs.lemmas.List.Elements.{All-nil, All-cons, All-head, All-tail}
+use Rattle.std.proofs.lemmas.List.Folds.{Any-from_list_any}
+use Rattle.ste_base.specs.declared.id.NodeId.{NodeId}
+use Rattle.dd_nodes.specs.Stores.{Store, Keeps}
+use Rattle.dd_nodes.proofs.Stores.{IsGood, Keeps-refl}
+use Rattle.net_core.specs.declared.raw.Init.TheVariants.{Zero}
+use Rattle.net_core.specs.declared.raw.Latch.{Latch}
+use Rattle.net_core.specs.declared.raw.RawNet.{RawNet}
+use Rattle.net_core.specs.declared.source.Source.{Source}
+use Rattle.net_core.specs.declared.source.Source.TheVariants.{Input, Free, Gate as OfGate, Latch as OfLatch}
+use Rattle.net_core.specs.Flat.{IsInRange, HasOneDriver}
+use Rattle.net_core.specs.Source.{source_of}
+use Rattle.net_core.specs.Work.{ArePossibleEach, SymbolicCut, SymbolicSet, after_cut, after_cuts, cut_set, everything, uncut}
+use Rattle.net_core.proofs.OneTime.{Facts, fixed}
+use Rattle.sym_step.specs.declared.cut.Cut.{Cut}
+use Rattle.sym_step.specs.declared.net_rails.NetRails.{NetRails}
+use Rattle.sym_step.specs.Step.{IsCutBy}
+use Rattle.sym_step.specs.declared.frame.Frame.{Frame}
+use Rattle.sym_step.specs.private.Frames.{AreOpen, HaveLatches, HaveOpen, IsFrame, IsOpen, StayRight, flag_at, is_listed}
+use Rattle.sym_step.specs.private.NetSets.{AreNetRails, AreNetRefs, net_at}
+use Rattle.sym_step.specs.private.Parts.{HaveNets, HaveSources, asks}
+use Rattle.sym_step.proofs.NetRefs.{Net-keeps}
+use Rattle.sym_step.proofs.Sourced.{all_unknown, before_by, known, unknown, unknown_net}
+use Rattle.sym_step.proofs.Turning.{Net-same}
+
+-- what follows where a call has answered
+pub ok_then : {A P Q : Type 0} (r : Result A OpFault) → (P → Q) → OnOk r P → OnOk r Q
+ok_then (Ok a) f h = f h
+ok_then (Err e) f h = tt
+
+-- nothing is asked of a net that is not listed
+pub unlisted : (s : Store) (ds : List SymbolicCut) (cuts : List Cut) (id : ℕ) (f : ℕ → SymbolicSet) → AllZip (IsCutBy s) ds cuts → is_listed (map (λ (c : Cut). c.node) cuts) id ≡ false → after_cuts ds f id ≡ f id
+unlisted s [] cuts id f zip none = refl
+unlisted s (d ∷ ds) [] id f zip none = absurd zip
+unlisted s (d ∷ ds) (c ∷ cuts) id f zip none = by (c.node.0 == id) refl none (λ h. unlisted s ds cuts id (after_cut d f) zip.1 h)
+  where
+    by : (b : Bool) → (c.node.0 == id) ≡ b → (b || is_listed (map (λ (x : Cut). x.node) cuts) id) ≡ false → (is_listed (map (λ (x : Cut). x.node) cuts) id ≡ false → after_cuts ds (after_cut d f) id ≡ after_cut d f id)
+        → after_cuts ds (after_cut d f) id ≡ f id
+    by true e h rest = absurd (false≢true (sym h))
+    by false e h rest =
+        let ne : (d.node ≡ id) → ⊥ = λ same. false≢true (sym e ∙ eq-eqb c.node.0 id (sym zip.0.node ∙ same)) in
+        rest h ∙ ap (λ (x : Bool). if x then cut_set (f id) d.guard d.value else f id) (ne_eqb d.node id ne)
+
+-- the nets of cuts are nets
+pub nodes_inside : (n : ℕ) (cuts : List Cut) → All (λ c. c.node.0 < n) cuts → All (λ node. node.0 < n) (map (λ (c : Cut). c.node) cuts)
+nodes_inside n [] h = All-nil (λ (node : NodeId). node.0 < n)
+nodes_inside n (c ∷ cs) h = All-cons (λ (node : NodeId). node.0 < n) c.node (map (λ (x : Cut). x.node) cs) (All-head (λ (x : Cut). x.node.0 < n) c cs h) (nodes_inside n cs (All-tail (λ (x : Cut). x.node.0 < n) c cs h))
+
+-- a net that is listed has a place
+listed_at : (ids : List NodeId) (id : ℕ) → is_listed ids id ≡ true → (k : ℕ) × (k < length ids) × ((d : NodeId) → (get_or ids k d).0 ≡ id)
+listed_at ids id h =
+    let any = Any-from_list_any (λ (node : NodeId). node.0 == id) ids h in
+    (any.0, any.2, λ d. ap (λ (x : NodeId). x.0) (get_or_default ids any.0 d any.1 any.2 ∙ any.3) ∙ eqb-true any.1.0 id any.4)
+
+at_replicate : {X : Type 0} (n k : ℕ) (x d : X) → k < n → get_or (replicate n x) k d ≡ x
+at_replicate zero k x d lt = absurd (omega (arith, lt))
+at_replicate (suc n) zero x d lt = refl
+at_replicate (suc n) (suc k) x d lt = at_replicate n k x d (omega (arith, lt))
+
+-- a frame of no time is one
+pub blank_is : (s : Store) (net : RawNet) (frame : Frame) → IsGood s → IsInRange net → frame.nets.items ≡ replicate net.nets unknown → frame.cut.items ≡ replicate net.nets true → frame.asked.items ≡ [] → All (λ gate. length gate.inputs < length frame.products.items) net.gates → IsFrame s net frame
+blank_is s net frame gs range nets cut asked room = record {
+  room = room;
+  long = ap length nets ∙ length-replicate net.nets unknown;
+  marked = ap length cut ∙ length-replicate net.nets true;
+  refs = subst (All (AreNetRefs s)) (sym nets) (all_unknown s net.nets gs);
+  inside = subst (All (λ (node : NodeId). node.0 < net.nets)) (sym asked) (All-nil (λ (node : NodeId). node.0 < net.nets));
+  undriven = λ id lt is none. subst (AreNetRails s everything) (sym (ap (λ (xs : List NetRails). net_at xs id) nets ∙ at_replicate net.nets id unknown unknown lt)) (unknown_net s gs);
+  kept = λ k d lt uncut. let id : ℕ = (get_or net.gates k d).output.0 in
+      absurd (false≢true (sym uncut ∙ ap (λ (xs : List Bool). flag_at xs id) cut ∙ at_replicate net.nets id true false (range.gate_outputs k d lt)));
+}
+
+-- the references of the latches' inputs are held
+pub given_refs : (s : Store) (nets : List NetRails) (latches : List Latch) → All (AreNetRefs s) nets → All (λ latch. latch.input.0 < length nets) latches → All (AreNetRefs s) (map (λ latch. net_at nets latch.input.0) latches)
+given_refs s nets [] refs inside = All-nil (AreNetRefs s)
+given_refs s nets (x ∷ xs) refs inside = All-cons (AreNetRefs s) (net_at nets x.input.0) (map (λ latch. net_at nets latch.input.0) xs)
+    (refs x.input.0 unknown (All-head (λ (latch : Latch). latch.input.0 < length nets) x xs inside)) (given_refs s nets xs refs (All-tail (λ (latch : Latch). latch.input.0 < length nets) x xs inside))
+
+-- no two latches drive one net
+one_latch : (latches : List Latch) → AllPairs (λ one other. one.output.0 ≢ other.output.0) latches → (j k : ℕ) (d : Latch) → j < length latches → k < length latches → (get_or latches j d).output.0 ≡ (get_or latches k d).output.0 → j ≡ k
+one_latch latches apart j k d l m same = elim (cases_lt j k) [
+  | inl less ↦ absurd (apart j k d less m same)
+  | inr more ↦ elim (cases_lt k j) [
+    | inl less ↦ absurd (apart k j d less l (sym same))
+    | inr other ↦ omega arith
+  ]
+]
+
+-- the set of a latch's output before its cuts
+pub latch_before : (net : RawNet) → HasOneDriver net → (ls : List SymbolicSet) (sets : ℕ → SymbolicSet) (l : ℕ) (d : Latch) → l < length net.latches → uncut net ls sets (get_or net.latches l d).output.0 ≡ get_or ls l everything
+latch_before net one ls sets l d lt = by (source_of net id) refl
+  where
+    id : ℕ
+    id = (get_or net.latches l d).output.0
+
+    by : (src : Source) → src ≡ source_of net id → uncut net ls sets id ≡ get_or ls l everything
+    by Input e = absurd ((known net one id Input e).1 l d lt refl)
+    by Free e = absurd ((known net one id Free e).1 l d lt refl)
+    by (OfGate g) e = absurd ((known net one id (OfGate g) e).2 l d lt refl)
+    by (OfLatch k) e =
+        let f : Facts net id (OfLatch k) = known net one id (OfLatch k) e in
+        before_by net ls sets id (OfLatch k) e ∙ ap (λ (i : ℕ). get_or ls i everything) (one_latch net.latches one.latches k l d f.0 lt (f.1 d))
+
+-- ---- one net is written
+
+pub stay_put : (sets : ℕ → SymbolicSet) (t u : Store) (nets : List NetRails) (id : ℕ) (r : NetRails) → IsGood t → IsGood u → Keeps t u → id < length nets
+    → (AreNetRails t (sets id) (net_at nets id) → AreNetRails u (sets id) r) → StayRight sets t nets u (set nets id r)
+stay_put sets t u nets id r gt gu k lt give j h = elim (cases_eq j id) [
+  | inl here ↦ subst (λ (i : ℕ). AreNetRails u (sets i) (net_at (set nets id r) i)) (sym here)
+      (subst (AreNetRails u (sets id)) (sym (get_or-set_same nets id r unknown lt)) (give (subst (λ (i : ℕ). AreNetRails t (sets i) (net_at nets i)) here h)))
+  | inr other ↦ subst (AreNetRails u (sets j)) (sym (get_or-set_other nets id j r unknown other)) (Net-keeps t u (sets j) (net_at nets j) gt gu k h)
+]
+
+pub here_put : (sets : ℕ → SymbolicSet) (u : Store) (nets : List NetRails) (id : ℕ) (r : NetRails) → id < length nets → AreNetRails u (sets id) r → AreNetRails u (sets id) (net_at (set nets id r) id)
+here_put sets u nets id r lt h = subst (AreNetRails u (sets id)) (sym (get_or-set_same nets id r unknown lt)) h
+
+pub stay_start : (sets : ℕ → SymbolicSet) (t : Store) (nets : List NetRails) → StayRight sets t nets t nets
+stay_start sets t nets id h = h
+
+pub stay_then : (sets : ℕ → SymbolicSet) (s t u : Store) (xs ys zs : List NetRails) → StayRight sets s xs t ys → StayRight sets t ys u zs → StayRight sets s xs u zs
+stay_then sets s t u xs ys zs early late id h = late id (early id h)
+
+-- one latch more
+pub latches_next : (net : RawNet) (sets : ℕ → SymbolicSet) (t u : Store) (nets new : List NetRails) (n : ℕ) (latch : Latch) → latch ≡ get_or net.latches n latch → HaveLatches net sets t n nets → StayRight sets t nets u new
+    → AreNetRails u (sets latch.output.0) (net_at new latch.output.0) → HaveLatches net sets u (n + 1) new
+latches_next net sets t u nets new n latch is have stay here k d lt inside = elim (cases_lt k n) [
+  | inl early ↦ stay (get_or net.latches k d).output.0 (have k d early inside)
+  | inr late ↦
+      let e : n ≡ k = omega (arith, lt, late) in
+      let same : latch ≡ get_or net.latches k d = is ∙ ap (λ (i : ℕ). get_or net.latches i latch) e ∙ get_or_default net.latches k latch d inside in
+      subst (λ (x : Latch). AreNetRails u (sets x.output.0) (net_at new x.output.0)) same here
+]
+
+-- one net more that nothing drives
+pub open_next : (net : RawNet) (sets : ℕ → SymbolicSet) (t u : Store) (ids : List NodeId) (nets new : List NetRails) (n : ℕ) (node : NodeId) → node ≡ get_or ids n node → HaveOpen net sets t ids n nets → StayRight sets t nets u new
+    → (IsOpen net node.0 → AreNetRails u (sets node.0) (net_at new node.0)) → HaveOpen net sets u ids (n + 1) new
+open_next net sets t u ids nets new n node is have stay here k d lt inside open_ = elim (cases_lt k n) [
+  | inl early ↦ stay (get_or ids k d).0 (have k d early inside open_)
+  | inr late ↦
+      let e : n ≡ k = omega (arith, lt, late) in
+      let same : node ≡ get_or ids k d = is ∙ ap (λ (i : ℕ). get_or ids i node) e ∙ get_or_default ids k node d inside in
+      subst (λ (x : NodeId). IsOpen net x.0 → AreNetRails u (sets x.0) (net_at new x.0)) same here open_
+]
+
+-- ---- all nets that no gate drives
+
+module _ (net : RawNet) (range : IsInRange net) (one : HasOneDriver net) (ls : List SymbolicSet) (ds : List SymbolicCut) (sets : ℕ → SymbolicSet) (long : length ls ≡ length net.latches) where
+  -- the set behind the cuts is that of the family
+  pub set_is : (s u : Store) (id : ℕ) (r : NetRails) → Keeps s u → ArePossibleEach s.vars net ls (asks ds) sets → AreNetRails u (after_cuts ds (uncut net ls sets) id) r → AreNetRails u (sets id) r
+  set_is s u id r k family h = Net-same u (after_cuts ds (uncut net ls sets) id) (sets id) r (λ bits l. fixed net s.vars ls (asks ds) sets bits range one long family (l ∙ k.vars) id) h
+
+  pub set_was : (s u : Store) (id : ℕ) (r : NetRails) → Keeps s u → ArePossibleEach s.vars net ls (asks ds) sets → AreNetRails u (sets id) r → AreNetRails u (after_cuts ds (uncut net ls sets) id) r
+  set_was s u id r k family h = Net-same u (sets id) (after_cuts ds (uncut net ls sets) id) r (λ bits l. sym (fixed net s.vars ls (asks ds) sets bits range one long family (l ∙ k.vars) id)) h
+
+  open_before : (id : ℕ) → IsOpen net id → uncut net ls sets id ≡ everything
+  open_before id (inl e) = before_by net ls sets id Input (sym e)
+  open_before id (inr e) = before_by net ls sets id Free (sym e)
+
+  -- a net that nothing drives, now or before
+  open_has : (s t u v : Store) (cuts : List Cut) (before : List NodeId) (xs ys zs ws : List NetRails) → IsGood s → IsGood v → Keeps s t → ArePossibleEach s.vars net ls (asks ds) sets → AllZip (IsCutBy s) ds cuts
+      → AreOpen s net before xs → StayRight sets s xs t ys → HaveOpen net sets u before (length before) zs → StayRight sets t ys u zs
+      → HaveOpen net sets v (map (λ (c : Cut). c.node) cuts) (length (map (λ (c : Cut). c.node) cuts)) ws → StayRight sets u zs v ws → (id : ℕ) → id < net.nets → IsOpen net id → AreNetRails v (sets id) (net_at ws id)
+  open_has s t u v cuts before xs ys zs ws gs gv kst family zip was to_t have_before to_u have_now to_v id lt is =
+      by (is_listed asked id) refl (is_listed before id) refl
+    where
+      asked : List NodeId
+      asked = map (λ (c : Cut). c.node) cuts
+
+      d0 : NodeId
+      d0 = record { 0 = 0 }
+
+      by : (a : Bool) → is_listed asked id ≡ a → (b : Bool) → is_listed before id ≡ b → AreNetRails v (sets id) (net_at ws id)
+      by true e b f =
+          let at = listed_at asked id e in
+          subst (λ (i : ℕ). AreNetRails v (sets i) (net_at ws i)) (at.2 d0) (have_now at.0 d0 at.1 at.1 (subst (IsOpen net) (sym (at.2 d0)) is))
+      by false e true f =
+          let at = listed_at before id f in
+          to_v id (subst (λ (i : ℕ). AreNetRails u (sets i) (net_at zs i)) (at.2 d0) (have_before at.0 d0 at.1 at.1 (subst (IsOpen net) (sym (at.2 d0)) is)))
+      by false e false f =
+          let here : AreNetRails s (after_cuts ds (uncut net ls sets) id) (net_at xs id) = subst (λ (w : SymbolicSet). AreNetRails s w (net_at xs id)) (sym (unlisted s ds cuts id (uncut net ls sets) zip e ∙ open_before id is)) (was id lt is f) in
+          to_v id (to_u id (to_t id (set_is s s id (net_at xs id) (Keeps-refl s) family here)))
+
+  pub all_sources : (s t u v : Store) (cuts : List Cut) (before : List NodeId) (xs ys zs ws : List NetRails) → IsGood s → IsGood v → Keeps s t → ArePossibleEach s.vars net ls (asks ds) sets → AllZip (IsCutBy s) ds cuts
+      → AreOpen s net before xs → HaveLatches net sets t (length net.latches) ys → StayRight sets s xs t ys → HaveOpen net sets u before (length before) zs → StayRight sets t ys u zs
+      → HaveOpen net sets v (map (λ (c : Cut). c.node) cuts) (length (map (λ (c : Cut). c.node) cuts)) ws → StayRight sets u zs v ws → HaveSources net sets v net.nets ws
+  all_sources s t u v cuts before xs ys zs ws gs gv kst family zip was latches to_t have_before to_u have_now to_v id lt source = by (source_of net id) refl
+    where
+      by : (src : Source) → src ≡ source_of net id → AreNetRails v (sets id) (net_at ws id)
+      by Input e = open_has s t u v cuts before xs ys zs ws gs gv kst family zip was to_t have_before to_u have_now to_v id lt (inl (sym e))
+      by Free e = open_has s t u v cuts before xs ys zs ws gs gv kst family zip was to_t have_before to_u have_now to_v id lt (inr (sym e))
+      by (OfGate g) e = absurd (source g (sym e))
+      by (OfLatch l) e =
+          let f : Facts net id (OfLatch l) = known net one id (OfLatch l) e in
+          let d : Latch = record { input = record { 0 = 0 }; output = record { 0 = 0 }; init = Zero } in
+          to_v id (to_u id (subst (λ (i : ℕ). AreNetRails t (sets i) (net_at ys i)) (f.1 d) (latches l d f.0 f.0)))
+
+  -- at the end of a time each net that nothing drives and that was not cut has both bits
+  pub undriven_here : (s u : Store) (cuts : List Cut) (ids : List NodeId) (nets : List NetRails) → Keeps s u → ArePossibleEach s.vars net ls (asks ds) sets → AllZip (IsCutBy s) ds cuts → ids ≡ map (λ (c : Cut). c.node) cuts
+      → HaveNets net sets u nets → AreOpen u net ids nets
+  undriven_here s u cuts ids nets k family zip are have id lt is none =
+      let same : after_cuts ds (uncut net ls sets) id ≡ everything = unlisted s ds cuts id (uncut net ls sets) zip (ap (λ (xs : List NodeId). is_listed xs id) (sym are) ∙ none) ∙ open_before id is in
+      subst (λ (w : SymbolicSet). AreNetRails u w (net_at nets id)) same (set_was s u id (net_at nets id) k family (have id lt))

@@ -1,0 +1,52 @@
+use Rattle.std.proofs.Common.{◌∷◌, ◌++◌, List, get_or-set_same, refl, sym, ◌∙◌, ap, subst, Ok}
+use Rattle.std.specs.Prelude.{slice_get}
+use Rattle.dd_nodes.specs.Diagram.{Function}
+use Rattle.dd_nodes.specs.Stores.{Store}
+use Rattle.net_core.specs.declared.raw.Gate.{Gate}
+use Rattle.net_core.specs.Work.{SymbolicSet, after_cuts, cover_work, cuts_work, input_sets, some_bit}
+use Rattle.dual_rail.specs.Rail.{Whatever}
+use Rattle.dual_rail.proofs.Works.{Built-made, So-start, first, pass}
+use Rattle.sym_step.specs.declared.net_rails.NetRails.{NetRails}
+use Rattle.sym_step.specs.private.NetSets.{AreNetRails, HasNetSet, net_at}
+use Rattle.sym_step.proofs.Cutting.{unmarked}
+use Rattle.sym_step.proofs.Sourced.{unknown}
+use Rattle.sym_step.proofs.place.renew.Goals as goal
+
+pub returns-then-is_kept-clause-have : goal.returns-then-is_kept-clause-have
+returns-then-is_kept-clause-have g c = λ ds before sets zip have is.
+    let s : Store = g.N.Nodes.store c.args.nodes.now in
+    let gate : Gate = c.args.g.now in
+    let p = c.if-is_kept.ensures in
+    let r : NetRails = net_at c.args.nets.now gate.output.0 in
+    subst (λ (w : SymbolicSet). AreNetRails s w r) (sym (unmarked s ds c.args.cuts.now c.args.marks.now gate.output.0 before zip c.requires.marks (p.mark refl) ∙ is))
+    (c.requires.kept (p.cut refl) (p.output refl) (p.inputs refl) sets have)
+
+pub returns-in_err-r-clause-built : goal.returns-in_err-r-clause-built
+returns-in_err-r-clause-built g c = λ ds before sets zip have is.
+    let s : Store = g.N.Nodes.store c.args.nodes.now in
+    let t : Store = g.N.Nodes.store c.place.new.nodes in
+    let gate : Gate = c.args.g.now in
+    let w : SymbolicSet = after_cuts ds before gate.output.0 in
+    let work : List Function = some_bit w ∷ (cover_work (slice_get c.args.net.now.raw.covers gate.cover) (input_sets sets gate) ++ cuts_work ds before) in
+    pass work (HasNetSet w) Whatever s s t c.in_err-r.field-0.0 c.from_residual.result (g.met.N.Nodes.diagram c.args.nodes.now) (g.met.N.Nodes.diagram c.place.new.nodes) (So-start work s)
+    (c.in_err-r.ensures.built ds before sets zip have is) c.from_residual.ensures.1
+
+pub returns-clause-built : goal.returns-clause-built
+returns-clause-built g c = λ ds before sets zip have is.
+    let s : Store = g.N.Nodes.store c.args.nodes.now in
+    let t : Store = g.N.Nodes.store c.place.new.nodes in
+    let gate : Gate = c.args.g.now in
+    let w : SymbolicSet = after_cuts ds before gate.output.0 in
+    let work : List Function = some_bit w ∷ (cover_work (slice_get c.args.net.now.raw.covers gate.cover) (input_sets sets gate) ++ cuts_work ds before) in
+    let b = c.in_ok-r.ensures.built ds before sets zip have is in
+    Built-made work Whatever s t tt (first work (HasNetSet w) s t (Ok c.in_ok-r.r) b) tt
+
+pub returns-clause-have : goal.returns-clause-have
+returns-clause-have g c = λ ds before sets zip have is.
+    let t : Store = g.N.Nodes.store c.place.new.nodes in
+    let gate : Gate = c.args.g.now in
+    let out = gate.output.0 in
+    let w : SymbolicSet = after_cuts ds before out in
+    let r : NetRails = c.in_ok-r.r in
+    subst (AreNetRails t w) (sym (ap (λ (xs : List NetRails). net_at xs out) c.put.ensures.nets ∙ get_or-set_same c.args.nets.now out r unknown c.requires.output))
+    (c.in_ok-r.ensures.built ds before sets zip have is).ok

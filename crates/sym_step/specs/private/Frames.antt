@@ -1,0 +1,82 @@
+-- For private functions. What is kept of one time for the next.
+use Rattle.std.specs.Prelude.{◌≡◌, ◌⊎◌, ◌<◌, ◌==◌, All, Bool, false, ℕ, List, length, slice_index_or}
+use Rattle.std.specs.List.{list_any}
+use Rattle.ste_base.specs.declared.id.NodeId.{NodeId}
+use Rattle.dd_nodes.specs.Stores.{Store}
+use Rattle.net_core.specs.declared.raw.Gate.{Gate}
+use Rattle.net_core.specs.declared.raw.RawNet.{RawNet}
+use Rattle.net_core.specs.declared.raw.Latch.{Latch}
+use Rattle.net_core.specs.declared.source.Source.TheVariants.{Input, Free}
+use Rattle.net_core.specs.Source.{source_of}
+use Rattle.net_core.specs.Work.{SymbolicSet, everything, output_set}
+use Rattle.sym_step.specs.declared.frame.Frame.{Frame}
+use Rattle.sym_step.specs.declared.net_rails.NetRails.{NetRails}
+use Rattle.sym_step.specs.private.NetSets.{AreNetRails, AreNetRefs, HaveInputs, net_at}
+
+-- the flag of a net in a list; none for a number that is no net
+abbrev pub flag_at : List Bool → ℕ → Bool
+flag_at flags id = slice_index_or flags id false
+
+-- the gate's output has the set that the gate gives, whatever sets its inputs have
+abbrev pub IsGiven : Store → RawNet → List NetRails → Gate → Type 0
+IsGiven s net nets gate =
+    (sets : ℕ → SymbolicSet) → HaveInputs s sets nets gate.inputs →
+    AreNetRails s (output_set net sets gate) (net_at nets gate.output.0)
+
+-- the same, where neither its inputs nor its output have changed, and the output was not cut
+abbrev pub IsKept : Store → RawNet → List Bool → List Bool → List NetRails → Gate → Type 0
+IsKept s net cut changed nets gate =
+    flag_at cut gate.output.0 ≡ false → flag_at changed gate.output.0 ≡ false →
+    All (λ input. flag_at changed input.0 ≡ false) gate.inputs → IsGiven s net nets gate
+
+abbrev pub AreKept : Store → RawNet → List Bool → List Bool → List NetRails → Type 0
+AreKept s net cut changed nets = All (IsKept s net cut changed nets) net.gates
+
+-- a net that has not changed had not before, and has the references of before
+abbrev pub AreNoted : List Bool → List NetRails → List Bool → List NetRails → Type 0
+AreNoted before old after new =
+    (id : ℕ) → flag_at after id ≡ false → (flag_at before id ≡ false) × (net_at new id ≡ net_at old id)
+
+-- nothing drives the net
+abbrev pub IsOpen : RawNet → ℕ → Type 0
+IsOpen net id = (source_of net id ≡ Input) ⊎ (source_of net id ≡ Free)
+
+-- whether the net is in the list
+abbrev pub is_listed : List NodeId → ℕ → Bool
+is_listed ids id = list_any (λ node. node.0 == id) ids
+
+-- each net that nothing drives and that was not cut has both bits
+abbrev pub AreOpen : Store → RawNet → List NodeId → List NetRails → Type 0
+AreOpen s net before nets =
+    (id : ℕ) → id < net.nets → IsOpen net id → is_listed before id ≡ false → AreNetRails s everything (net_at nets id)
+
+-- what is said of one net: where nothing drives it, or it had this set, it has it
+abbrev pub IsOpened : RawNet → SymbolicSet → Store → NetRails → ℕ → Store → NetRails → Type 0
+IsOpened net w s now id t r = AreNetRefs t r × ((IsOpen net id ⊎ AreNetRails s w now) → AreNetRails t w r)
+
+-- the outputs of the first n latches have their sets
+abbrev pub HaveLatches : RawNet → (ℕ → SymbolicSet) → Store → ℕ → List NetRails → Type 0
+HaveLatches net sets t n nets =
+    (k : ℕ) (d : Latch) → k < n → k < length net.latches →
+    AreNetRails t (sets (slice_index_or net.latches k d).output.0) (net_at nets (slice_index_or net.latches k d).output.0)
+
+-- those of the first n nets of a list that nothing drives have their sets
+abbrev pub HaveOpen : RawNet → (ℕ → SymbolicSet) → Store → List NodeId → ℕ → List NetRails → Type 0
+HaveOpen net sets t ids n nets =
+    (k : ℕ) (d : NodeId) → k < n → k < length ids → IsOpen net (slice_index_or ids k d).0 →
+    AreNetRails t (sets (slice_index_or ids k d).0) (net_at nets (slice_index_or ids k d).0)
+
+-- each net that had its set has it still
+abbrev pub StayRight : (ℕ → SymbolicSet) → Store → List NetRails → Store → List NetRails → Type 0
+StayRight sets t old u new =
+    (id : ℕ) → AreNetRails t (sets id) (net_at old id) → AreNetRails u (sets id) (net_at new id)
+
+-- A frame of a time: each net has references that are held, and a gate whose output was not cut has given it its set.
+pub record IsFrame (s : Store) (net : RawNet) (frame : Frame) : Type 0 where
+  pub long : length frame.nets.items ≡ net.nets
+  pub marked : length frame.cut.items ≡ net.nets
+  pub refs : All (AreNetRefs s) frame.nets.items
+  pub room : All (λ gate. length gate.inputs < length frame.products.items) net.gates
+  pub inside : All (λ node. node.0 < net.nets) frame.asked.items
+  pub undriven : AreOpen s net frame.asked.items frame.nets.items
+  pub kept : All (λ gate. flag_at frame.cut.items gate.output.0 ≡ false → IsGiven s net frame.nets.items gate) net.gates
