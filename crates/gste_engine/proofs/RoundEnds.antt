@@ -20,10 +20,9 @@ use Rattle.ste_model.specs.GraphWork.{SymbolicState, start_state, state_at}
 use Rattle.ste_model.specs.Work.{constant_set}
 use Rattle.gste_engine.specs.declared.rounds.Progress.{Progress}
 use Rattle.gste_engine.specs.declared.rounds.Sweep.{Sweep}
-use Rattle.gste_engine.specs.declared.rounds.Wave.{Wave}
 use Rattle.gste_engine.specs.declared.state.State.{State}
 use Rattle.gste_engine.specs.Tables.{AreEdgesOver, AreStateRefs, HasStates, IsGraphOver, IsState}
-use Rattle.gste_engine.specs.private.Rounds.{AreGivenFrom, AtStart, IsBetween, IsGivenFrom, IsSwept, IsWave}
+use Rattle.gste_engine.specs.private.Rounds.{AreGivenFrom, AtStart, IsBetween, IsGivenFrom, IsSwept}
 use Rattle.gste_engine.specs.private.Sums.{HaveFunctions, IsSumOf, begun, begun_at, never_state, summed_at, unions, unreached, with_state, with_states}
 use Rattle.gste_engine.proofs.AllGiven.{ArePossibleOn, given_long, given_of, own_has, own_possible, own_sets, own_table}
 use Rattle.gste_engine.proofs.Arrivals.{begun_get, begun_is, begun_long, begun_refs, never_is}
@@ -75,19 +74,6 @@ module _ (net : RawNet) (graph : Graph) (table : List State) (long : length tabl
         wide = given_long net states sets;
         are = givens_zip t net graph.edges table givens states sets settled (subst (λ n. AreEdgesOver net t.vars n graph.edges) (sym long) over) (own_has t net table gt refs) (own_possible t net table gt refs settled graph.edges) q;
       }
-
--- before the first vertex that waits is summed
-pub swept_begins : (t : Store) (net : RawNet) (graph : Graph) (table : Vec State Global) (wave : Wave) (none : Vec ℕ Global) → none.items ≡ [] → length table.items ≡ length graph.vertices → All (AreStateRefs t net) table.items → IsWave t net graph table.items [] 0 (length graph.edges) wave
-    → IsSwept t net graph wave.givens.items table.items wave.waiting.list.items (record { table = table; flags = wave.waiting.flags; changed = none })
-swept_begins t net graph table wave none is long refs p = record {
-  long = long;
-  refs = refs;
-  flags = p.flags;
-  clear = p.waiting.listed;
-  inside = subst (λ (xs : List ℕ). All (λ v. v < length graph.vertices) xs) (sym {A = List ℕ} is) (All-nil (λ v. v < length graph.vertices));
-  sums = p.sums;
-  same = λ v d lt out. refl;
-}
 
 -- ---- where no vertex has changed
 

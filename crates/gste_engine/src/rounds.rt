@@ -213,6 +213,57 @@ struct Progress {
     flags: Vec<bool>,
 }
 
+/// The table of the next round, from what each edge gives on a table: the vertices that wait are summed again.
+fn resummed<N: Nodes>(
+    alloc: Global,
+    nodes: &mut N,
+    net: &Net,
+    graph: &Graph,
+    into: &Links,
+    table: Vec<State>,
+    wave: Wave,
+) -> Result<Progress, OpFault>
+    requires graph { IsGraphOver net.now.raw (N.store nodes.old).vars graph.now }
+    requires into { AreLinks To (length graph.now.vertices) graph.now.edges into.now }
+    requires long { length table.items ≡ length graph.now.vertices }
+    requires table { All (AreStateRefs (N.store nodes.old) net.now.raw) table.items }
+    requires known { IsWave (N.store nodes.old) net.now.raw graph.now table.items
+        [] 0 (length graph.now.edges) wave }
+    ensures { (states : ℕ → SymbolicState) (sets : AnEdge → ℕ → SymbolicSet)
+        → HasStates states (length graph.now.vertices) (N.store nodes.old) table.items
+        → All (λ edge. ArePossibleEach (N.store nodes.old).vars net.now.raw
+        (states edge.from).latches (symbolic_asked_on edge) (sets edge)) graph.now.edges
+        → Built (arrivals_work net.now.raw graph.now
+        (λ edge. given_by net.now.raw (states edge.from) (sets edge)))
+        (IsTurn net.now.raw graph.now states sets)
+        (N.store nodes.old) (N.store nodes.new) result }
+{
+    settles(net);
+    let Wave { givens, waiting } = wave;
+    let Waiting { flags, list } = waiting;
+    let start = Sweep {
+        table,
+        flags,
+        changed: Vec::new(alloc),
+    };
+    let sweep = swept(
+        alloc,
+        nodes,
+        net,
+        graph,
+        into,
+        givens.as_slice(),
+        list.as_slice(),
+        start,
+    )?;
+    Ok(Progress {
+        table: sweep.table,
+        givens,
+        changed: sweep.changed,
+        flags: sweep.flags,
+    })
+}
+
 /// The edges of a graph by both ends.
 #[derive(Drop)]
 struct Ends {
@@ -277,30 +328,7 @@ fn round<N: Nodes>(
         start.changed.as_slice(),
         known,
     )?;
-    let waiting = wave.waiting;
-    let givens = wave.givens;
-    let list = waiting.list;
-    let old = Sweep {
-        table,
-        flags: waiting.flags,
-        changed: Vec::new(alloc),
-    };
-    let sweep = swept(
-        alloc,
-        nodes,
-        net,
-        graph,
-        &ends.into,
-        givens.as_slice(),
-        list.as_slice(),
-        old,
-    )?;
-    Ok(Progress {
-        table: sweep.table,
-        givens,
-        changed: sweep.changed,
-        flags: sweep.flags,
-    })
+    resummed(alloc, nodes, net, graph, &ends.into, table, wave)
 }
 
 /// Round 1: vertex 0 is reached, and nothing is given yet.
