@@ -1,9 +1,8 @@
 -- What an edge gives stays where the references of its source stay.
-use Rattle.std.proofs.Common.{◌≡◌, ℕ, suc, ◌+◌, ◌<◌, ◌≤◌, Bool, false, not, List, [], ◌∷◌, length, get_or, map, set, replicate, refl, sym, ◌∙◌, ap, subst, arith, inl, inr}
+use Rattle.std.proofs.Common.{◌≡◌, ℕ, suc, ◌<◌, Bool, false, not, List, [], ◌∷◌, length, get_or, map, replicate, refl, sym, ◌∙◌, ap, subst, arith}
 use Rattle.std.specs.List.{AllZip}
 use Rattle.std.specs.Prelude.{◌&&◌}
-use Rattle.std.proofs.lemmas.Bool.{cases_lt}
-use Rattle.std.proofs.lemmas.List.{get_or-replicate, get_or-set_other, get_or-set_same, get_or_default, length-replicate, length-set}
+use Rattle.std.proofs.lemmas.List.{get_or-replicate, length-replicate}
 use Rattle.dd_nodes.specs.Stores.{Store, Keeps}
 use Rattle.dd_nodes.proofs.Stores.{IsGood}
 use Rattle.net_core.specs.declared.bit_set.BitSet.{BitSet}
@@ -21,7 +20,7 @@ use Rattle.ste_model.proofs.Alike.{SameFamily, empty_same}
 use Rattle.sym_step.proofs.Whole.{sets_exist}
 use Rattle.gste_engine.specs.declared.state.State.{State}
 use Rattle.gste_engine.specs.Tables.{AreEdgesOver, HasStates, IsState}
-use Rattle.gste_engine.specs.private.Rounds.{AreGivenFrom, AreRenewed, IsGivenFrom}
+use Rattle.gste_engine.specs.private.Rounds.{AreGivenFrom, IsGivenFrom}
 use Rattle.gste_engine.specs.private.Sums.{never_state, unreached}
 use Rattle.gste_engine.proofs.AllGiven.{ArePossibleOn, given_of}
 use Rattle.gste_engine.proofs.Arrivals.{never_is}
@@ -86,7 +85,7 @@ From-keeps s t net edge source given gs gt keeps p = record {
 }
 
 -- nothing is given where nothing is reached
-never_given : (t : Store) (net : RawNet) (edge : Edge) → IsSettled net → IsGood t → IsGivenFrom t net edge (unreached net) (unreached net)
+pub never_given : (t : Store) (net : RawNet) (edge : Edge) → IsSettled net → IsGood t → IsGivenFrom t net edge (unreached net) (unreached net)
 never_given t net edge settled gt =
     let some = sets_exist net t.vars (never_state net).latches (symbolic_asked_on edge) settled (never_long net) in
     record {
@@ -131,59 +130,3 @@ pub givens_zip : (t : Store) (net : RawNet) (edges : List Edge) (table givens : 
 givens_zip t net edges table givens states sets settled over has possible p = zip_from (λ (edge : Edge) (r : State). IsState t (given_of net states sets edge) r) edges givens p.long (λ k d f lt.
     let edge = get_or edges k d in
     given_stays t net edge (get_or table edge.from f) (get_or givens k f) settled (p.each k d f f lt) (states edge.from) (sets edge) (has.each edge.from f (over k d lt).start) (possible k d lt))
-
--- ---- one more edge
-
-pub renewed_start : (t : Store) (net : RawNet) (edges : List Edge) (before table givens : List State) → AreGivenFrom t net edges before givens → AreRenewed t net edges before table 0 givens
-renewed_start t net edges before table givens p = record {
-  long = p.long;
-  first = λ i d e f lt none. absurd (omega (arith, none));
-  others = λ i d e f lt le. p.each i d e f lt;
-}
-
-pub renewed_end : (t : Store) (net : RawNet) (edges : List Edge) (before table givens : List State) (k : ℕ) → length edges ≤ k → AreRenewed t net edges before table k givens → AreGivenFrom t net edges table givens
-renewed_end t net edges before table givens k all p = record {
-  long = p.long;
-  each = λ i d e f lt. p.first i d e f lt (omega (arith, all, lt));
-}
-
--- where its source has the same references, it gives the same
-pub renewed_same : (t : Store) (net : RawNet) (edges : List Edge) (before table givens : List State) (k : ℕ) (edge : Edge) (old source : State) → k < length edges → edge ≡ get_or edges k edge → edge.from < length before → edge.from < length table
-    → old ≡ get_or before edge.from old → source ≡ get_or table edge.from source → old ≡ source → AreRenewed t net edges before table k givens → AreRenewed t net edges before table (k + 1) givens
-renewed_same t net edges before table givens k edge old source lt is inside there is_old is_source same p = record {
-  long = p.long;
-  first = λ i d e f l at. elim (cases_lt i k) [
-    | inl less ↦ p.first i d e f l less
-    | inr le ↦
-        let here : i ≡ k = omega (arith, at, le) in
-        let this : get_or edges i d ≡ edge = ap (λ j. get_or edges j d) here ∙ get_or_default edges k d edge lt ∙ sym is in
-        let now : get_or before edge.from e ≡ get_or table edge.from e = get_or_default before edge.from e old inside ∙ sym is_old ∙ same ∙ is_source ∙ get_or_default table edge.from source e there in
-        let moved : get_or before (get_or edges i d).from e ≡ get_or table (get_or edges i d).from e = subst (λ (x : Edge). get_or before x.from e ≡ get_or table x.from e) (sym this) now in
-        subst (λ (x : State). IsGivenFrom t net (get_or edges i d) x (get_or givens i f)) moved (p.others i d e f l le)
-  ];
-  others = λ i d e f l le. p.others i d e f l (omega (arith, le));
-}
-
--- and where not, it is evaluated
-pub renewed_made : (s t : Store) (net : RawNet) (edges : List Edge) (before table givens : List State) (k : ℕ) (edge : Edge) (source given : State) → IsGood s → IsGood t → Keeps s t → k < length edges → edge ≡ get_or edges k edge → edge.from < length table
-    → source ≡ get_or table edge.from source → IsGivenFrom t net edge source given → AreRenewed s net edges before table k givens → AreRenewed t net edges before table (k + 1) (set givens k given)
-renewed_made s t net edges before table givens k edge source given gs gt keeps lt is there is_source made p = record {
-  long = length-set givens k given ∙ p.long;
-  first = λ i d e f l at. elim (cases_lt i k) [
-    | inl less ↦
-        let other : get_or (set givens k given) i f ≡ get_or givens i f = get_or-set_other givens k i given f (λ n. omega (arith, n, less)) in
-        subst (λ (x : State). IsGivenFrom t net (get_or edges i d) (get_or table (get_or edges i d).from e) x) (sym other)
-        (From-keeps s t net (get_or edges i d) (get_or table (get_or edges i d).from e) (get_or givens i f) gs gt keeps (p.first i d e f l less))
-    | inr le ↦
-        let here : i ≡ k = omega (arith, at, le) in
-        let this : get_or edges i d ≡ edge = ap (λ j. get_or edges j d) here ∙ get_or_default edges k d edge lt ∙ sym is in
-        let read : source ≡ get_or table edge.from e = is_source ∙ get_or_default table edge.from source e there in
-        let wrote : get_or (set givens k given) i f ≡ given = ap (λ j. get_or (set givens k given) j f) here ∙ get_or-set_same givens k given f (let n = p.long in omega (arith, n, lt)) in
-        let now : IsGivenFrom t net edge (get_or table edge.from e) (get_or (set givens k given) i f) = subst (λ (x : State). IsGivenFrom t net edge x (get_or (set givens k given) i f)) read (subst (λ (x : State). IsGivenFrom t net edge source x) (sym wrote) made) in
-        subst (λ (x : Edge). IsGivenFrom t net x (get_or table x.from e) (get_or (set givens k given) i f)) (sym this) now
-  ];
-  others = λ i d e f l le.
-      let other : get_or (set givens k given) i f ≡ get_or givens i f = get_or-set_other givens k i given f (λ n. omega (arith, n, le)) in
-      subst (λ (x : State). IsGivenFrom t net (get_or edges i d) (get_or before (get_or edges i d).from e) x) (sym other)
-      (From-keeps s t net (get_or edges i d) (get_or before (get_or edges i d).from e) (get_or givens i f) gs gt keeps (p.others i d e f l (omega (arith, le))));
-}

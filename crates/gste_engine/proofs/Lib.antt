@@ -16,12 +16,17 @@ pub mod Joins
 pub mod Judging
 pub mod KeptGivens
 pub mod KeptRefs
+pub mod Linked
 pub mod Lists
 pub mod NextSums
 pub mod NextTables
 pub mod Reporting
+pub mod RoundEnds
 pub mod RoundParts
 pub mod Sets
 pub mod StateRefs
+pub mod SumsStay
+pub mod Sweeps
 pub mod Starts
 pub mod Turning
+pub mod Waves

@@ -30,7 +30,7 @@ use Rattle.gste_engine.proofs.Sets.{no_set}
 -- ---- unions under one assignment
 
 module _ (net : RawNet) (bits : List Bool) where
-  unions_here : (vs ws : List SymbolicSet) → map (set_at bits) (unions vs ws) ≡ join_sets (map (set_at bits) vs) (map (set_at bits) ws)
+  pub unions_here : (vs ws : List SymbolicSet) → map (set_at bits) (unions vs ws) ≡ join_sets (map (set_at bits) vs) (map (set_at bits) ws)
   unions_here [] ws = refl
   unions_here (v ∷ vs) [] = refl
   unions_here (v ∷ vs) (w ∷ ws) =

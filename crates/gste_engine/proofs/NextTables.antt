@@ -24,10 +24,10 @@ use Rattle.ste_model.proofs.Rounds.{below, long, same_least, settle_all, states_
 use Rattle.dual_rail.specs.declared.rails.Rails.{Rails}
 use Rattle.dual_rail.specs.Rail.{AreRails, Built}
 use Rattle.dual_rail.proofs.Works.{Built-good, SoFar}
-use Rattle.gste_engine.specs.declared.rounds.Turn.{Turn}
+use Rattle.gste_engine.specs.declared.rounds.Progress.{Progress}
 use Rattle.gste_engine.specs.declared.state.State.{State}
 use Rattle.gste_engine.specs.Tables.{HasStates, IsState, rounds_work}
-use Rattle.gste_engine.specs.private.Rounds.{AreGivenFrom, IsTurn, one_round_work}
+use Rattle.gste_engine.specs.private.Rounds.{IsBetween, IsTurn, one_round_work}
 use Rattle.gste_engine.specs.private.Sums.{summed_at}
 use Rattle.gste_engine.proofs.AllGiven.{ArePossibleOn, given_of}
 use Rattle.gste_engine.proofs.NextSums.{sums_next}
@@ -146,20 +146,20 @@ pub record RoundsSoFar (net : RawNet) (graph : Graph) (tables : ℕ → ℕ → 
   pub has : HasStates (tables m) (length graph.vertices) t rs
 
 -- what is promised of one round
-abbrev pub GivesNext : RawNet → Graph → List State → Store → Store → Result Turn OpFault → Type 0
+abbrev pub GivesNext : RawNet → Graph → List State → Store → Store → Result Progress OpFault → Type 0
 GivesNext net graph table t u result = (states : ℕ → SymbolicState) (sets : Edge → ℕ → SymbolicSet) → HasStates states (length graph.vertices) t table → ArePossibleOn t.vars net states sets graph.edges
-    → Built (one_round_work net graph states sets) (IsTurn net graph table states sets) t u result
+    → Built (one_round_work net graph states sets) (IsTurn net graph states sets) t u result
 
 -- the same of the round that it is
-pub record IsTurnAt (net : RawNet) (graph : Graph) (table : List State) (tables : ℕ → ℕ → SymbolicState) (m : ℕ) (t : Store) (r : Turn) : Type 0 where
-  pub givens : AreGivenFrom t net graph.edges table r.givens.items
-  pub next : HasStates (tables m) (length graph.vertices) t r.next.items
+pub record IsTurnAt (net : RawNet) (graph : Graph) (tables : ℕ → ℕ → SymbolicState) (m : ℕ) (t : Store) (r : Progress) : Type 0 where
+  pub between : IsBetween t net graph r
+  pub has : HasStates (tables m) (length graph.vertices) t r.table.items
 
-pub round_turn : (net : RawNet) (graph : Graph) (tables : ℕ → ℕ → SymbolicState) (sets : ℕ → Edge → ℕ → SymbolicSet) (s t u : Store) (m : ℕ) (table : List State) (result : Result Turn OpFault) → IsSettled net → IsGood t → IsGood u → AreWholeRounds net s.vars graph tables sets → m < suc (enough net graph)
-    → Keeps s t → RoundsSoFar net graph tables sets s t m table → GivesNext net graph table t u result → Built (rounds_work net graph tables sets) (IsTurnAt net graph table tables (suc m)) s u result
+pub round_turn : (net : RawNet) (graph : Graph) (tables : ℕ → ℕ → SymbolicState) (sets : ℕ → Edge → ℕ → SymbolicSet) (s t u : Store) (m : ℕ) (table : List State) (result : Result Progress OpFault) → IsSettled net → IsGood t → IsGood u → AreWholeRounds net s.vars graph tables sets → m < suc (enough net graph)
+    → Keeps s t → RoundsSoFar net graph tables sets s t m table → GivesNext net graph table t u result → Built (rounds_work net graph tables sets) (IsTurnAt net graph tables (suc m)) s u result
 round_turn net graph tables sets s t u m table result settled gt gu whole lt keeps p call =
     let work : List Function = rounds_work net graph tables sets in
-    let Good : Store → Turn → Type 0 = IsTurn net graph table (tables m) (sets m) in
+    let Good : Store → Progress → Type 0 = IsTurn net graph (tables m) (sets m) in
     let here : ArePossibleOn t.vars net (tables m) (sets m) graph.edges = subst (λ v. ArePossibleOn v net (tables m) (sets m) graph.edges) (sym keeps.vars) (possible_each net s.vars graph tables sets whole m) in
     let b : Built work Good s u result = turned work (one_round_work net graph (tables m) (sets m)) Good s t u result gt gu (round_in net graph tables sets m lt) p.so (call (tables m) (sets m) p.has here) in
-    Built-good work Good (IsTurnAt net graph table tables (suc m)) s u result (λ turn h. record { givens = h.givens; next = states_next net s.vars graph tables sets whole settled u m turn.next.items b.spends.keeps.vars h.next }) b
+    Built-good work Good (IsTurnAt net graph tables (suc m)) s u result (λ turn h. record { between = h.between; has = states_next net s.vars graph tables sets whole settled u m turn.table.items b.spends.keeps.vars h.has }) b

@@ -1,12 +1,10 @@
 -- One round: the functions of its parts, and what it says of all edges.
-use Rattle.std.proofs.Common.{ℕ, suc, ◌<◌, List, [], ◌∷◌, ◌++◌, length, Result, Vec, Global, Contains, inl, inr, ⊎_elim}
+use Rattle.std.proofs.Common.{ℕ, suc, ◌<◌, List, [], ◌∷◌, ◌++◌, Contains, inl, inr, ⊎_elim}
 use Rattle.std.specs.Prelude.{◌⊎◌}
 use Rattle.std.specs.List.{flat_map}
 use Rattle.std.proofs.lemmas.List.Elements.{Contains-append_cases, Contains-append_left, Contains-append_right}
 use Rattle.dd_nodes.specs.Diagram.{Function}
-use Rattle.dd_nodes.specs.Stores.{Store}
 use Rattle.dd_nodes.proofs.Members.{Contains-none}
-use Rattle.dd_ops.specs.declared.fault.OpFault.{OpFault}
 use Rattle.net_core.specs.declared.raw.RawNet.{RawNet}
 use Rattle.net_core.specs.Work.{SymbolicSet}
 use Rattle.ste_model.specs.declared.task.Edge.{Edge}
@@ -14,22 +12,12 @@ use Rattle.ste_model.specs.declared.task.Graph.{Graph}
 use Rattle.ste_model.specs.GraphTable.{enough}
 use Rattle.ste_model.specs.GraphWork.{SymbolicState, binds_work, edge_time_work, round_work}
 use Rattle.ste_model.specs.Work.{over_times}
-use Rattle.dual_rail.specs.Rail.{Built}
 use Rattle.dual_rail.proofs.Works.{Within}
-use Rattle.gste_engine.specs.declared.state.State.{State}
-use Rattle.gste_engine.specs.Tables.{HasStates, antecedents_work, rounds_work}
-use Rattle.gste_engine.specs.private.Rounds.{AreGivenFrom, edges_work, one_round_work}
+use Rattle.gste_engine.specs.Tables.{antecedents_work, rounds_work}
+use Rattle.gste_engine.specs.private.Rounds.{edges_work, one_round_work}
 use Rattle.gste_engine.specs.private.Sums.{arrivals_work}
-use Rattle.gste_engine.proofs.AllGiven.{ArePossibleOn, given_of}
+use Rattle.gste_engine.proofs.AllGiven.{given_of}
 use Rattle.gste_engine.proofs.Comings.{through}
-
-abbrev pub IsRefreshed : RawNet → List State → List Edge → Store → Vec State Global → Type 0
-IsRefreshed net table edges t givens = AreGivenFrom t net edges table givens.items
-
--- what is promised of all edges of a list
-abbrev pub GivesAll : RawNet → List State → Store → Store → Result (Vec State Global) OpFault → List Edge → Type 0
-GivesAll net table s t result edges = (states : ℕ → SymbolicState) (sets : Edge → ℕ → SymbolicSet) → HasStates states (length table) s table → ArePossibleOn s.vars net states sets edges
-    → Built (edges_work net states sets edges) (IsRefreshed net table edges) s t result
 
 module _ (net : RawNet) (graph : Graph) (states : ℕ → SymbolicState) (sets : Edge → ℕ → SymbolicSet) where
   pub edges_in : Within (edges_work net states sets graph.edges) (one_round_work net graph states sets)

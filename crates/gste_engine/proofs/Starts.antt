@@ -79,9 +79,9 @@ grouped i v e lt = subst (λ n. i * e + e ≤ n * e) (let is : v - (i + 1) + (i 
 pub all_rounds : (v l e : ℕ) → e ≡ l * 2 + 1 → v * e + 1 ≡ 2 * v * l + v + 1
 all_rounds v l e is = ap (λ n. v * n + 1) is ∙ omega arith
 
--- the rounds of one group are among them, and so is the last one
-pub group_below : (i v l e : ℕ) → e ≡ l * 2 + 1 → i < v → i * e + e ≤ 2 * v * l + v + 1
+-- the rounds of one group behind round 1 are among them
+pub group_below : (i v l e : ℕ) → e ≡ l * 2 + 1 → i < v → (i * e + 1) + e ≤ 2 * v * l + v + 1
 group_below i v l e is lt = let all = all_rounds v l e is in let some = grouped i v e lt in omega (arith, all, some)
 
-pub next_group : (i e : ℕ) → i * e + e ≡ (i + 1) * e
+pub next_group : (i e : ℕ) → (i * e + 1) + e ≡ (i + 1) * e + 1
 next_group i e = omega arith

@@ -3,6 +3,8 @@ pub mod EdgeFinds
 pub mod Due
 pub mod Given
 pub mod Judged
+pub mod Links
 pub mod Rounds
 pub mod Sums
 pub mod Taken
+pub mod Waiting

@@ -10,6 +10,7 @@ mod found;
 mod gate;
 mod hops;
 mod judged;
+mod links;
 mod reports;
 pub mod rounds;
 mod same;
@@ -17,6 +18,7 @@ mod shown;
 pub mod state;
 mod sums;
 mod taken;
+mod waiting;
 
 pub use edge::{EdgeFound, edge_found};
 pub use engine::check_graph;

@@ -1,7 +1,7 @@
 //! The rounds, for all assignments at once, up to the least closed table; begin with `settle`.
 
-ghost use Rattle.std.specs.Prelude.{◌≡◌, ◌<◌, ◌≤◌, ◌+◌, ℕ, List, All, IfOk, length, map};
-ghost use Rattle.std.specs.List.{AllZip, flat_map};
+ghost use Rattle.std.specs.Prelude.{◌≡◌, ◌<◌, ◌≤◌, ◌+◌, [], ℕ, suc, List, All, IfOk, drop, length, map, set};
+ghost use Rattle.std.specs.List.{AllZip};
 ghost use Rattle.net_core.specs.Work.{ArePossibleEach, SymbolicSet};
 ghost use Rattle.dual_rail.specs.Rail.{Built};
 ghost use Rattle.sym_step.specs.Step.{rows_of};
@@ -9,13 +9,19 @@ ghost use Rattle.ste_model.specs.declared.task.Edge.{Edge as AnEdge};
 ghost use Rattle.ste_model.specs.GraphNeed.{AreWholeRounds};
 ghost use Rattle.ste_model.specs.GraphTable.{enough};
 ghost use Rattle.ste_model.specs.GraphWork.{SymbolicState, edge_work, given_by, symbolic_asked_on};
+ghost use Rattle.gste_engine.specs.declared.links.End.TheVariants.{From, To};
 ghost use Rattle.gste_engine.specs.Tables.{AreEdgesOver, AreStateRefs, HasStates, IsGraphOver, IsState, rounds_work};
-ghost use Rattle.gste_engine.specs.private.Rounds.{AreGivenFrom, AreRenewed, AtStart, IsProgress, IsTurn, edges_work, one_round_work};
+ghost use Rattle.gste_engine.specs.private.Links.{AreLinks};
+ghost use Rattle.gste_engine.specs.private.Rounds.{AreEnds, AtStart, IsBetween, IsProgress, IsSwept, IsTurn, IsWave, IsWithGiven, IsWithSum, edges_work, one_round_work};
+ghost use Rattle.gste_engine.specs.private.Sums.{HaveFunctions, arrivals_work};
+ghost use Rattle.gste_engine.specs.private.Waiting.{IsWaiting};
 
 use crate::edge::edge_found;
-use crate::same::{same_state, same_table};
+use crate::links::{End, Links, links_of};
+use crate::same::same_state;
 use crate::state::State;
-use crate::sums::{nothing, nothing_given, summed};
+use crate::sums::{begun, nothing_given, sum_of};
+use crate::waiting::{Waiting, with_vertex};
 use dd_nodes::Nodes;
 use dd_ops::OpFault;
 use net_core::{Net, settles};
@@ -24,147 +30,321 @@ use ste_base::Items;
 use ste_model::{Edge, Graph};
 use sym_step::GateRows;
 
-/// What each edge gives, where it is known for the edges in front of this one on the new table, and for the others on the
-/// table before: the same with this edge, which is evaluated only where its source has other references.
+/// What each edge gives, by number, and the vertices to which an edge gives something else than before.
+#[derive(Drop)]
+struct Wave {
+    givens: Vec<State>,
+    waiting: Waiting,
+}
+
+/// The same where the edge `k` gives this to a vertex, which waits from then on if that is something else than before.
+fn with_given(wave: Wave, k: usize, to: usize, given: State) -> Result<Wave, AllocError>
+    requires known { k < length wave.givens.items }
+    requires waiting { IsWaiting wave.waiting }
+    requires to { to < length wave.waiting.flags.items }
+    ensures { IfOk result (λ more. IsWithGiven wave k to given more) }
+{
+    if same_state(&wave.givens[k], &given) {
+        return Ok(wave);
+    }
+    let mut givens = wave.givens;
+    givens[k] = given;
+    let waiting = with_vertex(wave.waiting, to)?;
+    Ok(Wave { givens, waiting })
+}
+
+/// What each edge gives, where those that begin at the `i`-th changed vertex are evaluated on the table. They are known for
+/// the edges from vertices that have not changed, and from those in front of this one.
 fn renewed<N: Nodes>(
     alloc: Global,
     nodes: &mut N,
     net: &Net,
     rows: &GateRows,
-    edges: &[Edge],
-    before: &[State],
+    graph: &Graph,
+    from: &Links,
     table: &[State],
-    known: Vec<State>,
-    k: usize,
-) -> Result<Vec<State>, OpFault>
+    changed: &[usize],
+    i: usize,
+    known: Wave,
+) -> Result<Wave, OpFault>
     requires rows { rows.now.covers ≡ map rows_of net.now.raw.covers }
-    requires edges { AreEdgesOver net.now.raw (N.store nodes.old).vars
-        (length table.now) edges.now }
+    requires graph { IsGraphOver net.now.raw (N.store nodes.old).vars graph.now }
+    requires from { AreLinks From (length graph.now.vertices) graph.now.edges from.now }
     requires table { All (AreStateRefs (N.store nodes.old) net.now.raw) table.now }
-    requires long { length before.now ≡ length table.now }
-    requires inside { k < length edges.now }
-    requires known { AreRenewed (N.store nodes.old) net.now.raw
-        edges.now before.now table.now k known.items }
+    requires long { length table.now ≡ length graph.now.vertices }
+    requires changed { All (λ v. v < length graph.now.vertices) changed.now }
+    requires inside { i < length changed.now }
+    requires known { IsWave (N.store nodes.old) net.now.raw graph.now table.now
+        (drop i changed.now) 0 (length graph.now.edges) known }
     ensures { (states : ℕ → SymbolicState) (sets : AnEdge → ℕ → SymbolicSet)
         → HasStates states (length table.now) (N.store nodes.old) table.now
         → All (λ edge. ArePossibleEach (N.store nodes.old).vars net.now.raw
-        (states edge.from).latches (symbolic_asked_on edge) (sets edge)) edges.now
-        → Built (edges_work net.now.raw states sets edges.now)
-        (λ t givens. AreRenewed t net.now.raw edges.now before.now table.now (k + 1) givens.items)
+        (states edge.from).latches (symbolic_asked_on edge) (sets edge)) graph.now.edges
+        → Built (edges_work net.now.raw states sets graph.now.edges)
+        (λ t wave. IsWave t net.now.raw graph.now table.now (drop (i + 1) changed.now)
+        0 (length graph.now.edges) wave)
         (N.store nodes.old) (N.store nodes.new) result }
 {
     settles(net);
-    let edge = &edges[k];
-    let source = &table[edge.from as usize];
-    if same_state(&before[edge.from as usize], source) {
-        return Ok(known);
+    let edges = graph.edges.as_slice();
+    let mut wave = known;
+    let mut k = from.first[changed[i]];
+    while k < edges.len() {
+        let edge = &edges[k];
+        let source = &table[edge.from as usize];
+        let found = edge_found(alloc, nodes, net, rows, edge, source)?;
+        let given = State {
+            reached: found.feasible,
+            latches: found.next,
+        };
+        wave = match with_given(wave, k, edge.to as usize, given) {
+            Ok(more) => more,
+            Err(_) => return Err(OpFault::OutOfMemory),
+        };
+        k = from.next[k];
     }
-    let found = edge_found(alloc, nodes, net, rows, edge, source)?;
-    let mut givens = known;
-    givens[k] = State {
-        reached: found.feasible,
-        latches: found.next,
-    };
-    Ok(givens)
+    Ok(wave)
 }
 
-/// What each edge gives on a table, by number, from what each gives on the table before.
+/// What each edge gives on a table, where it is known for the edges from vertices that have not changed.
 fn refreshed<N: Nodes>(
     alloc: Global,
     nodes: &mut N,
     net: &Net,
     rows: &GateRows,
-    edges: &[Edge],
-    before: &[State],
+    graph: &Graph,
+    from: &Links,
     table: &[State],
-    known: Vec<State>,
-) -> Result<Vec<State>, OpFault>
+    changed: &[usize],
+    known: Wave,
+) -> Result<Wave, OpFault>
     requires rows { rows.now.covers ≡ map rows_of net.now.raw.covers }
-    requires edges { AreEdgesOver net.now.raw (N.store nodes.old).vars
-        (length table.now) edges.now }
+    requires graph { IsGraphOver net.now.raw (N.store nodes.old).vars graph.now }
+    requires from { AreLinks From (length graph.now.vertices) graph.now.edges from.now }
     requires table { All (AreStateRefs (N.store nodes.old) net.now.raw) table.now }
-    requires long { length before.now ≡ length table.now }
-    requires known { AreGivenFrom (N.store nodes.old) net.now.raw
-        edges.now before.now known.items }
+    requires long { length table.now ≡ length graph.now.vertices }
+    requires changed { All (λ v. v < length graph.now.vertices) changed.now }
+    requires known { IsWave (N.store nodes.old) net.now.raw graph.now table.now
+        changed.now 0 (length graph.now.edges) known }
     ensures { (states : ℕ → SymbolicState) (sets : AnEdge → ℕ → SymbolicSet)
         → HasStates states (length table.now) (N.store nodes.old) table.now
         → All (λ edge. ArePossibleEach (N.store nodes.old).vars net.now.raw
-        (states edge.from).latches (symbolic_asked_on edge) (sets edge)) edges.now
-        → Built (edges_work net.now.raw states sets edges.now)
-        (λ t givens. AreGivenFrom t net.now.raw edges.now table.now givens.items)
+        (states edge.from).latches (symbolic_asked_on edge) (sets edge)) graph.now.edges
+        → Built (edges_work net.now.raw states sets graph.now.edges)
+        (λ t wave. IsWave t net.now.raw graph.now table.now [] 0 (length graph.now.edges) wave)
         (N.store nodes.old) (N.store nodes.new) result }
 {
     settles(net);
-    let mut givens = known;
-    for k in 0..edges.len() {
-        givens = renewed(alloc, nodes, net, rows, edges, before, table, givens, k)?;
+    let mut wave = known;
+    for i in 0..changed.len() {
+        wave = renewed(
+            alloc, nodes, net, rows, graph, from, table, changed, i, wave,
+        )?;
     }
-    Ok(givens)
+    Ok(wave)
 }
 
-/// What each edge gives on a table, and the table of the next round.
+/// A table, the vertices whose references have changed, and the flags of those that still wait.
 #[derive(Drop)]
-struct Turn {
-    givens: Vec<State>,
-    next: Vec<State>,
+struct Sweep {
+    table: Vec<State>,
+    flags: Vec<bool>,
+    changed: Vec<usize>,
 }
 
-/// The table of the next round: edges are evaluated where their sources have changed, and then what all edges give is
-/// summed by number. `known` is what they give on the table before.
+/// The same with this state of a vertex, which waits no longer.
+fn with_sum(sweep: Sweep, vertex: usize, sum: State) -> Result<Sweep, AllocError>
+    requires table { vertex < length sweep.table.items }
+    requires flags { vertex < length sweep.flags.items }
+    ensures { IfOk result (λ more. IsWithSum sweep vertex sum more) }
+{
+    let mut more = sweep;
+    more.flags[vertex] = false;
+    if same_state(&more.table[vertex], &sum) {
+        return Ok(more);
+    }
+    more.table[vertex] = sum;
+    more.changed.push(vertex)?;
+    Ok(more)
+}
+
+/// The table where each waiting vertex is summed again, from what each edge gives.
+fn swept<N: Nodes>(
+    alloc: Global,
+    nodes: &mut N,
+    net: &Net,
+    graph: &Graph,
+    into: &Links,
+    givens: &[State],
+    list: &[usize],
+    start: Sweep,
+) -> Result<Sweep, OpFault>
+    requires into { AreLinks To (length graph.now.vertices) graph.now.edges into.now }
+    requires givens { HaveFunctions (N.store nodes.old) net.now.raw graph.now.edges givens.now }
+    requires list { All (λ v. v < length graph.now.vertices) list.now }
+    requires start { IsSwept (N.store nodes.old) net.now.raw graph.now givens.now
+        start.table.items list.now start }
+    ensures { (given : AnEdge → SymbolicState)
+        → AllZip (λ edge r. IsState (N.store nodes.old) (given edge) r) graph.now.edges givens.now
+        → Built (arrivals_work net.now.raw graph.now given)
+        (λ t r. IsSwept t net.now.raw graph.now givens.now start.table.items [] r)
+        (N.store nodes.old) (N.store nodes.new) result }
+{
+    settles(net);
+    let mut sweep = start;
+    for i in 0..list.len() {
+        let vertex = list[i];
+        let sum = sum_of(alloc, nodes, net, graph, into, givens, vertex)?;
+        sweep = match with_sum(sweep, vertex, sum) {
+            Ok(more) => more,
+            Err(_) => return Err(OpFault::OutOfMemory),
+        };
+    }
+    Ok(sweep)
+}
+
+/// A table, what each edge gives but for those from vertices that changed in the last round, these vertices, and a flag for
+/// each vertex, which is not set.
+#[derive(Drop)]
+struct Progress {
+    table: Vec<State>,
+    givens: Vec<State>,
+    changed: Vec<usize>,
+    flags: Vec<bool>,
+}
+
+/// The table of the next round, from what each edge gives on a table: the vertices that wait are summed again.
+fn resummed<N: Nodes>(
+    alloc: Global,
+    nodes: &mut N,
+    net: &Net,
+    graph: &Graph,
+    into: &Links,
+    table: Vec<State>,
+    wave: Wave,
+) -> Result<Progress, OpFault>
+    requires graph { IsGraphOver net.now.raw (N.store nodes.old).vars graph.now }
+    requires into { AreLinks To (length graph.now.vertices) graph.now.edges into.now }
+    requires long { length table.items ≡ length graph.now.vertices }
+    requires table { All (AreStateRefs (N.store nodes.old) net.now.raw) table.items }
+    requires known { IsWave (N.store nodes.old) net.now.raw graph.now table.items
+        [] 0 (length graph.now.edges) wave }
+    ensures { (states : ℕ → SymbolicState) (sets : AnEdge → ℕ → SymbolicSet)
+        → HasStates states (length graph.now.vertices) (N.store nodes.old) table.items
+        → All (λ edge. ArePossibleEach (N.store nodes.old).vars net.now.raw
+        (states edge.from).latches (symbolic_asked_on edge) (sets edge)) graph.now.edges
+        → Built (arrivals_work net.now.raw graph.now
+        (λ edge. given_by net.now.raw (states edge.from) (sets edge)))
+        (IsTurn net.now.raw graph.now states sets)
+        (N.store nodes.old) (N.store nodes.new) result }
+{
+    settles(net);
+    let Wave { givens, waiting } = wave;
+    let Waiting { flags, list } = waiting;
+    let start = Sweep {
+        table,
+        flags,
+        changed: Vec::new(alloc),
+    };
+    let sweep = swept(
+        alloc,
+        nodes,
+        net,
+        graph,
+        into,
+        givens.as_slice(),
+        list.as_slice(),
+        start,
+    )?;
+    Ok(Progress {
+        table: sweep.table,
+        givens,
+        changed: sweep.changed,
+        flags: sweep.flags,
+    })
+}
+
+/// The edges of a graph by both ends.
+#[derive(Drop)]
+struct Ends {
+    from: Links,
+    into: Links,
+}
+
+/// The edges that begin at each vertex, and those that lead to it.
+fn ends_of(alloc: Global, graph: &Graph) -> Result<Ends, AllocError>
+    requires from { All (λ edge. edge.from < length graph.now.vertices) graph.now.edges }
+    requires into { All (λ edge. edge.to < length graph.now.vertices) graph.now.edges }
+    ensures { IfOk result (λ ends. AreEnds graph.now ends) }
+{
+    let vertices = graph.vertices.len();
+    let edges = graph.edges.as_slice();
+    let from = links_of(alloc, vertices, edges, End::From)?;
+    let into = links_of(alloc, vertices, edges, End::To)?;
+    Ok(Ends { from, into })
+}
+
+/// The table of the next round: the edges from changed vertices are evaluated, and then the vertices to which one of them
+/// gives something else are summed again.
 fn round<N: Nodes>(
     alloc: Global,
     nodes: &mut N,
     net: &Net,
     rows: &GateRows,
     graph: &Graph,
-    before: &[State],
-    table: &[State],
-    known: Vec<State>,
-) -> Result<Turn, OpFault>
+    ends: &Ends,
+    start: Progress,
+) -> Result<Progress, OpFault>
     requires rows { rows.now.covers ≡ map rows_of net.now.raw.covers }
     requires graph { IsGraphOver net.now.raw (N.store nodes.old).vars graph.now }
-    requires long { length table.now ≡ length graph.now.vertices }
-    requires table { All (AreStateRefs (N.store nodes.old) net.now.raw) table.now }
-    requires before { length before.now ≡ length table.now }
-    requires known { AreGivenFrom (N.store nodes.old) net.now.raw
-        graph.now.edges before.now known.items }
+    requires ends { AreEnds graph.now ends.now }
+    requires start { IsBetween (N.store nodes.old) net.now.raw graph.now start }
     ensures { (states : ℕ → SymbolicState) (sets : AnEdge → ℕ → SymbolicSet)
-        → HasStates states (length graph.now.vertices) (N.store nodes.old) table.now
+        → HasStates states (length graph.now.vertices) (N.store nodes.old) start.table.items
         → All (λ edge. ArePossibleEach (N.store nodes.old).vars net.now.raw
         (states edge.from).latches (symbolic_asked_on edge) (sets edge)) graph.now.edges
         → Built (one_round_work net.now.raw graph.now states sets)
-        (IsTurn net.now.raw graph.now table.now states sets)
+        (IsTurn net.now.raw graph.now states sets)
         (N.store nodes.old) (N.store nodes.new) result }
 {
     settles(net);
-    let edges = graph.edges.as_slice();
-    let givens = refreshed(alloc, nodes, net, rows, edges, before, table, known)?;
-    let next = summed(alloc, nodes, net, graph, givens.as_slice())?;
-    Ok(Turn { givens, next })
+    let waiting = Waiting {
+        flags: start.flags,
+        list: Vec::new(alloc),
+    };
+    let known = Wave {
+        givens: start.givens,
+        waiting,
+    };
+    let table = start.table;
+    let wave = refreshed(
+        alloc,
+        nodes,
+        net,
+        rows,
+        graph,
+        &ends.from,
+        table.as_slice(),
+        start.changed.as_slice(),
+        known,
+    )?;
+    resummed(alloc, nodes, net, graph, &ends.into, table, wave)
 }
 
-/// A table after some rounds, the one before it, what each edge gives on the one before, and whether a round changed
-/// nothing.
-#[derive(Drop)]
-struct Progress {
-    before: Vec<State>,
-    table: Vec<State>,
-    givens: Vec<State>,
-    settled: bool,
-}
-
-/// Before the first round nothing is reached and nothing is given.
+/// Round 1: vertex 0 is reached, and nothing is given yet.
 fn started(alloc: Global, net: &Net, graph: &Graph) -> Result<Progress, AllocError>
+    requires { 0 < length graph.now.vertices }
     ensures { IfOk result (λ start. AtStart net.now.raw graph.now start) }
 {
-    let before = nothing(alloc, net, graph)?;
-    let table = nothing(alloc, net, graph)?;
+    let table = begun(alloc, net, graph)?;
     let givens = nothing_given(alloc, net, graph)?;
+    let changed = vec![in alloc; 0; 1]?;
+    let flags = vec![in alloc; false; graph.vertices.len()]?;
     Ok(Progress {
-        before,
         table,
         givens,
-        settled: false,
+        changed,
+        flags,
     })
 }
 
@@ -175,16 +355,14 @@ fn more_rounds<N: Nodes>(
     net: &Net,
     rows: &GateRows,
     graph: &Graph,
+    ends: &Ends,
     start: Progress,
     count: usize,
 ) -> Result<Progress, OpFault>
     requires rows { rows.now.covers ≡ map rows_of net.now.raw.covers }
     requires graph { IsGraphOver net.now.raw (N.store nodes.old).vars graph.now }
-    requires long { length start.table.items ≡ length graph.now.vertices }
-    requires table { All (AreStateRefs (N.store nodes.old) net.now.raw) start.table.items }
-    requires before { length start.before.items ≡ length graph.now.vertices }
-    requires givens { AreGivenFrom (N.store nodes.old) net.now.raw
-        graph.now.edges start.before.items start.givens.items }
+    requires ends { AreEnds graph.now ends.now }
+    requires start { IsBetween (N.store nodes.old) net.now.raw graph.now start }
     ensures { (tables : ℕ → ℕ → SymbolicState) (sets : ℕ → AnEdge → ℕ → SymbolicSet) (n : ℕ)
         → AreWholeRounds net.now.raw (N.store nodes.old).vars graph.now tables sets
         → n + count ≤ enough net.now.raw graph.now
@@ -194,40 +372,14 @@ fn more_rounds<N: Nodes>(
         (N.store nodes.old) (N.store nodes.new) result }
 {
     settles(net);
-    let mut before = start.before;
-    let mut table = start.table;
-    let mut givens = start.givens;
+    let mut progress = start;
     for _ in 0..count {
-        let old = before.as_slice();
-        let turn = round(
-            alloc,
-            nodes,
-            net,
-            rows,
-            graph,
-            old,
-            table.as_slice(),
-            givens,
-        )?;
-        let settled = same_table(table.as_slice(), turn.next.as_slice());
-        before = table;
-        table = turn.next;
-        givens = turn.givens;
-        if settled {
-            return Ok(Progress {
-                before,
-                table,
-                givens,
-                settled: true,
-            });
+        if progress.changed.is_empty() {
+            return Ok(progress);
         }
+        progress = round(alloc, nodes, net, rows, graph, ends, progress)?;
     }
-    Ok(Progress {
-        before,
-        table,
-        givens,
-        settled: false,
-    })
+    Ok(progress)
 }
 
 /// The least closed table of a graph, for all assignments at once: the rounds until no reference changes, or as many as
@@ -255,16 +407,19 @@ pub fn settle<N: Nodes>(
 {
     settles(net);
     let each = net.latches().len() * 2 + 1;
+    let ends = match ends_of(alloc, graph) {
+        Ok(ends) => ends,
+        Err(_) => return Err(OpFault::OutOfMemory),
+    };
     let mut progress = match started(alloc, net, graph) {
         Ok(progress) => progress,
         Err(_) => return Err(OpFault::OutOfMemory),
     };
     for _ in 0..graph.vertices.len() {
-        progress = more_rounds(alloc, nodes, net, rows, graph, progress, each)?;
-        if progress.settled {
+        progress = more_rounds(alloc, nodes, net, rows, graph, &ends, progress, each)?;
+        if progress.changed.is_empty() {
             return Ok(Items::from(progress.table));
         }
     }
-    let last = more_rounds(alloc, nodes, net, rows, graph, progress, 1)?;
-    Ok(Items::from(last.table))
+    Ok(Items::from(progress.table))
 }

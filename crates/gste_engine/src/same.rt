@@ -1,4 +1,4 @@
-//! Whether two tables have the same references; begin with `same_table`.
+//! Whether two states have the same references; begin with `same_state`.
 
 ghost use Rattle.std.specs.Prelude.{◌≡◌, ◌↔◌, IsTrue};
 
@@ -25,19 +25,4 @@ pub fn same_state(one: &State, other: &State) -> bool
     ensures { IsTrue result ↔ one.now ≡ other.now }
 {
     one.reached == other.reached && same_sets(one.latches.as_slice(), other.latches.as_slice())
-}
-
-/// Whether two tables have the same references, vertex by vertex.
-pub fn same_table(one: &[State], other: &[State]) -> bool
-    ensures { IsTrue result ↔ one.now ≡ other.now }
-{
-    if one.len() != other.len() {
-        return false;
-    }
-    for k in 0..one.len() {
-        if !same_state(&one[k], &other[k]) {
-            return false;
-        }
-    }
-    true
 }

@@ -1,4 +1,4 @@
-//! What comes to each vertex, summed in the order of the edges; begin with `summed`.
+//! What comes to a vertex, summed in the order of the edges; begin with `sum_of`.
 
 ghost use Rattle.std.specs.Prelude.{◌≡◌, ◌<◌, ◌∷◌, [], List, All, IfOk, length, map, replicate};
 ghost use Rattle.std.specs.List.{AllZip};
@@ -8,9 +8,12 @@ ghost use Rattle.dual_rail.specs.Rail.{AreRails, AreRefs, Built};
 ghost use Rattle.ste_model.specs.declared.task.Edge.{Edge as AnEdge};
 ghost use Rattle.ste_model.specs.Edges.{IsGraph};
 ghost use Rattle.ste_model.specs.GraphWork.{SymbolicState, sets_functions};
-ghost use Rattle.gste_engine.specs.Tables.{AreStateRefs, HasStates, IsState};
-ghost use Rattle.gste_engine.specs.private.Sums.{arrivals_work, begun, no_rails, state_functions, summed_at, unions, unreached, with_state};
+ghost use Rattle.gste_engine.specs.declared.links.End.TheVariants.{To};
+ghost use Rattle.gste_engine.specs.Tables.{IsState};
+ghost use Rattle.gste_engine.specs.private.Links.{AreLinks};
+ghost use Rattle.gste_engine.specs.private.Sums.{HaveFunctions, arrivals_work, begun, begun_at, no_rails, state_functions, summed_at, unions, unreached, with_state};
 
+use crate::links::Links;
 use crate::state::State;
 use dd_nodes::{Nodes, Ref};
 use dd_ops::{OpFault, Ops};
@@ -71,18 +74,29 @@ pub fn nothing_given(alloc: Global, net: &Net, graph: &Graph) -> Result<Vec<Stat
     Ok(givens)
 }
 
-/// What comes to each vertex before any edge: to vertex 0 the first values, and nothing to the others.
-fn begun(alloc: Global, net: &Net, graph: &Graph) -> Result<Vec<State>, AllocError>
+/// What comes to a vertex before any edge: to vertex 0 the first values, and nothing to the others.
+fn begun_at(alloc: Global, net: &Net, graph: &Graph, vertex: usize) -> Result<State, AllocError>
+    ensures { IfOk result (λ state. state ≡ begun_at net.now.raw graph.now.reset vertex) }
+{
+    if vertex != 0 {
+        return unreached(alloc, net);
+    }
+    let latches = first_sets(alloc, net, graph.reset)?;
+    Ok(State {
+        reached: Ref::TRUE,
+        latches,
+    })
+}
+
+/// The table of round 1: what comes to each vertex before any edge.
+pub fn begun(alloc: Global, net: &Net, graph: &Graph) -> Result<Vec<State>, AllocError>
     requires { 0 < length graph.now.vertices }
     ensures { IfOk result (λ table. table.items
         ≡ begun net.now.raw graph.now.reset (length graph.now.vertices)) }
 {
     let mut table = nothing(alloc, net, graph)?;
-    let latches = first_sets(alloc, net, graph.reset)?;
-    table[0] = State {
-        reached: Ref::TRUE,
-        latches,
-    };
+    let first = begun_at(alloc, net, graph, 0)?;
+    table[0] = first;
     Ok(table)
 }
 
@@ -142,34 +156,34 @@ fn with_state<N: Nodes>(
     Ok(State { reached, latches })
 }
 
-/// The table of the next round, from what each edge gives, by number.
-pub fn summed<N: Nodes>(
+/// What comes to a vertex in all, from what each edge gives, by number: that of the edges that lead to it, in order.
+pub fn sum_of<N: Nodes>(
     alloc: Global,
     nodes: &mut N,
     net: &Net,
     graph: &Graph,
+    into: &Links,
     givens: &[State],
-) -> Result<Vec<State>, OpFault>
-    requires graph { IsGraph graph.now }
-    requires count { length givens.now ≡ length graph.now.edges }
-    requires givens { All (AreStateRefs (N.store nodes.old) net.now.raw) givens.now }
+    vertex: usize,
+) -> Result<State, OpFault>
+    requires inside { vertex < length graph.now.vertices }
+    requires into { AreLinks To (length graph.now.vertices) graph.now.edges into.now }
+    requires givens { HaveFunctions (N.store nodes.old) net.now.raw graph.now.edges givens.now }
     ensures { (given : AnEdge → SymbolicState)
         → AllZip (λ edge r. IsState (N.store nodes.old) (given edge) r) graph.now.edges givens.now
         → Built (arrivals_work net.now.raw graph.now given)
-        (λ t table. HasStates (summed_at net.now.raw graph.now.reset given graph.now.edges)
-        (length graph.now.vertices) t table.items)
+        (λ t r. IsState t (summed_at net.now.raw graph.now.reset given graph.now.edges vertex) r)
         (N.store nodes.old) (N.store nodes.new) result }
 {
     let ops = Ops::new(alloc);
-    let edges = graph.edges.as_slice();
-    let mut table = match begun(alloc, net, graph) {
-        Ok(table) => table,
+    let mut sum = match begun_at(alloc, net, graph, vertex) {
+        Ok(sum) => sum,
         Err(_) => return Err(OpFault::OutOfMemory),
     };
-    for k in 0..edges.len() {
-        let to = edges[k].to as usize;
-        let state = with_state(alloc, &ops, nodes, &table[to], &givens[k])?;
-        table[to] = state;
+    let mut k = into.first[vertex];
+    while k < givens.len() {
+        sum = with_state(alloc, &ops, nodes, &sum, &givens[k])?;
+        k = into.next[k];
     }
-    Ok(table)
+    Ok(sum)
 }

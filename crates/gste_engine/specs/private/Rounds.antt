@@ -1,5 +1,5 @@
 -- For private functions. The work functions of one round as it is done, and how far the rounds are.
-use Rattle.std.specs.Prelude.{◌≡◌, ◌<◌, ◌≤◌, ℕ, true, false, List, ◌++◌, get_or, length, replicate}
+use Rattle.std.specs.Prelude.{◌≡◌, ◌<◌, ◌⊎◌, ℕ, false, List, [], ◌∷◌, ◌++◌, All, Contains, IsTrue, get_or, length, replicate, set}
 use Rattle.std.specs.List.{flat_map}
 use Rattle.dd_nodes.specs.Diagram.{Function}
 use Rattle.dd_nodes.specs.Stores.{Store}
@@ -9,11 +9,16 @@ use Rattle.ste_model.specs.declared.task.Edge.{Edge}
 use Rattle.ste_model.specs.declared.task.Graph.{Graph}
 use Rattle.ste_model.specs.GraphTable.{enough}
 use Rattle.ste_model.specs.GraphWork.{SymbolicState, edge_work, given_by, symbolic_asked_on}
+use Rattle.gste_engine.specs.declared.links.End.TheVariants.{From, To}
+use Rattle.gste_engine.specs.declared.rounds.Ends.{Ends}
 use Rattle.gste_engine.specs.declared.rounds.Progress.{Progress}
-use Rattle.gste_engine.specs.declared.rounds.Turn.{Turn}
+use Rattle.gste_engine.specs.declared.rounds.Sweep.{Sweep}
+use Rattle.gste_engine.specs.declared.rounds.Wave.{Wave}
 use Rattle.gste_engine.specs.declared.state.State.{State}
-use Rattle.gste_engine.specs.Tables.{HasStates, IsState}
-use Rattle.gste_engine.specs.private.Sums.{arrivals_work, summed_at, unreached}
+use Rattle.gste_engine.specs.Tables.{AreStateRefs, HasStates, IsState}
+use Rattle.gste_engine.specs.private.Links.{AreLinks}
+use Rattle.gste_engine.specs.private.Sums.{IsSumOf, arrivals_work, begun, summed_at, unreached}
+use Rattle.gste_engine.specs.private.Waiting.{IsWaiting}
 
 -- the functions for some edges
 abbrev pub edges_work : RawNet → (ℕ → SymbolicState) → (Edge → ℕ → SymbolicSet) → List Edge → List Function
@@ -38,29 +43,80 @@ pub record AreGivenFrom (t : Store) (net : RawNet) (edges : List Edge) (table gi
   pub each : (k : ℕ) (d : Edge) (e f : State) → k < length edges →
       IsGivenFrom t net (get_or edges k d) (get_or table (get_or edges k d).from e) (get_or givens k f)
 
--- the same, for the first edges on the new table, and for the others on the table before
-pub record AreRenewed (t : Store) (net : RawNet) (edges : List Edge) (before table : List State) (k : ℕ) (givens : List State) : Type 0 where
+-- the same, but for edges from stale vertices, and for those from this vertex from the m-th edge on
+pub record AreGivenBut (t : Store) (net : RawNet) (edges : List Edge) (table : List State) (stale : List ℕ) (vertex m : ℕ) (givens : List State) : Type 0 where
   pub long : length givens ≡ length edges
-  pub first : (i : ℕ) (d : Edge) (e f : State) → i < length edges → i < k →
-      IsGivenFrom t net (get_or edges i d) (get_or table (get_or edges i d).from e) (get_or givens i f)
-  pub others : (i : ℕ) (d : Edge) (e f : State) → i < length edges → k ≤ i →
-      IsGivenFrom t net (get_or edges i d) (get_or before (get_or edges i d).from e) (get_or givens i f)
+  pub each : (k : ℕ) (d : Edge) (e f : State) → k < length edges → ¬ Contains stale (get_or edges k d).from →
+      ((get_or edges k d).from ≡ vertex → k < m) →
+      IsGivenFrom t net (get_or edges k d) (get_or table (get_or edges k d).from e) (get_or givens k f)
 
--- what each edge gives on a table, and the sums of it
-pub record IsTurn (net : RawNet) (graph : Graph) (table : List State) (states : ℕ → SymbolicState) (sets : Edge → ℕ → SymbolicSet) (t : Store) (r : Turn) : Type 0 where
-  pub givens : AreGivenFrom t net graph.edges table r.givens.items
-  pub next : HasStates (summed_at net graph.reset (λ edge. given_by net (states edge.from) (sets edge)) graph.edges)
-      (length graph.vertices) t r.next.items
+-- What each edge gives on a table, but for those; and where a vertex does not wait, its state is the sum of what comes.
+pub record IsWave (t : Store) (net : RawNet) (graph : Graph) (table : List State) (stale : List ℕ) (vertex m : ℕ) (r : Wave) : Type 0 where
+  pub given : AreGivenBut t net graph.edges table stale vertex m r.givens.items
+  pub waiting : IsWaiting r.waiting
+  pub flags : length r.waiting.flags.items ≡ length graph.vertices
+  pub sums : (v : ℕ) (d : State) → v < length graph.vertices → ¬ Contains r.waiting.list.items v →
+      IsSumOf t net graph r.givens.items v (get_or table v d)
 
--- nothing is reached, and nothing is given
+-- edge k gives this, and where it gave something else, the vertex waits
+pub record IsWithGiven (old : Wave) (k to : ℕ) (given : State) (new : Wave) : Type 0 where
+  pub givens : new.givens.items ≡ set old.givens.items k given
+  pub waiting : IsWaiting new.waiting
+  pub flags : length new.waiting.flags.items ≡ length old.waiting.flags.items
+  pub others : (v : ℕ) → Contains old.waiting.list.items v → Contains new.waiting.list.items v
+  pub moved : (new.givens.items ≡ old.givens.items) ⊎ Contains new.waiting.list.items to
+
+-- A table that was another one: where a vertex is not left to be summed, its state is the sum of what comes, and where it is
+-- not listed as changed, its state is the one that it was.
+pub record IsSwept (t : Store) (net : RawNet) (graph : Graph) (givens table : List State) (left : List ℕ) (r : Sweep) : Type 0 where
+  pub long : length r.table.items ≡ length graph.vertices
+  pub refs : All (AreStateRefs t net) r.table.items
+  pub flags : length r.flags.items ≡ length graph.vertices
+  pub clear : (v : ℕ) → IsTrue (get_or r.flags.items v false) → Contains left v
+  pub inside : All (λ v. v < length graph.vertices) r.changed.items
+  pub sums : (v : ℕ) (d : State) → v < length graph.vertices → ¬ Contains left v →
+      IsSumOf t net graph givens v (get_or r.table.items v d)
+  pub same : (v : ℕ) (d : State) → v < length graph.vertices → ¬ Contains r.changed.items v →
+      get_or r.table.items v d ≡ get_or table v d
+
+-- the vertex has this state and waits no longer, and where it had another one, it is listed as changed
+pub record IsWithSum (old : Sweep) (vertex : ℕ) (sum : State) (new : Sweep) : Type 0 where
+  pub table : new.table.items ≡ set old.table.items vertex sum
+  pub flags : new.flags.items ≡ set old.flags.items vertex false
+  pub moved : (new.table.items ≡ old.table.items) × (new.changed.items ≡ old.changed.items)
+      ⊎ (new.changed.items ≡ old.changed.items ++ vertex ∷ [])
+
+-- Between two rounds: each state is the sum of what comes to its vertex, and what an edge gives is known, but for edges from
+-- vertices that have changed; no vertex waits.
+pub record IsBetween (t : Store) (net : RawNet) (graph : Graph) (r : Progress) : Type 0 where
+  pub long : length r.table.items ≡ length graph.vertices
+  pub refs : All (AreStateRefs t net) r.table.items
+  pub given : AreGivenBut t net graph.edges r.table.items r.changed.items 0 (length graph.edges) r.givens.items
+  pub sums : (v : ℕ) (d : State) → v < length graph.vertices → IsSumOf t net graph r.givens.items v (get_or r.table.items v d)
+  pub inside : All (λ v. v < length graph.vertices) r.changed.items
+  pub flags : length r.flags.items ≡ length graph.vertices
+  pub clear : (v : ℕ) → ¬ IsTrue (get_or r.flags.items v false)
+
+-- the table of the sums of what each edge gives on these states, with these sets
+pub record IsTurn (net : RawNet) (graph : Graph) (states : ℕ → SymbolicState) (sets : Edge → ℕ → SymbolicSet) (t : Store) (r : Progress) : Type 0 where
+  pub between : IsBetween t net graph r
+  pub has : HasStates (summed_at net graph.reset (λ edge. given_by net (states edge.from) (sets edge)) graph.edges)
+      (length graph.vertices) t r.table.items
+
+-- vertex 0 is reached and has changed, and nothing is given
 pub record AtStart (net : RawNet) (graph : Graph) (r : Progress) : Type 0 where
-  pub before : r.before.items ≡ replicate (length graph.vertices) (unreached net)
-  pub table : r.table.items ≡ replicate (length graph.vertices) (unreached net)
+  pub table : r.table.items ≡ begun net graph.reset (length graph.vertices)
   pub givens : r.givens.items ≡ replicate (length graph.edges) (unreached net)
+  pub changed : r.changed.items ≡ 0 ∷ []
+  pub flags : r.flags.items ≡ replicate (length graph.vertices) false
 
--- the table is that of round n, or already that of the round that settles; what each edge gives is so on the one before it
+-- the edges at each vertex, by both ends
+pub record AreEnds (graph : Graph) (r : Ends) : Type 0 where
+  pub from : AreLinks From (length graph.vertices) graph.edges r.from
+  pub into : AreLinks To (length graph.vertices) graph.edges r.into
+
+-- the table is that of round n, or already that of the round that settles, where no vertex has changed
 pub record IsProgress (net : RawNet) (graph : Graph) (tables : ℕ → ℕ → SymbolicState) (n : ℕ) (t : Store) (r : Progress) : Type 0 where
-  pub more : r.settled ≡ false → HasStates (tables n) (length graph.vertices) t r.table.items
-  pub done : r.settled ≡ true → HasStates (tables (enough net graph)) (length graph.vertices) t r.table.items
-  pub before : length r.before.items ≡ length graph.vertices
-  pub givens : AreGivenFrom t net graph.edges r.before.items r.givens.items
+  pub between : IsBetween t net graph r
+  pub more : 0 < length r.changed.items → HasStates (tables n) (length graph.vertices) t r.table.items
+  pub done : length r.changed.items ≡ 0 → HasStates (tables (enough net graph)) (length graph.vertices) t r.table.items

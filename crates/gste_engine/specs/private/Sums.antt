@@ -1,6 +1,8 @@
 -- For private functions. What comes to each vertex, one edge after another.
-use Rattle.std.specs.Prelude.{◌==◌, ℕ, Bool, List, [], ◌∷◌, ◌++◌, filter, if◌then◌else◌, length, map, replicate, set}
+use Rattle.std.specs.Prelude.{◌≡◌, ◌==◌, ◌<◌, ℕ, zero, suc, Bool, List, [], ◌∷◌, ◌++◌, filter, get_or, if◌then◌else◌, length, map, replicate, set}
+use Rattle.std.specs.List.{AllZip}
 use Rattle.dd_nodes.specs.Diagram.{Function}
+use Rattle.dd_nodes.specs.Stores.{Store}
 use Rattle.net_core.specs.declared.raw.RawNet.{RawNet}
 use Rattle.net_core.specs.Work.{SymbolicSet, disjunction, never, union}
 use Rattle.dual_rail.specs.declared.rails.Rails.{Rails}
@@ -10,6 +12,7 @@ use Rattle.ste_model.specs.declared.task.Graph.{Graph}
 use Rattle.ste_model.specs.GraphWork.{SymbolicState, sets_functions, start_state, vertex_work}
 use Rattle.ste_model.specs.Work.{over_times}
 use Rattle.gste_engine.specs.declared.state.State.{State}
+use Rattle.gste_engine.specs.Tables.{IsState}
 
 -- ---- by references
 
@@ -21,10 +24,13 @@ no_rails = record { can0 = record { 0 = 0 }; can1 = record { 0 = 0 } }
 abbrev pub unreached : RawNet → State
 unreached net = record { reached = record { 0 = 0 }; latches = map (λ latch. no_rails) net.latches }
 
--- vertex 0 is reached with the first values, and nothing else is
+-- before any edge vertex 0 is reached with the first values, and nothing else is
+abbrev pub begun_at : RawNet → Bool → ℕ → State
+begun_at net reset zero = record { reached = record { 0 = 1 }; latches = map (first_rails reset) net.latches }
+begun_at net reset (suc vertex) = unreached net
+
 abbrev pub begun : RawNet → Bool → ℕ → List State
-begun net reset vertices =
-    set (replicate vertices (unreached net)) 0 (record { reached = record { 0 = 1 }; latches = map (first_rails reset) net.latches })
+begun net reset vertices = set (replicate vertices (unreached net)) 0 (begun_at net reset 0)
 
 -- ---- by functions
 
@@ -64,3 +70,18 @@ summed_at net reset given edges vertex = with_states (never_state net) (coming n
 abbrev pub arrivals_work : RawNet → Graph → (Edge → SymbolicState) → List Function
 arrivals_work net graph given =
     over_times (λ vertex. vertex_work net (coming net graph.reset given graph.edges vertex)) (length graph.vertices)
+
+-- ---- sums by references
+
+-- what each edge gives has the functions of some states, edge by edge
+pub record HaveFunctions (t : Store) (net : RawNet) (edges : List Edge) (givens : List State) : Type 0 where
+  pub given : Edge → SymbolicState
+  pub wide : (edge : Edge) → length (given edge).latches ≡ length net.latches
+  pub are : AllZip (λ edge r. IsState t (given edge) r) edges givens
+
+-- this is the sum of what comes to a vertex: for some functions of what the edges into it give, and so for all
+pub record IsSumOf (t : Store) (net : RawNet) (graph : Graph) (givens : List State) (vertex : ℕ) (r : State) : Type 0 where
+  pub given : Edge → SymbolicState
+  pub are : (k : ℕ) (d : Edge) (f : State) → k < length graph.edges → (get_or graph.edges k d).to ≡ vertex →
+      IsState t (given (get_or graph.edges k d)) (get_or givens k f)
+  pub sum : IsState t (summed_at net graph.reset given graph.edges vertex) r

@@ -1,5 +1,6 @@
-use Rattle.std.proofs.Common.{◌≡◌, ◌+◌, ◌*◌, ◌<◌, ◌≤◌, ℕ, Bool, true, false, List, length, refl, sym, ◌∙◌, ap, subst, arith, Ok, Err, Result}
-use Rattle.std.proofs.lemmas.List.{length-replicate}
+use Rattle.std.proofs.Common.{◌≡◌, ◌+◌, ◌*◌, ◌<◌, ◌≤◌, ℕ, zero, suc, false, List, length, refl, sym, ◌∙◌, ap, subst, arith, rules, Ok, Err, Result}
+use Rattle.std.specs.Prelude.{◌==◌, vec_len}
+use Rattle.std.proofs.lemmas.Bool.{eqb-true}
 use Rattle.dd_nodes.specs.Diagram.{Function}
 use Rattle.dd_nodes.specs.Stores.{Store}
 use Rattle.dd_nodes.proofs.Stores.{Keeps-refl, Keeps-trans}
@@ -20,10 +21,8 @@ use Rattle.gste_engine.specs.declared.rounds.Progress.{Progress}
 use Rattle.gste_engine.specs.declared.state.State.{State}
 use Rattle.gste_engine.specs.Tables.{HasStates, IsGraphOver, rounds_work}
 use Rattle.gste_engine.specs.private.Rounds.{AtStart, IsProgress}
-use Rattle.gste_engine.specs.private.Sums.{unreached}
-use Rattle.gste_engine.proofs.KeptGivens.{starts_given}
-use Rattle.gste_engine.proofs.NextTables.{RoundsSoFar}
-use Rattle.gste_engine.proofs.Starts.{all_rounds, group_below, next_group, starts_are, tables_refs, whole_exists}
+use Rattle.gste_engine.proofs.RoundEnds.{starts_between, starts_first}
+use Rattle.gste_engine.proofs.Starts.{all_rounds, group_below, next_group, whole_exists}
 use Rattle.gste_engine.proofs.rounds.settle.Goals as goal
 
 abbrev IsLast : RawNet → Graph → (ℕ → ℕ → SymbolicState) → Store → List State → Type 0
@@ -34,12 +33,17 @@ abbrev Promises : RawNet → Graph → List State → Store → Store → Result
 Promises net graph table t u result latches = (tables : ℕ → ℕ → SymbolicState) (sets : ℕ → Edge → ℕ → SymbolicSet) (n : ℕ) → AreWholeRounds net t.vars graph tables sets → n + (length latches * 2 + 1) ≤ enough net graph → HasStates (tables n) (length graph.vertices) t table
     → Built (rounds_work net graph tables sets) (IsProgress net graph tables (n + (length latches * 2 + 1))) t u result
 
-last_of : (net : RawNet) (graph : Graph) (tables : ℕ → ℕ → SymbolicState) (u : Store) (progress : Progress) (m : ℕ) → m ≡ enough net graph → IsProgress net graph tables m u progress → (d : Bool) → progress.settled ≡ d → IsLast net graph tables u progress.table.items
-last_of net graph tables u progress m is h true e = h.done e
-last_of net graph tables u progress m is h false e = subst (λ n. HasStates (tables n) (length graph.vertices) u progress.table.items) is (h.more e)
+not_none : (n : ℕ) → (n == 0) ≡ false → 0 < n
+not_none zero e = absurd (cc e)
+not_none (suc n) e = omega arith
 
 pub returns-in-Err : goal.returns-in-Err
 returns-in-Err g c = λ tables sets whole.
+    let s : Store = g.N.Nodes.store c.args.nodes.now in
+    Built-lost (rounds_work c.args.net.now.raw c.args.graph.now tables sets) (IsLast c.args.net.now.raw c.args.graph.now tables) s s (So-start (rounds_work c.args.net.now.raw c.args.graph.now tables sets) s)
+
+pub returns-in-Err-started : goal.returns-in-Err-started
+returns-in-Err-started g c = λ tables sets whole.
     let s : Store = g.N.Nodes.store c.args.nodes.now in
     Built-lost (rounds_work c.args.net.now.raw c.args.graph.now tables sets) (IsLast c.args.net.now.raw c.args.graph.now tables) s s (So-start (rounds_work c.args.net.now.raw c.args.graph.now tables sets) s)
 
@@ -50,13 +54,12 @@ loop-init g c =
     let net : RawNet = c.args.net.now.raw in
     let graph : Graph = c.args.graph.now in
     let settled : IsSettled net = settled_by_order net c.args.net.now.settled c.args.net.now.in_order in
-    let start : Progress = c.in-Ok.progress in
-    let h : AtStart net graph start = c.in-Ok.ensures in
+    let start : Progress = c.in-Ok-started.progress in
+    let h : AtStart net graph start = c.in-Ok-started.ensures in
     record {
       keeps = Keeps-refl s;
-      before = ap (λ (xs : List State). length xs) h.before ∙ length-replicate (length graph.vertices) (unreached net);
-      givens = starts_given s net graph start.before.items start.givens.items settled gs (λ k d lt. (c.requires.graph.edges k d lt).start) h.before h.givens;
-      so = λ tables sets whole. record { so = So-start (rounds_work net graph tables sets) s; has = subst (λ (n : ℕ). HasStates (tables n) (length graph.vertices) s start.table.items) (let e : 0 ≡ 0 * (length net.latches * 2 + 1) = omega arith in e) (starts_are net graph s tables sets whole start.table.items gs h.table) };
+      between = starts_between s net graph start settled gs c.requires.graph h;
+      so = λ tables sets whole. record { so = So-start (rounds_work net graph tables sets) s; has = subst (λ (n : ℕ). HasStates (tables n) (length graph.vertices) s start.table.items) (let e : 1 ≡ 0 * (length net.latches * 2 + 1) + 1 = omega arith in e) (starts_first s net graph start settled gs c.requires.graph h tables sets whole) };
     }
 
 pub loop-preserved : goal.loop-preserved
@@ -75,24 +78,24 @@ loop-preserved g c =
     let u : Store = g.N.Nodes.store c.more_rounds.new.nodes in
     let gu = g.met.N.Nodes.diagram c.more_rounds.new.nodes in
     let lt : i < length graph.vertices = subst (λ (n : ℕ). i < n) c.len-end.ensures c.loop-test.true in
-    let within : i * e + e ≤ enough net graph = group_below i (length graph.vertices) (length net.latches) e refl lt in
-    let w = whole_exists net s.vars graph settled in
-    let q = p.so w.0 w.1 w.2 in
+    let within : (i * e + 1) + e ≤ enough net graph = group_below i (length graph.vertices) (length net.latches) e refl lt in
     let progress : Progress = c.in_ok-progress.progress in
-    let mine = (subst (Promises net graph table t u (Ok c.in_ok-progress.progress)) c.latches.ensures c.in_ok-progress.ensures) w.0 w.1 (i * e) (subst (λ v. AreWholeRounds net v graph w.0 w.1) (sym p.keeps.vars) w.2) within q.has in
+    let call : Promises net graph table t u (Ok progress) net.latches = subst (Promises net graph table t u (Ok progress)) c.latches.ensures c.in_ok-progress.ensures in
+    let w = whole_exists net s.vars graph settled in
+    let mine = call w.0 w.1 (i * e + 1) (subst (λ v. AreWholeRounds net v graph w.0 w.1) (sym p.keeps.vars) w.2) within (p.so w.0 w.1 w.2).has in
+    let view : vec_len progress.changed ≡ length progress.changed.items = search rules in
+    let some : 0 < length progress.changed.items = subst (λ (n : ℕ). 0 < n) view (not_none (vec_len progress.changed) (sym c.is_empty.ensures ∙ c.if-is_empty.false)) in
     record {
       keeps = Keeps-trans s t u p.keeps mine.spends.keeps;
-      before = mine.ok.before;
-      givens = mine.ok.givens;
+      between = mine.ok.between;
       so = λ tables sets whole.
           let q = p.so tables sets whole in
           let work : List Function = rounds_work net graph tables sets in
           let there : AreWholeRounds net t.vars graph tables sets = subst (λ v. AreWholeRounds net v graph tables sets) (sym p.keeps.vars) whole in
-          let Good : Store → Progress → Type 0 = IsProgress net graph tables (i * e + e) in
-          let progress : Progress = c.in_ok-progress.progress in
-          let b : Built work Good t u (Ok progress) = (subst (Promises net graph table t u (Ok c.in_ok-progress.progress)) c.latches.ensures c.in_ok-progress.ensures) tables sets (i * e) there within q.has in
+          let Good : Store → Progress → Type 0 = IsProgress net graph tables ((i * e + 1) + e) in
+          let b : Built work Good t u (Ok progress) = call tables sets (i * e + 1) there within q.has in
           let so = more work Good s t u (Ok progress) gt gu q.so b in
-          record { so = so; has = subst (λ m. HasStates (tables m) (length graph.vertices) u progress.table.items) (next_group i e) (b.ok.more c.if-progress.false) };
+          record { so = so; has = subst (λ m. HasStates (tables m) (length graph.vertices) u progress.table.items) (next_group i e) (b.ok.more some) };
     }
 
 pub returns-in_err-progress : goal.returns-in_err-progress
@@ -111,16 +114,17 @@ returns-in_err-progress g c = λ tables sets whole.
     let u : Store = g.N.Nodes.store c.more_rounds.new.nodes in
     let gu = g.met.N.Nodes.diagram c.more_rounds.new.nodes in
     let lt : i < length graph.vertices = subst (λ (n : ℕ). i < n) c.len-end.ensures c.loop-test.true in
-    let within : i * e + e ≤ enough net graph = group_below i (length graph.vertices) (length net.latches) e refl lt in
+    let within : (i * e + 1) + e ≤ enough net graph = group_below i (length graph.vertices) (length net.latches) e refl lt in
     let q = p.so tables sets whole in
     let work : List Function = rounds_work net graph tables sets in
     let there : AreWholeRounds net t.vars graph tables sets = subst (λ v. AreWholeRounds net v graph tables sets) (sym p.keeps.vars) whole in
-    let Good : Store → Progress → Type 0 = IsProgress net graph tables (i * e + e) in
+    let Good : Store → Progress → Type 0 = IsProgress net graph tables ((i * e + 1) + e) in
     let fault = c.in_err-progress.field-0.0 in
-    pass work Good (IsLast net graph tables) s t u fault c.from_residual.result gt gu q.so ((subst (Promises net graph table t u (Err fault)) c.latches.ensures c.in_err-progress.ensures) tables sets (i * e) there within q.has) c.from_residual.ensures.1
+    let call : Promises net graph table t u (Err fault) net.latches = subst (Promises net graph table t u (Err fault)) c.latches.ensures c.in_err-progress.ensures in
+    pass work Good (IsLast net graph tables) s t u fault c.from_residual.result gt gu q.so (call tables sets (i * e + 1) there within q.has) c.from_residual.ensures.1
 
-pub returns-then-progress : goal.returns-then-progress
-returns-then-progress g c = λ tables sets whole.
+pub returns-then-is_empty : goal.returns-then-is_empty
+returns-then-is_empty g c = λ tables sets whole.
     let s : Store = g.N.Nodes.store c.args.nodes.now in
     let t : Store = g.N.Nodes.store c.loop.nodes in
     let gs = g.met.N.Nodes.diagram c.args.nodes.now in
@@ -135,41 +139,18 @@ returns-then-progress g c = λ tables sets whole.
     let u : Store = g.N.Nodes.store c.more_rounds.new.nodes in
     let gu = g.met.N.Nodes.diagram c.more_rounds.new.nodes in
     let lt : i < length graph.vertices = subst (λ (n : ℕ). i < n) c.len-end.ensures c.loop-test.true in
-    let within : i * e + e ≤ enough net graph = group_below i (length graph.vertices) (length net.latches) e refl lt in
+    let within : (i * e + 1) + e ≤ enough net graph = group_below i (length graph.vertices) (length net.latches) e refl lt in
     let q = p.so tables sets whole in
     let work : List Function = rounds_work net graph tables sets in
     let there : AreWholeRounds net t.vars graph tables sets = subst (λ v. AreWholeRounds net v graph tables sets) (sym p.keeps.vars) whole in
-    let Good : Store → Progress → Type 0 = IsProgress net graph tables (i * e + e) in
+    let Good : Store → Progress → Type 0 = IsProgress net graph tables ((i * e + 1) + e) in
     let progress : Progress = c.in_ok-progress.progress in
-    let b : Built work Good t u (Ok progress) = (subst (Promises net graph table t u (Ok c.in_ok-progress.progress)) c.latches.ensures c.in_ok-progress.ensures) tables sets (i * e) there within q.has in
+    let call : Promises net graph table t u (Ok progress) net.latches = subst (Promises net graph table t u (Ok progress)) c.latches.ensures c.in_ok-progress.ensures in
+    let b : Built work Good t u (Ok progress) = call tables sets (i * e + 1) there within q.has in
     let so = more work Good s t u (Ok progress) gt gu q.so b in
-    Built-made work (IsLast net graph tables) s u c.from.result so (subst (λ (rs : List State). IsLast net graph tables u rs) (sym {A = List State} c.from.ensures) (b.ok.done c.if-progress.true))
-
-pub returns-in_err-last : goal.returns-in_err-last
-returns-in_err-last g c = λ tables sets whole.
-    let s : Store = g.N.Nodes.store c.args.nodes.now in
-    let t : Store = g.N.Nodes.store c.loop.nodes in
-    let gs = g.met.N.Nodes.diagram c.args.nodes.now in
-    let gt = g.met.N.Nodes.diagram c.loop.nodes in
-    let net : RawNet = c.args.net.now.raw in
-    let graph : Graph = c.args.graph.now in
-    let settled : IsSettled net = settled_by_order net c.args.net.now.settled c.args.net.now.in_order in
-    let table : List State = c.loop.progress.table.items in
-    let i = c.loop.counter in
-    let e = length net.latches * 2 + 1 in
-    let p = c.loop.invariant in
-    let u : Store = g.N.Nodes.store c.more_rounds-2.new.nodes in
-    let gu = g.met.N.Nodes.diagram c.more_rounds-2.new.nodes in
-    let v = length graph.vertices in
-    let end : i ≡ v = (let le = c.loop-test.false in let at = c.loop.auto.counter-end in let n : c.len-end.result ≡ v = c.len-end.ensures in omega (arith, le, at, n)) in
-    let is : v * e + 1 ≡ enough net graph = all_rounds v (length net.latches) e refl in
-    let within : v * e + 1 ≤ enough net graph = omega (arith, is) in
-    let q = subst (λ (n : ℕ). RoundsSoFar net graph tables sets s t (n * e) table) end (p.so tables sets whole) in
-    let work : List Function = rounds_work net graph tables sets in
-    let there : AreWholeRounds net t.vars graph tables sets = subst (λ w. AreWholeRounds net w graph tables sets) (sym p.keeps.vars) whole in
-    let Good : Store → Progress → Type 0 = IsProgress net graph tables (v * e + 1) in
-    let fault = c.in_err-last.field-0.0 in
-    pass work Good (IsLast net graph tables) s t u fault c.from_residual-in_err-last.result gt gu q.so (c.in_err-last.ensures tables sets (v * e) there within q.has) c.from_residual-in_err-last.ensures.1
+    let view : vec_len progress.changed ≡ length progress.changed.items = search rules in
+    let none : length progress.changed.items ≡ 0 = sym view ∙ eqb-true (vec_len progress.changed) 0 (sym c.is_empty.ensures ∙ c.if-is_empty.true) in
+    Built-made work (IsLast net graph tables) s u c.from.result so (subst (λ (rs : List State). IsLast net graph tables u rs) (sym {A = List State} c.from.ensures) (b.ok.done none))
 
 pub returns : goal.returns
 returns g c = λ tables sets whole.
@@ -184,128 +165,19 @@ returns g c = λ tables sets whole.
     let i = c.loop.counter in
     let e = length net.latches * 2 + 1 in
     let p = c.loop.invariant in
-    let u : Store = g.N.Nodes.store c.more_rounds-2.new.nodes in
-    let gu = g.met.N.Nodes.diagram c.more_rounds-2.new.nodes in
     let v = length graph.vertices in
     let end : i ≡ v = (let le = c.loop-test.false in let at = c.loop.auto.counter-end in let n : c.len-end.result ≡ v = c.len-end.ensures in omega (arith, le, at, n)) in
     let is : v * e + 1 ≡ enough net graph = all_rounds v (length net.latches) e refl in
-    let within : v * e + 1 ≤ enough net graph = omega (arith, is) in
-    let q = subst (λ (n : ℕ). RoundsSoFar net graph tables sets s t (n * e) table) end (p.so tables sets whole) in
+    let q = p.so tables sets whole in
     let work : List Function = rounds_work net graph tables sets in
-    let there : AreWholeRounds net t.vars graph tables sets = subst (λ w. AreWholeRounds net w graph tables sets) (sym p.keeps.vars) whole in
-    let Good : Store → Progress → Type 0 = IsProgress net graph tables (v * e + 1) in
-    let progress : Progress = c.in_ok-last.last in
-    let b : Built work Good t u (Ok progress) = c.in_ok-last.ensures tables sets (v * e) there within q.has in
-    let so = more work Good s t u (Ok progress) gt gu q.so b in
-    let by : (d : Bool) → progress.settled ≡ d → IsLast net graph tables u progress.table.items = λ d. last_of net graph tables u progress (v * e + 1) is b.ok d in
-    Built-made work (IsLast net graph tables) s u c.from-2.result so (subst (λ (rs : List State). IsLast net graph tables u rs) (sym {A = List State} c.from-2.ensures) (by progress.settled refl))
+    let last : HasStates (tables (enough net graph)) v t table = subst (λ (n : ℕ). HasStates (tables n) v t table) (ap (λ (n : ℕ). n * e + 1) end ∙ is) q.has in
+    Built-made work (IsLast net graph tables) s t c.from-2.result q.so (subst (λ (rs : List State). IsLast net graph tables t rs) (sym {A = List State} c.from-2.ensures) last)
 
 pub more_rounds-requires-clause-graph : goal.more_rounds-requires-clause-graph
-more_rounds-requires-clause-graph g c =
-    let s : Store = g.N.Nodes.store c.args.nodes.now in
-    let t : Store = g.N.Nodes.store c.loop.nodes in
-    let gs = g.met.N.Nodes.diagram c.args.nodes.now in
-    let gt = g.met.N.Nodes.diagram c.loop.nodes in
-    let net : RawNet = c.args.net.now.raw in
-    let graph : Graph = c.args.graph.now in
-    let settled : IsSettled net = settled_by_order net c.args.net.now.settled c.args.net.now.in_order in
-    let table : List State = c.loop.progress.table.items in
-    let i = c.loop.counter in
-    let e = length net.latches * 2 + 1 in
-    let p = c.loop.invariant in
-    subst (λ vars. IsGraphOver net vars graph) (sym p.keeps.vars) c.requires.graph
+more_rounds-requires-clause-graph g c = subst (λ v. IsGraphOver c.args.net.now.raw v c.args.graph.now) (sym c.loop.invariant.keeps.vars) c.requires.graph
 
-pub more_rounds-requires-clause-long : goal.more_rounds-requires-clause-long
-more_rounds-requires-clause-long g c =
-    let s : Store = g.N.Nodes.store c.args.nodes.now in
-    let t : Store = g.N.Nodes.store c.loop.nodes in
-    let gs = g.met.N.Nodes.diagram c.args.nodes.now in
-    let gt = g.met.N.Nodes.diagram c.loop.nodes in
-    let net : RawNet = c.args.net.now.raw in
-    let graph : Graph = c.args.graph.now in
-    let settled : IsSettled net = settled_by_order net c.args.net.now.settled c.args.net.now.in_order in
-    let table : List State = c.loop.progress.table.items in
-    let i = c.loop.counter in
-    let e = length net.latches * 2 + 1 in
-    let p = c.loop.invariant in
-    let w = whole_exists net s.vars graph settled in
-    let q = p.so w.0 w.1 w.2 in
-    q.has.long
+pub more_rounds-requires-clause-start : goal.more_rounds-requires-clause-start
+more_rounds-requires-clause-start g c = c.loop.invariant.between
 
-pub more_rounds-requires-clause-table : goal.more_rounds-requires-clause-table
-more_rounds-requires-clause-table g c =
-    let s : Store = g.N.Nodes.store c.args.nodes.now in
-    let t : Store = g.N.Nodes.store c.loop.nodes in
-    let gs = g.met.N.Nodes.diagram c.args.nodes.now in
-    let gt = g.met.N.Nodes.diagram c.loop.nodes in
-    let net : RawNet = c.args.net.now.raw in
-    let graph : Graph = c.args.graph.now in
-    let settled : IsSettled net = settled_by_order net c.args.net.now.settled c.args.net.now.in_order in
-    let table : List State = c.loop.progress.table.items in
-    let i = c.loop.counter in
-    let e = length net.latches * 2 + 1 in
-    let p = c.loop.invariant in
-    let w = whole_exists net s.vars graph settled in
-    let q = p.so w.0 w.1 w.2 in
-    tables_refs net graph s w.0 w.1 w.2 settled t (i * e) table q.has
-
-pub more_rounds-requires-2-clause-graph : goal.more_rounds-requires-2-clause-graph
-more_rounds-requires-2-clause-graph g c =
-    let s : Store = g.N.Nodes.store c.args.nodes.now in
-    let t : Store = g.N.Nodes.store c.loop.nodes in
-    let gs = g.met.N.Nodes.diagram c.args.nodes.now in
-    let gt = g.met.N.Nodes.diagram c.loop.nodes in
-    let net : RawNet = c.args.net.now.raw in
-    let graph : Graph = c.args.graph.now in
-    let settled : IsSettled net = settled_by_order net c.args.net.now.settled c.args.net.now.in_order in
-    let table : List State = c.loop.progress.table.items in
-    let i = c.loop.counter in
-    let e = length net.latches * 2 + 1 in
-    let p = c.loop.invariant in
-    subst (λ vars. IsGraphOver net vars graph) (sym p.keeps.vars) c.requires.graph
-
-pub more_rounds-requires-2-clause-long : goal.more_rounds-requires-2-clause-long
-more_rounds-requires-2-clause-long g c =
-    let s : Store = g.N.Nodes.store c.args.nodes.now in
-    let t : Store = g.N.Nodes.store c.loop.nodes in
-    let gs = g.met.N.Nodes.diagram c.args.nodes.now in
-    let gt = g.met.N.Nodes.diagram c.loop.nodes in
-    let net : RawNet = c.args.net.now.raw in
-    let graph : Graph = c.args.graph.now in
-    let settled : IsSettled net = settled_by_order net c.args.net.now.settled c.args.net.now.in_order in
-    let table : List State = c.loop.progress.table.items in
-    let i = c.loop.counter in
-    let e = length net.latches * 2 + 1 in
-    let p = c.loop.invariant in
-    let w = whole_exists net s.vars graph settled in
-    let q = p.so w.0 w.1 w.2 in
-    q.has.long
-
-pub more_rounds-requires-2-clause-table : goal.more_rounds-requires-2-clause-table
-more_rounds-requires-2-clause-table g c =
-    let s : Store = g.N.Nodes.store c.args.nodes.now in
-    let t : Store = g.N.Nodes.store c.loop.nodes in
-    let gs = g.met.N.Nodes.diagram c.args.nodes.now in
-    let gt = g.met.N.Nodes.diagram c.loop.nodes in
-    let net : RawNet = c.args.net.now.raw in
-    let graph : Graph = c.args.graph.now in
-    let settled : IsSettled net = settled_by_order net c.args.net.now.settled c.args.net.now.in_order in
-    let table : List State = c.loop.progress.table.items in
-    let i = c.loop.counter in
-    let e = length net.latches * 2 + 1 in
-    let p = c.loop.invariant in
-    let w = whole_exists net s.vars graph settled in
-    let q = p.so w.0 w.1 w.2 in
-    tables_refs net graph s w.0 w.1 w.2 settled t (i * e) table q.has
-
-pub more_rounds-requires-clause-before : goal.more_rounds-requires-clause-before
-more_rounds-requires-clause-before g c = c.loop.invariant.before
-
-pub more_rounds-requires-clause-givens : goal.more_rounds-requires-clause-givens
-more_rounds-requires-clause-givens g c = c.loop.invariant.givens
-
-pub more_rounds-requires-2-clause-before : goal.more_rounds-requires-2-clause-before
-more_rounds-requires-2-clause-before g c = c.loop.invariant.before
-
-pub more_rounds-requires-2-clause-givens : goal.more_rounds-requires-2-clause-givens
-more_rounds-requires-2-clause-givens g c = c.loop.invariant.givens
+pub ends_of-requires-clause-from : goal.ends_of-requires-clause-from
+ends_of-requires-clause-from g c = λ k d lt. (c.requires.graph.edges k d lt).start

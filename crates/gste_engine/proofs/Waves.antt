@@ -1,0 +1,112 @@
+-- What edges give, one edge after another from each vertex that has changed.
+use Rattle.std.proofs.Common.{◌≡◌, ◌≢◌, ℕ, suc, ◌+◌, ◌<◌, ◌≤◌, List, [], ◌∷◌, length, drop, get_or, set, sym, ◌∙◌, ap, subst, arith, Contains, inl, inr, ⊎_elim}
+use Rattle.std.proofs.Math.Decide.{ℕ_discrete}
+use Rattle.std.proofs.Math.Seq.{drop-cons}
+use Rattle.std.proofs.lemmas.Bool.{cases_lt}
+use Rattle.std.proofs.lemmas.List.{get_or-set_other, get_or-set_same, get_or_default, length-set}
+use Rattle.dd_nodes.specs.Stores.{Store, Keeps}
+use Rattle.dd_nodes.proofs.Members.{Contains-cons_cases, Contains-none}
+use Rattle.dd_nodes.proofs.Stores.{IsGood}
+use Rattle.net_core.specs.declared.raw.RawNet.{RawNet}
+use Rattle.ste_model.specs.declared.task.Edge.{Edge}
+use Rattle.ste_model.specs.declared.task.Graph.{Graph}
+use Rattle.gste_engine.specs.declared.links.End.TheVariants.{From}
+use Rattle.gste_engine.specs.declared.rounds.Wave.{Wave}
+use Rattle.gste_engine.specs.declared.state.State.{State}
+use Rattle.gste_engine.specs.private.Links.{IsNextAt}
+use Rattle.gste_engine.specs.private.Rounds.{AreGivenFrom, IsGivenFrom, IsWave, IsWithGiven}
+use Rattle.gste_engine.proofs.KeptGivens.{From-keeps}
+use Rattle.gste_engine.proofs.SumsStay.{Sum-keeps, sum_moves}
+
+-- what is not further back, and is not this one, is not there
+pub not_left : (list : List ℕ) (i v : ℕ) → i < length list → v ≢ get_or list i 0 → ¬ Contains (drop (i + 1) list) v → ¬ Contains (drop i list) v
+not_left list i v lt differ none has =
+    let parts : drop i list ≡ get_or list i 0 ∷ drop (i + 1) list = drop-cons list i 0 lt ∙ ap (λ (n : ℕ). get_or list i 0 ∷ drop n list) (let e : suc i ≡ i + 1 = omega arith in e) in
+    ⊎_elim (λ (same : get_or list i 0 ≡ v). differ (sym same)) (λ (later : Contains (drop (i + 1) list) v). none later)
+    (Contains-cons_cases (get_or list i 0) (drop (i + 1) list) v (subst (λ (xs : List ℕ). Contains xs v) parts has))
+
+-- all edges are known
+pub wave_given : (t : Store) (net : RawNet) (graph : Graph) (table : List State) (r : Wave) → IsWave t net graph table [] 0 (length graph.edges) r → AreGivenFrom t net graph.edges table r.givens.items
+wave_given t net graph table r p = record {
+  long = p.given.long;
+  each = λ k d e f lt. p.given.each k d e f lt (λ h. absurd (Contains-none (get_or graph.edges k d).from h)) (λ same. lt);
+}
+
+module _ (net : RawNet) (graph : Graph) (table : List State) where
+  -- in front of the first edge of the next changed vertex
+  pub wave_begins : (t : Store) (changed : List ℕ) (i k : ℕ) (r : Wave) → i < length changed → IsNextAt From graph.edges (get_or changed i 0) 0 k → IsWave t net graph table (drop i changed) 0 (length graph.edges) r
+      → IsWave t net graph table (drop (i + 1) changed) (get_or changed i 0) k r
+  wave_begins t changed i k r lt first p = record {
+    given = record {
+      long = p.given.long;
+      each = λ j d e f l none before.
+          let from = (get_or graph.edges j d).from in
+          let v = get_or changed i 0 in
+          let differ : from ≢ v = λ same. first.none j d (omega arith) (before same) same in
+          p.given.each j d e f l (not_left changed i from lt differ none) (λ same. l);
+    };
+    waiting = p.waiting;
+    flags = p.flags;
+    sums = p.sums;
+  }
+
+  -- behind the last one
+  pub wave_ends : (t : Store) (stale : List ℕ) (v k : ℕ) (r : Wave) → length graph.edges ≤ k → IsWave t net graph table stale v k r → IsWave t net graph table stale 0 (length graph.edges) r
+  wave_ends t stale v k r all p = record {
+    given = record { long = p.given.long; each = λ j d e f l none before. p.given.each j d e f l none (λ same. omega (arith, all, l)) };
+    waiting = p.waiting;
+    flags = p.flags;
+    sums = p.sums;
+  }
+
+  -- one more edge
+  module _ (t u : Store) (stale : List ℕ) (v k next : ℕ) (edge : Edge) (source given : State) (old new : Wave) (gt : IsGood t) (gu : IsGood u) (keeps : Keeps t u) (lt : k < length graph.edges) (is : edge ≡ get_or graph.edges k edge) (start : edge.from < length table)
+      (is_source : source ≡ get_or table edge.from source) (made : IsGivenFrom u net edge source given) (more : IsWithGiven old k edge.to given new) (ahead : IsNextAt From graph.edges v (k + 1) next) (p : IsWave t net graph table stale v k old) where
+    this : (j : ℕ) (d : Edge) → j ≡ k → get_or graph.edges j d ≡ edge
+    this j d same = ap (λ (n : ℕ). get_or graph.edges n d) same ∙ get_or_default graph.edges k d edge lt ∙ sym is
+
+    kept : (j : ℕ) (f : State) → j ≢ k → get_or new.givens.items j f ≡ get_or old.givens.items j f
+    kept j f differ = ap (λ (xs : List State). get_or xs j f) more.givens ∙ get_or-set_other old.givens.items k j given f differ
+
+    wrote : (j : ℕ) (f : State) → j ≡ k → get_or new.givens.items j f ≡ given
+    wrote j f same = ap (λ (xs : List State). get_or xs j f) more.givens ∙ ap (λ (n : ℕ). get_or (set old.givens.items k given) n f) same ∙ get_or-set_same old.givens.items k given f (let n = p.given.long in omega (arith, n, lt))
+
+    each_more : (j : ℕ) (d : Edge) (e f : State) → j < length graph.edges → ¬ Contains stale (get_or graph.edges j d).from → ((get_or graph.edges j d).from ≡ v → j < next) → Dec (j ≡ k)
+        → IsGivenFrom u net (get_or graph.edges j d) (get_or table (get_or graph.edges j d).from e) (get_or new.givens.items j f)
+    each_more j d e f l none before (yes same) =
+        let read : source ≡ get_or table edge.from e = is_source ∙ get_or_default table edge.from source e start in
+        subst (λ (x : Edge). IsGivenFrom u net x (get_or table x.from e) (get_or new.givens.items j f)) (sym (this j d same))
+        (subst (λ (x : State). IsGivenFrom u net edge x (get_or new.givens.items j f)) read
+        (subst (λ (x : State). IsGivenFrom u net edge source x) (sym (wrote j f same)) made))
+    each_more j d e f l none before (no differ) =
+        let from = (get_or graph.edges j d).from in
+        let less : from ≡ v → j < k = λ same. elim (cases_lt j k) [
+          | inl below ↦ below
+          | inr le ↦ absurd (ahead.none j d (omega (arith, le, differ)) (before same) same)
+        ] in
+        subst (λ (x : State). IsGivenFrom u net (get_or graph.edges j d) (get_or table from e) x) (sym (kept j f differ))
+        (From-keeps t u net (get_or graph.edges j d) (get_or table from e) (get_or old.givens.items j f) gt gu keeps (p.given.each j d e f l none less))
+
+    same_into : (w : ℕ) → ¬ Contains new.waiting.list.items w → (j : ℕ) (d : Edge) (f : State) → j < length graph.edges → (get_or graph.edges j d).to ≡ w → get_or new.givens.items j f ≡ get_or old.givens.items j f
+    same_into w none j d f l to = by (ℕ_discrete j k)
+      where
+        by : Dec (j ≡ k) → get_or new.givens.items j f ≡ get_or old.givens.items j f
+        by (no differ) = kept j f differ
+        by (yes same) = elim more.moved [
+          | inl is_old ↦ ap (λ (xs : List State). get_or xs j f) is_old
+          | inr waits ↦ absurd (none (subst (λ (x : ℕ). Contains new.waiting.list.items x) (sym (ap (λ (x : Edge). x.to) (this j d same)) ∙ to) waits))
+        ]
+
+    pub wave_turn : IsWave u net graph table stale v next new
+    wave_turn = record {
+      given = record {
+        long = ap (λ (xs : List State). length xs) more.givens ∙ length-set old.givens.items k given ∙ p.given.long;
+        each = λ j d e f l none before. each_more j d e f l none before (ℕ_discrete j k);
+      };
+      waiting = more.waiting;
+      flags = more.flags ∙ p.flags;
+      sums = λ w d l none.
+          let not_before : ¬ Contains old.waiting.list.items w = λ has. none (more.others w has) in
+          sum_moves u net graph old.givens.items new.givens.items w (get_or table w d) (same_into w none)
+          (Sum-keeps t u net graph old.givens.items w (get_or table w d) gt gu keeps (p.sums w d l not_before));
+    }
