@@ -44,16 +44,16 @@ fn some_budget(reports: &[Report]) -> bool
 }
 
 /// The node steps of each of so many tasks that are tried first: for all tasks together eight for each net and task, but at
-/// least 131,072, which is a table of 2 MB, and at most 2,097,152; and at least 4,096 for each task.
+/// least 65,536, which is a table of 1 MB, and at most 2,097,152; and at least 1,024 for each task.
 fn first_steps(nets: u32, tasks: u32, steps: u32) -> u32
     requires { (1 ≤ tasks) × (1 ≤ steps) }
     ensures exact { result ≡ first_steps nets tasks steps }
     ensures within { (1 ≤ result) × (result ≤ steps) }
 {
     let each = (nets as u64).saturating_mul(8);
-    let all = each.saturating_mul(tasks as u64).clamp(131072, 2097152);
+    let all = each.saturating_mul(tasks as u64).clamp(65536, 2097152);
     let share = (all as u32) / tasks;
-    share.max(4096).min(steps)
+    share.max(1024).min(steps)
 }
 
 /// The node steps of each task that are tried next.
