@@ -13,10 +13,10 @@ use Rattle.net_core.specs.Work.{SymbolicCut, SymbolicSet, chain, conjunction, di
 use Rattle.dual_rail.specs.declared.rails.Rails.{Rails}
 use Rattle.dual_rail.specs.Rail.{AreRails, AreRefs, Built, HasFunction}
 use Rattle.dual_rail.proofs.Chains.{chain-has, whole-next}
-use Rattle.dual_rail.proofs.Turns.{within_more}
+use Rattle.dual_rail.proofs.Turns.{within_more, zip_at, zip_long}
 use Rattle.dual_rail.proofs.Works.{Rails-keep, SoFar, Within, behind, here, own_set, set_where}
 use Rattle.sym_step.specs.declared.cut.Cut.{Cut}
-use Rattle.sym_step.specs.Step.{IsCutBy, rails_at}
+use Rattle.sym_step.specs.Step.{IsCutBy}
 use Rattle.sym_step.proofs.Cutting.{SymbolicCut-keeps, demand_at, demands_long}
 use Rattle.ste_engine.specs.private.Finds.{both_except_work, opposite_except_work, refutes_work}
 use Rattle.ste_engine.proofs.Found.{within_both, within_none}
@@ -116,14 +116,14 @@ nothing : SymbolicCut
 nothing = record { node = 0; guard = never; value = never }
 
 -- one more consequent
-pub gated_turn : (sets : ℕ → SymbolicSet) (ds : List SymbolicCut) (z f h e : Function) (nets : List Rails) (cuts : List Cut) (s t u : Store) (k : ℕ) (c : Cut) (r : Rails) (gate : Ref) (found : Findings) (result : Result Findings OpFault)
-    → IsGood s → IsGood t → IsGood u → k < length cuts → get_or cuts k c ≡ c → c.node.0 < length nets → r ≡ rails_at nets c.node.0
-    → ((id : ℕ) → id < length nets → AreRails s (sets id) (rails_at nets id)) → AllZip (IsCutBy s) ds cuts → Means s z gate → SoFar (gated_finds_work sets ds z f h) s t
+pub gated_turn : (sets : ℕ → SymbolicSet) (ds : List SymbolicCut) (z f h e : Function) (seen : List Rails) (cuts : List Cut) (s t u : Store) (k : ℕ) (c : Cut) (r : Rails) (gate : Ref) (found : Findings) (result : Result Findings OpFault)
+    → IsGood s → IsGood t → IsGood u → k < length cuts → get_or cuts k c ≡ c → get_or seen k r ≡ r
+    → AllZip (λ d r. AreRails s (sets d.node) r) ds seen → AllZip (IsCutBy s) ds cuts → Means s z gate → SoFar (gated_finds_work sets ds z f h) s t
     → AreFindings (more_gated_strong sets (take k ds) z f) (more_gated_weak sets (take k ds) z h) e t found
     → ((a b d : Function) (w : SymbolicSet) (g x y : Function) → AreFindings a b d t found → AreRails t w r → Means t g c.guard → Means t x c.value → Means t y gate
     → Built (gated_find_work a b w g x y) (AreFindings (disjunction a (conjunction (found_strong w g x) y)) (disjunction b (conjunction (found_weak w g x) y)) d) t u result)
     → Built (gated_finds_work sets ds z f h) (AreFindings (more_gated_strong sets (take (k + 1) ds) z f) (more_gated_weak sets (take (k + 1) ds) z h) e) s u result
-gated_turn sets ds z f h e nets cuts s t u k c r gate found result gs gt gu lt is inside at have zip mz so sums call =
+gated_turn sets ds z f h e seen cuts s t u k c r gate found result gs gt gu lt is at have zip mz so sums call =
     let n = demands_long s ds cuts zip in
     let d : SymbolicCut = get_or ds k nothing in
     let inside_ds : k < length ds = omega (arith, n) in
@@ -141,7 +141,9 @@ gated_turn sets ds z f h e nets cuts s t u k c r gate found result gs gt gu lt i
     let weaks : List Function = chain disjunction h weak_ones in
     let front : Within (all ++ (weak_ones ++ strong_ones)) work = λ x y. Contains-append_left (all ++ (weak_ones ++ strong_ones)) (strongs ++ weaks) x y in
     let end : Within (strongs ++ weaks) work = λ x y. Contains-append_right (all ++ (weak_ones ++ strong_ones)) (strongs ++ weaks) x y in
-    let rails : AreRails t w r = Rails-keep s t w r gs gt so.keeps (subst (λ (x : Rails). AreRails s w x) (sym at) (subst (λ (i : ℕ). AreRails s (sets i) (rails_at nets c.node.0)) (sym asked.node) (have c.node.0 inside))) in
+    let m = zip_long (λ (d : SymbolicCut) (r : Rails). AreRails s (sets d.node) r) ds seen have in
+    let read : AreRails s w (get_or seen k r) = zip_at (λ (d : SymbolicCut) (r : Rails). AreRails s (sets d.node) r) ds seen k nothing r have (omega (arith, n, m, lt)) in
+    let rails : AreRails t w r = Rails-keep s t w r gs gt so.keeps (subst (λ (x : Rails). AreRails s w x) at read) in
     let strong_one : Contains work (conjunction (S d) z) = front (conjunction (S d) z) (Contains-append_right all (weak_ones ++ strong_ones) (conjunction (S d) z) (Contains-append_right weak_ones strong_ones (conjunction (S d) z) (gates_have S z ds k nothing inside_ds))) in
     let weak_one : Contains work (conjunction (W d) z) = front (conjunction (W d) z) (Contains-append_right all (weak_ones ++ strong_ones) (conjunction (W d) z) (Contains-append_left weak_ones strong_ones (conjunction (W d) z) (gates_have W z ds k nothing inside_ds))) in
     let strong_in : Contains work (disjunction a (conjunction (S d) z)) = end (disjunction a (conjunction (S d) z)) (Contains-append_left strongs weaks (disjunction a (conjunction (S d) z)) (gates_chain S z f ds k nothing inside_ds)) in

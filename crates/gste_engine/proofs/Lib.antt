@@ -2,6 +2,7 @@ pub mod AllGiven
 pub mod Arrivals
 pub mod Comings
 pub mod CutLists
+pub mod EdgeDone
 pub mod EdgeFails
 pub mod EdgeHops
 pub mod EdgeParts
@@ -16,6 +17,7 @@ pub mod Joins
 pub mod Judging
 pub mod KeptGivens
 pub mod KeptRefs
+pub mod KeptSeen
 pub mod Linked
 pub mod Lists
 pub mod NextSums

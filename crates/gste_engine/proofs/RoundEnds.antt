@@ -1,5 +1,5 @@
 -- Between two rounds: at the start, behind each round, and where no vertex has changed.
-use Rattle.std.proofs.Common.{◌≡◌, ◌≢◌, ℕ, zero, suc, ◌<◌, Bool, true, false, List, [], ◌∷◌, ◌++◌, length, get_or, map, filter, replicate, refl, sym, ◌∙◌, ap, subst, arith, All, Contains, Vec, Global}
+use Rattle.std.proofs.Common.{◌≡◌, ◌≢◌, ℕ, zero, suc, ◌<◌, Bool, true, false, List, [], ◌∷◌, ◌++◌, length, get_or, map, filter, replicate, refl, sym, ◌∙◌, ap, subst, arith, All, Contains}
 use Rattle.std.specs.Prelude.{◌==◌, ◌||◌, IsTrue, if◌then◌else◌}
 use Rattle.std.proofs.lemmas.List.{get_or-replicate, length-map, length-replicate}
 use Rattle.std.proofs.lemmas.List.Elements.{All-nil, All-cons}
@@ -20,14 +20,17 @@ use Rattle.ste_model.specs.GraphWork.{SymbolicState, start_state, state_at}
 use Rattle.ste_model.specs.Work.{constant_set}
 use Rattle.gste_engine.specs.declared.rounds.Progress.{Progress}
 use Rattle.gste_engine.specs.declared.rounds.Sweep.{Sweep}
+use Rattle.gste_engine.specs.declared.rounds.Wave.{Wave}
 use Rattle.gste_engine.specs.declared.state.State.{State}
 use Rattle.gste_engine.specs.Tables.{AreEdgesOver, AreStateRefs, HasStates, IsGraphOver, IsState}
 use Rattle.gste_engine.specs.private.Rounds.{AreGivenFrom, AtStart, IsBetween, IsGivenFrom, IsSwept}
+use Rattle.gste_engine.specs.private.Seen.{AreSeen, IsSeenFrom}
 use Rattle.gste_engine.specs.private.Sums.{HaveFunctions, IsSumOf, begun, begun_at, never_state, summed_at, unions, unreached, with_state, with_states}
 use Rattle.gste_engine.proofs.AllGiven.{ArePossibleOn, given_long, given_of, own_has, own_possible, own_sets, own_table}
 use Rattle.gste_engine.proofs.Arrivals.{begun_get, begun_is, begun_long, begun_refs, never_is}
 use Rattle.gste_engine.proofs.Comings.{IsLong, into, never_long}
 use Rattle.gste_engine.proofs.KeptGivens.{From-keeps, givens_zip, never_given, starts_given}
+use Rattle.gste_engine.proofs.KeptSeen.{Seen-keeps}
 use Rattle.gste_engine.proofs.Lists.{unions_long}
 use Rattle.gste_engine.proofs.NextTables.{early, possible_each, state_moves, states_next}
 use Rattle.gste_engine.proofs.Sets.{no_set}
@@ -37,17 +40,25 @@ use Rattle.gste_engine.proofs.SumsStay.{sum_stays}
 -- ---- behind a round
 
 module _ (net : RawNet) (graph : Graph) (table : List State) (long : length table ≡ length graph.vertices) where
-  pub turn_between : (t u : Store) (givens : Vec State Global) (sweep : Sweep) → IsGood t → IsGood u → Keeps t u → AreEdgesOver net t.vars (length graph.vertices) graph.edges → AreGivenFrom t net graph.edges table givens.items → IsSwept u net graph givens.items table [] sweep
-      → IsBetween u net graph (record { table = sweep.table; givens = givens; changed = sweep.changed; flags = sweep.flags })
-  turn_between t u givens sweep gt gu keeps over q p = record {
+  pub turn_between : (t u : Store) (wave : Wave) (sweep : Sweep) → IsGood t → IsGood u → Keeps t u → AreEdgesOver net t.vars (length graph.vertices) graph.edges → AreGivenFrom t net graph.edges table wave.givens.items → AreSeen t net graph.edges table wave.seen.items → IsSwept u net graph wave.givens.items table [] sweep
+      → IsBetween u net graph (record { table = sweep.table; givens = wave.givens; seen = wave.seen; changed = sweep.changed; flags = sweep.flags })
+  turn_between t u wave sweep gt gu keeps over q z p = record {
     long = p.long;
     refs = p.refs;
     given = record {
       long = q.long;
       each = λ k d e f lt none before.
           let edge = get_or graph.edges k d in
-          subst (λ (x : State). IsGivenFrom u net edge x (get_or givens.items k f)) (sym (p.same edge.from e (over k d lt).start none))
-          (From-keeps t u net edge (get_or table edge.from e) (get_or givens.items k f) gt gu keeps (q.each k d e f lt));
+          subst (λ (x : State). IsGivenFrom u net edge x (get_or wave.givens.items k f)) (sym (p.same edge.from e (over k d lt).start none))
+          (From-keeps t u net edge (get_or table edge.from e) (get_or wave.givens.items k f) gt gu keeps (q.each k d e f lt));
+    };
+    seen = record {
+      long = z.long;
+      each = λ k d e f lt none before reached.
+          let edge = get_or graph.edges k d in
+          let same : get_or sweep.table.items edge.from e ≡ get_or table edge.from e = p.same edge.from e (over k d lt).start none in
+          subst (λ (x : State). IsSeenFrom u net edge x (get_or wave.seen.items k f)) (sym same)
+          (Seen-keeps t u net edge (get_or table edge.from e) (get_or wave.seen.items k f) gt gu keeps (z.each k d e f lt (λ none. reached (ap (λ (x : State). x.reached.0) same ∙ none))));
     };
     sums = λ v d l. p.sums v d l (λ h. Contains-none v h);
     inside = p.inside;
@@ -189,6 +200,14 @@ module _ (t : Store) (net : RawNet) (graph : Graph) (r : Progress) (settled : Is
           let here : ¬ Contains (0 ∷ []) edge.from = λ h. none (subst (λ (xs : List ℕ). Contains xs edge.from) (sym start.changed) h) in
           subst (λ (xs : List State). IsGivenFrom t net edge (get_or xs edge.from e) (get_or r.givens.items k f)) (sym {A = List State} start.table)
           (subst (λ (xs : List State). IsGivenFrom t net edge (get_or firsts edge.from e) (get_or xs k f)) (sym {A = List State} start.givens) (first_given k d e f lt here));
+    };
+    seen = record {
+      long = start.seen;
+      each = λ k d e f lt none before reached.
+          let edge = get_or graph.edges k d in
+          let here : ¬ Contains (0 ∷ []) edge.from = λ h. none (subst (λ (xs : List ℕ). Contains xs edge.from) (sym start.changed) h) in
+          let source : get_or r.table.items edge.from e ≡ unreached net = ap (λ (xs : List State). get_or xs edge.from e) start.table ∙ unstarted edge.from e (over.edges k d lt).start (λ same. here (0, omega arith, sym same)) in
+          absurd (reached (ap (λ (x : State). x.reached.0) source));
     };
     sums = λ v d lt.
         subst (λ (xs : List State). IsSumOf t net graph xs v (get_or r.table.items v d)) (sym {A = List State} start.givens)

@@ -8,6 +8,7 @@ use Rattle.dd_nodes.specs.Stores.{Store, Keeps}
 use Rattle.dd_nodes.proofs.Members.{Contains-cons_cases, Contains-none}
 use Rattle.dd_nodes.proofs.Stores.{IsGood}
 use Rattle.net_core.specs.declared.raw.RawNet.{RawNet}
+use Rattle.dual_rail.specs.declared.rails.Rails.{Rails}
 use Rattle.ste_model.specs.declared.task.Edge.{Edge}
 use Rattle.ste_model.specs.declared.task.Graph.{Graph}
 use Rattle.gste_engine.specs.declared.links.End.TheVariants.{From}
@@ -15,7 +16,9 @@ use Rattle.gste_engine.specs.declared.rounds.Wave.{Wave}
 use Rattle.gste_engine.specs.declared.state.State.{State}
 use Rattle.gste_engine.specs.private.Links.{IsNextAt}
 use Rattle.gste_engine.specs.private.Rounds.{AreGivenFrom, IsGivenFrom, IsWave, IsWithGiven}
+use Rattle.gste_engine.specs.private.Seen.{AreSeen, IsSeenFrom}
 use Rattle.gste_engine.proofs.KeptGivens.{From-keeps}
+use Rattle.gste_engine.proofs.KeptSeen.{Seen-keeps}
 use Rattle.gste_engine.proofs.SumsStay.{Sum-keeps, sum_moves}
 
 -- what is not further back, and is not this one, is not there
@@ -32,6 +35,12 @@ wave_given t net graph table r p = record {
   each = λ k d e f lt. p.given.each k d e f lt (λ h. absurd (Contains-none (get_or graph.edges k d).from h)) (λ same. lt);
 }
 
+pub wave_seen : (t : Store) (net : RawNet) (graph : Graph) (table : List State) (r : Wave) → IsWave t net graph table [] 0 (length graph.edges) r → AreSeen t net graph.edges table r.seen.items
+wave_seen t net graph table r p = record {
+  long = p.seen.long;
+  each = λ k d e f lt reached. p.seen.each k d e f lt (λ h. absurd (Contains-none (get_or graph.edges k d).from h)) (λ same. lt) reached;
+}
+
 module _ (net : RawNet) (graph : Graph) (table : List State) where
   -- in front of the first edge of the next changed vertex
   pub wave_begins : (t : Store) (changed : List ℕ) (i k : ℕ) (r : Wave) → i < length changed → IsNextAt From graph.edges (get_or changed i 0) 0 k → IsWave t net graph table (drop i changed) 0 (length graph.edges) r
@@ -45,6 +54,14 @@ module _ (net : RawNet) (graph : Graph) (table : List State) where
           let differ : from ≢ v = λ same. first.none j d (omega arith) (before same) same in
           p.given.each j d e f l (not_left changed i from lt differ none) (λ same. l);
     };
+    seen = record {
+      long = p.seen.long;
+      each = λ j d e f l none before reached.
+          let from = (get_or graph.edges j d).from in
+          let v = get_or changed i 0 in
+          let differ : from ≢ v = λ same. first.none j d (omega arith) (before same) same in
+          p.seen.each j d e f l (not_left changed i from lt differ none) (λ same. l) reached;
+    };
     waiting = p.waiting;
     flags = p.flags;
     sums = p.sums;
@@ -54,14 +71,15 @@ module _ (net : RawNet) (graph : Graph) (table : List State) where
   pub wave_ends : (t : Store) (stale : List ℕ) (v k : ℕ) (r : Wave) → length graph.edges ≤ k → IsWave t net graph table stale v k r → IsWave t net graph table stale 0 (length graph.edges) r
   wave_ends t stale v k r all p = record {
     given = record { long = p.given.long; each = λ j d e f l none before. p.given.each j d e f l none (λ same. omega (arith, all, l)) };
+    seen = record { long = p.seen.long; each = λ j d e f l none before reached. p.seen.each j d e f l none (λ same. omega (arith, all, l)) reached };
     waiting = p.waiting;
     flags = p.flags;
     sums = p.sums;
   }
 
   -- one more edge
-  module _ (t u : Store) (stale : List ℕ) (v k next : ℕ) (edge : Edge) (source given : State) (old new : Wave) (gt : IsGood t) (gu : IsGood u) (keeps : Keeps t u) (lt : k < length graph.edges) (is : edge ≡ get_or graph.edges k edge) (start : edge.from < length table)
-      (is_source : source ≡ get_or table edge.from source) (made : IsGivenFrom u net edge source given) (more : IsWithGiven old k edge.to given new) (ahead : IsNextAt From graph.edges v (k + 1) next) (p : IsWave t net graph table stale v k old) where
+  module _ (t u : Store) (stale : List ℕ) (v k next : ℕ) (edge : Edge) (source given : State) (sets : List Rails) (old new : Wave) (gt : IsGood t) (gu : IsGood u) (keeps : Keeps t u) (lt : k < length graph.edges) (is : edge ≡ get_or graph.edges k edge) (start : edge.from < length table)
+      (is_source : source ≡ get_or table edge.from source) (made : IsGivenFrom u net edge source given) (seen : IsSeenFrom u net edge source sets) (more : IsWithGiven old k edge.to given sets new) (ahead : IsNextAt From graph.edges v (k + 1) next) (p : IsWave t net graph table stale v k old) where
     this : (j : ℕ) (d : Edge) → j ≡ k → get_or graph.edges j d ≡ edge
     this j d same = ap (λ (n : ℕ). get_or graph.edges n d) same ∙ get_or_default graph.edges k d edge lt ∙ sym is
 
@@ -87,6 +105,24 @@ module _ (net : RawNet) (graph : Graph) (table : List State) where
         subst (λ (x : State). IsGivenFrom u net (get_or graph.edges j d) (get_or table from e) x) (sym (kept j f differ))
         (From-keeps t u net (get_or graph.edges j d) (get_or table from e) (get_or old.givens.items j f) gt gu keeps (p.given.each j d e f l none less))
 
+    seen_more : (j : ℕ) (d : Edge) (e : State) (f : List Rails) → j < length graph.edges → ¬ Contains stale (get_or graph.edges j d).from → ((get_or graph.edges j d).from ≡ v → j < next) → (get_or table (get_or graph.edges j d).from e).reached.0 ≢ 0 → Dec (j ≡ k)
+        → IsSeenFrom u net (get_or graph.edges j d) (get_or table (get_or graph.edges j d).from e) (get_or new.seen.items j f)
+    seen_more j d e f l none before reached (yes same) =
+        let read : source ≡ get_or table edge.from e = is_source ∙ get_or_default table edge.from source e start in
+        let put : get_or new.seen.items j f ≡ sets = ap (λ (xs : List (List Rails)). get_or xs j f) more.seen ∙ ap (λ (n : ℕ). get_or (set old.seen.items k sets) n f) same ∙ get_or-set_same old.seen.items k sets f (let n = p.seen.long in omega (arith, n, lt)) in
+        subst (λ (x : Edge). IsSeenFrom u net x (get_or table x.from e) (get_or new.seen.items j f)) (sym (this j d same))
+        (subst (λ (x : State). IsSeenFrom u net edge x (get_or new.seen.items j f)) read
+        (subst (λ (x : List Rails). IsSeenFrom u net edge source x) (sym put) seen))
+    seen_more j d e f l none before reached (no differ) =
+        let from = (get_or graph.edges j d).from in
+        let less : from ≡ v → j < k = λ same. elim (cases_lt j k) [
+          | inl below ↦ below
+          | inr le ↦ absurd (ahead.none j d (omega (arith, le, differ)) (before same) same)
+        ] in
+        let same_seen : get_or new.seen.items j f ≡ get_or old.seen.items j f = ap (λ (xs : List (List Rails)). get_or xs j f) more.seen ∙ get_or-set_other old.seen.items k j sets f differ in
+        subst (λ (x : List Rails). IsSeenFrom u net (get_or graph.edges j d) (get_or table from e) x) (sym same_seen)
+        (Seen-keeps t u net (get_or graph.edges j d) (get_or table from e) (get_or old.seen.items j f) gt gu keeps (p.seen.each j d e f l none less reached))
+
     same_into : (w : ℕ) → ¬ Contains new.waiting.list.items w → (j : ℕ) (d : Edge) (f : State) → j < length graph.edges → (get_or graph.edges j d).to ≡ w → get_or new.givens.items j f ≡ get_or old.givens.items j f
     same_into w none j d f l to = by (ℕ_discrete j k)
       where
@@ -102,6 +138,10 @@ module _ (net : RawNet) (graph : Graph) (table : List State) where
       given = record {
         long = ap (λ (xs : List State). length xs) more.givens ∙ length-set old.givens.items k given ∙ p.given.long;
         each = λ j d e f l none before. each_more j d e f l none before (ℕ_discrete j k);
+      };
+      seen = record {
+        long = ap (λ (xs : List (List Rails)). length xs) more.seen ∙ length-set old.seen.items k sets ∙ p.seen.long;
+        each = λ j d e f l none before reached. seen_more j d e f l none before reached (ℕ_discrete j k);
       };
       waiting = more.waiting;
       flags = more.flags ∙ p.flags;

@@ -5,6 +5,7 @@ pub mod Given
 pub mod Judged
 pub mod Links
 pub mod Rounds
+pub mod Seen
 pub mod Sums
 pub mod Taken
 pub mod Waiting

@@ -1,12 +1,12 @@
 //! What is found of the consequents of one edge, where the edge is feasible; begin with `with_found`.
 
-ghost use Rattle.std.specs.Prelude.{◌≡◌, ◌<◌, ℕ, List, All, IfOk, length};
+ghost use Rattle.std.specs.Prelude.{◌≡◌, ℕ, List, All, IfOk, length};
 ghost use Rattle.std.specs.List.{AllZip};
 ghost use Rattle.dd_nodes.specs.Diagram.{Function};
 ghost use Rattle.dd_nodes.specs.Stores.{IsRef, Keeps, Means};
 ghost use Rattle.net_core.specs.Work.{SymbolicCut, SymbolicSet, conjunction, disjunction};
 ghost use Rattle.dual_rail.specs.Rail.{AreRails, AreRefs, Built, HasFunction};
-ghost use Rattle.sym_step.specs.Step.{IsCutBy, rails_at};
+ghost use Rattle.sym_step.specs.Step.{IsCutBy};
 ghost use Rattle.ste_model.specs.Work.{both_bits, found_strong, found_weak, refutes};
 ghost use Rattle.gste_engine.specs.private.EdgeFinds.{AreFindings, AreFindingsRefs, gated_add_work, gated_find_work, gated_finding, gated_finds_work, gated_strong_work, gated_weak_work, more_gated_strong, more_gated_weak, with_found_work};
 
@@ -130,17 +130,18 @@ fn find<N: Nodes>(
     })
 }
 
-/// What is found so far, with all consequents of an edge that is feasible where `gate` is 1, in order.
+/// What is found so far, with all consequents of an edge that is feasible where `gate` is 1, in order. `seen` are the sets
+/// of their nets, one by one.
 fn find_all<N: Nodes>(
     ops: &Ops,
     nodes: &mut N,
-    nets: &[Rails],
+    seen: &[Rails],
     cuts: &[Cut],
     gate: Ref,
     found: Findings,
 ) -> Result<Findings, OpFault>
-    requires nets { All (AreRefs (N.store nodes.old)) nets.now }
-    requires inside { All (λ c. c.node.0 < length nets.now) cuts.now }
+    requires seen { All (AreRefs (N.store nodes.old)) seen.now }
+    requires long { length seen.now ≡ length cuts.now }
     requires guards { All (λ c. IsRef (N.store nodes.old) c.guard) cuts.now }
     requires values { All (λ c. IsRef (N.store nodes.old) c.value) cuts.now }
     requires gate { IsRef (N.store nodes.old) gate }
@@ -148,8 +149,7 @@ fn find_all<N: Nodes>(
     ensures keeps { Keeps (N.store nodes.old) (N.store nodes.new) }
     ensures refs { IfOk result (AreFindingsRefs (N.store nodes.new)) }
     ensures found { (sets : ℕ → SymbolicSet) (ds : List SymbolicCut) (z f h e : Function)
-        → ((id : ℕ) → id < length nets.now
-        → AreRails (N.store nodes.old) (sets id) (rails_at nets.now id))
+        → AllZip (λ d r. AreRails (N.store nodes.old) (sets d.node) r) ds seen.now
         → AllZip (IsCutBy (N.store nodes.old)) ds cuts.now
         → Means (N.store nodes.old) z gate → AreFindings f h e (N.store nodes.old) found
         → Built (gated_finds_work sets ds z f h)
@@ -157,8 +157,8 @@ fn find_all<N: Nodes>(
         (N.store nodes.old) (N.store nodes.new) result }
 {
     let mut all = found;
-    for c in cuts {
-        all = find(ops, nodes, nets[c.node.0 as usize], *c, gate, all)?;
+    for k in 0..cuts.len() {
+        all = find(ops, nodes, seen[k], cuts[k], gate, all)?;
     }
     Ok(all)
 }
@@ -167,20 +167,19 @@ fn find_all<N: Nodes>(
 pub fn with_found<N: Nodes>(
     ops: &Ops,
     nodes: &mut N,
-    nets: &[Rails],
+    seen: &[Rails],
     cuts: &[Cut],
     gate: Ref,
     found: Findings,
 ) -> Result<Findings, OpFault>
-    requires nets { All (AreRefs (N.store nodes.old)) nets.now }
-    requires inside { All (λ c. c.node.0 < length nets.now) cuts.now }
+    requires seen { All (AreRefs (N.store nodes.old)) seen.now }
+    requires long { length seen.now ≡ length cuts.now }
     requires guards { All (λ c. IsRef (N.store nodes.old) c.guard) cuts.now }
     requires values { All (λ c. IsRef (N.store nodes.old) c.value) cuts.now }
     requires gate { IsRef (N.store nodes.old) gate }
     requires found { AreFindingsRefs (N.store nodes.old) found }
     ensures { (sets : ℕ → SymbolicSet) (ds : List SymbolicCut) (z f h e : Function)
-        → ((id : ℕ) → id < length nets.now
-        → AreRails (N.store nodes.old) (sets id) (rails_at nets.now id))
+        → AllZip (λ d r. AreRails (N.store nodes.old) (sets d.node) r) ds seen.now
         → AllZip (IsCutBy (N.store nodes.old)) ds cuts.now
         → Means (N.store nodes.old) z gate → AreFindings f h e (N.store nodes.old) found
         → Built (with_found_work sets ds z f h e)
@@ -188,7 +187,7 @@ pub fn with_found<N: Nodes>(
         (disjunction e z))
         (N.store nodes.old) (N.store nodes.new) result }
 {
-    let more = find_all(ops, nodes, nets, cuts, gate, found)?;
+    let more = find_all(ops, nodes, seen, cuts, gate, found)?;
     let feasible = either(ops, nodes, more.feasible, gate)?;
     Ok(Findings {
         strong: more.strong,

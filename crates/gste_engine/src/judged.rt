@@ -1,6 +1,6 @@
 //! What is found on the least closed table of a graph; begin with `judge`.
 
-ghost use Rattle.std.specs.Prelude.{◌≡◌, ◌<◌, ℕ, List, All, length, map};
+ghost use Rattle.std.specs.Prelude.{◌≡◌, ◌≢◌, ◌<◌, ℕ, List, All, length, map};
 ghost use Rattle.std.specs.List.{AllZip};
 ghost use Rattle.dd_nodes.specs.Diagram.{Function};
 ghost use Rattle.dd_nodes.specs.Stores.{Means};
@@ -14,14 +14,18 @@ ghost use Rattle.ste_model.specs.GraphWork.{SymbolicState, graph_work, symbolic_
 ghost use Rattle.gste_engine.specs.Tables.{AreConsequentsOver, AreEdgesOver, AreStateRefs, HasStates, IsGraphOver};
 ghost use Rattle.gste_engine.specs.private.EdgeFinds.{AreAllFound, AreEndings, AreFindings, AreFindingsRefs, IsAsked, IsWithEdge, all_found_work, asked_work, ending_work, with_edge_work};
 ghost use Rattle.gste_engine.specs.private.Judged.{AreGraphResults};
+ghost use Rattle.gste_engine.specs.private.Rounds.{AreGivenFrom, IsGivenFrom};
+ghost use Rattle.gste_engine.specs.private.Seen.{AreSeen, IsSeenFrom};
 
 use crate::binds::cuts_of;
 use crate::edge::edge_found;
 use crate::found::{Findings, with_found};
-use crate::rounds::settle;
+use crate::rounds::settled;
+use crate::seen::seen_by;
 use crate::state::State;
 use dd_nodes::{Nodes, Ref};
 use dd_ops::{OpFault, Ops};
+use dual_rail::Rails;
 use net_core::{Net, settles};
 use std::alloc::Global;
 use ste_base::Items;
@@ -53,7 +57,8 @@ fn asked_on<N: Nodes>(
     cuts_of(alloc, ops, nodes, edge.con.as_slice())
 }
 
-/// What is found so far, with what one more edge gives. The sets of its nets are let go, and what they refer to stays held.
+/// What is found so far, with what one more edge gives. Where its source is reached somewhere, `given` and `seen` have been
+/// found of it; else it is evaluated.
 fn with_edge<N: Nodes>(
     alloc: Global,
     nodes: &mut N,
@@ -61,6 +66,8 @@ fn with_edge<N: Nodes>(
     rows: &GateRows,
     edge: &Edge,
     source: &State,
+    given: &State,
+    seen: &[Rails],
     found: Findings,
 ) -> Result<Findings, OpFault>
     requires rows { rows.now.covers ≡ map rows_of net.now.raw.covers }
@@ -69,6 +76,9 @@ fn with_edge<N: Nodes>(
     requires wanted { All (λ bind. bind.node.0 < net.now.raw.nets) edge.now.con }
     requires reads_wanted { BindsReadBelow (N.store nodes.old).vars edge.now.con }
     requires source { AreStateRefs (N.store nodes.old) net.now.raw source.now }
+    requires given { IsGivenFrom (N.store nodes.old) net.now.raw edge.now source.now given.now }
+    requires seen { source.now.reached.0 ≢ 0
+        → IsSeenFrom (N.store nodes.old) net.now.raw edge.now source.now seen.now }
     requires found { AreFindingsRefs (N.store nodes.old) found }
     ensures { (r : Function) (ls : List SymbolicSet) (sets : ℕ → SymbolicSet) (f h e : Function)
         → Means (N.store nodes.old) r source.now.reached
@@ -82,15 +92,16 @@ fn with_edge<N: Nodes>(
 {
     let ops = Ops::new(alloc);
     let wanted = asked_on(alloc, &ops, nodes, edge)?;
-    let given = edge_found(alloc, nodes, net, rows, edge, source)?;
-    with_found(
-        &ops,
-        nodes,
-        given.nets.as_slice(),
-        wanted.as_slice(),
-        given.feasible,
-        found,
-    )
+    let cuts = wanted.as_slice();
+    if source.reached != Ref::FALSE {
+        return with_found(&ops, nodes, seen, cuts, given.reached, found);
+    }
+    let made = edge_found(alloc, nodes, net, rows, edge, source)?;
+    let sets = match seen_by(alloc, made.nets.as_slice(), edge.con.as_slice()) {
+        Ok(sets) => sets,
+        Err(_) => return Err(OpFault::OutOfMemory),
+    };
+    with_found(&ops, nodes, sets.as_slice(), cuts, made.feasible, found)
 }
 
 /// What is found on all edges, on a table.
@@ -101,6 +112,8 @@ fn all_found<N: Nodes>(
     rows: &GateRows,
     edges: &[Edge],
     table: &[State],
+    givens: &[State],
+    seen: &[Items<Rails>],
 ) -> Result<Findings, OpFault>
     requires rows { rows.now.covers ≡ map rows_of net.now.raw.covers }
     requires edges { AreEdgesOver net.now.raw (N.store nodes.old).vars
@@ -108,6 +121,9 @@ fn all_found<N: Nodes>(
     requires wanted { All (λ edge. All (λ bind. bind.node.0 < net.now.raw.nets) edge.con
         × BindsReadBelow (N.store nodes.old).vars edge.con) edges.now }
     requires table { All (AreStateRefs (N.store nodes.old) net.now.raw) table.now }
+    requires givens { AreGivenFrom (N.store nodes.old) net.now.raw
+        edges.now table.now givens.now }
+    requires seen { AreSeen (N.store nodes.old) net.now.raw edges.now table.now seen.now }
     ensures { (states : ℕ → SymbolicState) (sets : AnEdge → ℕ → SymbolicSet)
         → HasStates states (length table.now) (N.store nodes.old) table.now
         → All (λ edge. ArePossibleEach (N.store nodes.old).vars net.now.raw
@@ -125,7 +141,10 @@ fn all_found<N: Nodes>(
     for k in 0..edges.len() {
         let edge = &edges[k];
         let source = &table[edge.from as usize];
-        found = with_edge(alloc, nodes, net, rows, edge, source, found)?;
+        let sets = seen[k].as_slice();
+        found = with_edge(
+            alloc, nodes, net, rows, edge, source, &givens[k], sets, found,
+        )?;
     }
     Ok(found)
 }
@@ -172,16 +191,19 @@ pub fn judge<N: Nodes>(
         (N.store nodes.old) (N.store nodes.new) result }
 {
     settles(net);
-    let table = settle(alloc, nodes, net, rows, graph)?;
+    let last = settled(alloc, nodes, net, rows, graph)?;
     let found = all_found(
         alloc,
         nodes,
         net,
         rows,
         graph.edges.as_slice(),
-        table.as_slice(),
+        last.table.as_slice(),
+        last.givens.as_slice(),
+        last.seen.as_slice(),
     )?;
     let ops = Ops::new(alloc);
     let results = ending(&ops, nodes, found)?;
+    let table = Items::from(last.table);
     Ok(Judged { table, results })
 }

@@ -14,6 +14,7 @@ mod links;
 mod reports;
 pub mod rounds;
 mod same;
+mod seen;
 mod shown;
 pub mod state;
 mod sums;

@@ -12,45 +12,82 @@ ghost use Rattle.ste_model.specs.GraphWork.{SymbolicState, edge_work, given_by, 
 ghost use Rattle.gste_engine.specs.declared.links.End.TheVariants.{From, To};
 ghost use Rattle.gste_engine.specs.Tables.{AreEdgesOver, AreStateRefs, HasStates, IsGraphOver, IsState, rounds_work};
 ghost use Rattle.gste_engine.specs.private.Links.{AreLinks};
-ghost use Rattle.gste_engine.specs.private.Rounds.{AreEnds, AtStart, IsBetween, IsProgress, IsSwept, IsTurn, IsWave, IsWithGiven, IsWithSum, edges_work, one_round_work};
+ghost use Rattle.gste_engine.specs.private.Rounds.{AreEnds, AtStart, IsBetween, IsLast, IsProgress, IsSettledOn, IsSwept, IsTurn, IsWave, IsWithGiven, IsWithSum, edges_work, one_round_work};
+ghost use Rattle.gste_engine.specs.private.Seen.{rails_of};
 ghost use Rattle.gste_engine.specs.private.Sums.{HaveFunctions, arrivals_work};
 ghost use Rattle.gste_engine.specs.private.Waiting.{IsWaiting};
 
-use crate::edge::edge_found;
+use crate::edge::{EdgeFound, edge_found};
 use crate::links::{End, Links, links_of};
 use crate::same::same_state;
+use crate::seen::seen_by;
 use crate::state::State;
 use crate::sums::{begun, nothing_given, sum_of};
 use crate::waiting::{Waiting, with_vertex};
 use dd_nodes::Nodes;
 use dd_ops::OpFault;
+use dual_rail::Rails;
 use net_core::{Net, settles};
 use std::alloc::{AllocError, Global};
 use ste_base::Items;
 use ste_model::{Edge, Graph};
 use sym_step::GateRows;
 
-/// What each edge gives, by number, and the vertices to which an edge gives something else than before.
+/// What each edge gives, by number, the sets of the nets that its consequents name, where it has been evaluated, and the
+/// vertices to which an edge gives something else than before.
 #[derive(Drop)]
 struct Wave {
     givens: Vec<State>,
+    seen: Vec<Items<Rails>>,
     waiting: Waiting,
 }
 
 /// The same where the edge `k` gives this to a vertex, which waits from then on if that is something else than before.
-fn with_given(wave: Wave, k: usize, to: usize, given: State) -> Result<Wave, AllocError>
+fn with_given(
+    wave: Wave,
+    k: usize,
+    to: usize,
+    given: State,
+    seen: Items<Rails>,
+) -> Result<Wave, AllocError>
     requires known { k < length wave.givens.items }
+    requires count { k < length wave.seen.items }
     requires waiting { IsWaiting wave.waiting }
     requires to { to < length wave.waiting.flags.items }
-    ensures { IfOk result (λ more. IsWithGiven wave k to given more) }
+    ensures { IfOk result (λ more. IsWithGiven wave k to given seen more) }
 {
-    if same_state(&wave.givens[k], &given) {
-        return Ok(wave);
+    let mut more = wave;
+    more.seen[k] = seen;
+    if same_state(&more.givens[k], &given) {
+        return Ok(more);
     }
-    let mut givens = wave.givens;
-    givens[k] = given;
-    let waiting = with_vertex(wave.waiting, to)?;
-    Ok(Wave { givens, waiting })
+    more.givens[k] = given;
+    more.waiting = with_vertex(more.waiting, to)?;
+    Ok(more)
+}
+
+/// The same with what is found of the edge `k`. The sets of all nets are let go, and what they refer to stays held.
+fn with_edge(
+    alloc: Global,
+    edge: &Edge,
+    k: usize,
+    found: EdgeFound,
+    wave: Wave,
+) -> Result<Wave, AllocError>
+    requires known { k < length wave.givens.items }
+    requires count { k < length wave.seen.items }
+    requires waiting { IsWaiting wave.waiting }
+    requires to { edge.now.to < length wave.waiting.flags.items }
+    ensures { IfOk result (λ more. IsWithGiven wave k edge.now.to
+        (record { reached = found.feasible; latches = found.next })
+        (map (rails_of found.nets) edge.now.con) more) }
+{
+    let seen = seen_by(alloc, found.nets.as_slice(), edge.con.as_slice())?;
+    let given = State {
+        reached: found.feasible,
+        latches: found.next,
+    };
+    with_given(wave, k, edge.to as usize, given, seen)
 }
 
 /// What each edge gives, where those that begin at the `i`-th changed vertex are evaluated on the table. They are known for
@@ -93,11 +130,7 @@ fn renewed<N: Nodes>(
         let edge = &edges[k];
         let source = &table[edge.from as usize];
         let found = edge_found(alloc, nodes, net, rows, edge, source)?;
-        let given = State {
-            reached: found.feasible,
-            latches: found.next,
-        };
-        wave = match with_given(wave, k, edge.to as usize, given) {
+        wave = match with_edge(alloc, edge, k, found, wave) {
             Ok(more) => more,
             Err(_) => return Err(OpFault::OutOfMemory),
         };
@@ -203,12 +236,13 @@ fn swept<N: Nodes>(
     Ok(sweep)
 }
 
-/// A table, what each edge gives but for those from vertices that changed in the last round, these vertices, and a flag for
-/// each vertex, which is not set.
+/// A table, what each edge gives and what is seen of it but for those from vertices that changed in the last round, these
+/// vertices, and a flag for each vertex, which is not set.
 #[derive(Drop)]
 struct Progress {
     table: Vec<State>,
     givens: Vec<State>,
+    seen: Vec<Items<Rails>>,
     changed: Vec<usize>,
     flags: Vec<bool>,
 }
@@ -239,7 +273,11 @@ fn resummed<N: Nodes>(
         (N.store nodes.old) (N.store nodes.new) result }
 {
     settles(net);
-    let Wave { givens, waiting } = wave;
+    let Wave {
+        givens,
+        seen,
+        waiting,
+    } = wave;
     let Waiting { flags, list } = waiting;
     let start = Sweep {
         table,
@@ -259,6 +297,7 @@ fn resummed<N: Nodes>(
     Ok(Progress {
         table: sweep.table,
         givens,
+        seen,
         changed: sweep.changed,
         flags: sweep.flags,
     })
@@ -314,6 +353,7 @@ fn round<N: Nodes>(
     };
     let known = Wave {
         givens: start.givens,
+        seen: start.seen,
         waiting,
     };
     let table = start.table;
@@ -331,6 +371,17 @@ fn round<N: Nodes>(
     resummed(alloc, nodes, net, graph, &ends.into, table, wave)
 }
 
+/// Nothing is seen of any edge.
+fn nothing_seen(alloc: Global, graph: &Graph) -> Result<Vec<Items<Rails>>, AllocError>
+    ensures { IfOk result (λ seen. length seen.items ≡ length graph.now.edges) }
+{
+    let mut seen = Vec::new(alloc);
+    for _ in 0..graph.edges.len() {
+        seen.push(Items::new(alloc))?;
+    }
+    Ok(seen)
+}
+
 /// Round 1: vertex 0 is reached, and nothing is given yet.
 fn started(alloc: Global, net: &Net, graph: &Graph) -> Result<Progress, AllocError>
     requires { 0 < length graph.now.vertices }
@@ -338,11 +389,13 @@ fn started(alloc: Global, net: &Net, graph: &Graph) -> Result<Progress, AllocErr
 {
     let table = begun(alloc, net, graph)?;
     let givens = nothing_given(alloc, net, graph)?;
+    let seen = nothing_seen(alloc, graph)?;
     let changed = vec![in alloc; 0; 1]?;
     let flags = vec![in alloc; false; graph.vertices.len()]?;
     Ok(Progress {
         table,
         givens,
+        seen,
         changed,
         flags,
     })
@@ -382,6 +435,130 @@ fn more_rounds<N: Nodes>(
     Ok(progress)
 }
 
+/// The table of the round that settles, what each edge gives on it, and the sets of the nets that its consequents name, where
+/// its source is reached.
+#[derive(Drop)]
+pub struct Known {
+    pub table: Vec<State>,
+    pub givens: Vec<State>,
+    pub seen: Vec<Items<Rails>>,
+}
+
+/// The table with what is known on it: what edges from changed vertices give is evaluated once more.
+fn known_on<N: Nodes>(
+    alloc: Global,
+    nodes: &mut N,
+    net: &Net,
+    rows: &GateRows,
+    graph: &Graph,
+    ends: &Ends,
+    last: Progress,
+) -> Result<Known, OpFault>
+    requires rows { rows.now.covers ≡ map rows_of net.now.raw.covers }
+    requires graph { IsGraphOver net.now.raw (N.store nodes.old).vars graph.now }
+    requires ends { AreEnds graph.now ends.now }
+    requires last { IsBetween (N.store nodes.old) net.now.raw graph.now last }
+    ensures { (states : ℕ → SymbolicState) (sets : AnEdge → ℕ → SymbolicSet)
+        → HasStates states (length graph.now.vertices) (N.store nodes.old) last.table.items
+        → All (λ edge. ArePossibleEach (N.store nodes.old).vars net.now.raw
+        (states edge.from).latches (symbolic_asked_on edge) (sets edge)) graph.now.edges
+        → Built (edges_work net.now.raw states sets graph.now.edges)
+        (IsSettledOn net.now.raw graph.now states)
+        (N.store nodes.old) (N.store nodes.new) result }
+{
+    settles(net);
+    let waiting = Waiting {
+        flags: last.flags,
+        list: Vec::new(alloc),
+    };
+    let known = Wave {
+        givens: last.givens,
+        seen: last.seen,
+        waiting,
+    };
+    let table = last.table;
+    let wave = refreshed(
+        alloc,
+        nodes,
+        net,
+        rows,
+        graph,
+        &ends.from,
+        table.as_slice(),
+        last.changed.as_slice(),
+        known,
+    )?;
+    Ok(Known {
+        table,
+        givens: wave.givens,
+        seen: wave.seen,
+    })
+}
+
+/// As many rounds behind round 1 as settle the table, or up to the first one that changes nothing.
+fn all_rounds<N: Nodes>(
+    alloc: Global,
+    nodes: &mut N,
+    net: &Net,
+    rows: &GateRows,
+    graph: &Graph,
+    ends: &Ends,
+    start: Progress,
+) -> Result<Progress, OpFault>
+    requires rows { rows.now.covers ≡ map rows_of net.now.raw.covers }
+    requires graph { IsGraphOver net.now.raw (N.store nodes.old).vars graph.now }
+    requires ends { AreEnds graph.now ends.now }
+    requires start { IsBetween (N.store nodes.old) net.now.raw graph.now start }
+    requires first { (tables : ℕ → ℕ → SymbolicState) (sets : ℕ → AnEdge → ℕ → SymbolicSet)
+        → AreWholeRounds net.now.raw (N.store nodes.old).vars graph.now tables sets
+        → HasStates (tables 1) (length graph.now.vertices) (N.store nodes.old) start.table.items }
+    ensures { (tables : ℕ → ℕ → SymbolicState) (sets : ℕ → AnEdge → ℕ → SymbolicSet)
+        → AreWholeRounds net.now.raw (N.store nodes.old).vars graph.now tables sets
+        → Built (rounds_work net.now.raw graph.now tables sets)
+        (IsLast net.now.raw graph.now (tables (enough net.now.raw graph.now)))
+        (N.store nodes.old) (N.store nodes.new) result }
+{
+    settles(net);
+    let each = net.latches().len() * 2 + 1;
+    let mut progress = start;
+    for _ in 0..graph.vertices.len() {
+        progress = more_rounds(alloc, nodes, net, rows, graph, ends, progress, each)?;
+        if progress.changed.is_empty() {
+            return Ok(progress);
+        }
+    }
+    Ok(progress)
+}
+
+/// The same as `settle`, with what is known of each edge on the table.
+pub fn settled<N: Nodes>(
+    alloc: Global,
+    nodes: &mut N,
+    net: &Net,
+    rows: &GateRows,
+    graph: &Graph,
+) -> Result<Known, OpFault>
+    requires rows { rows.now.covers ≡ map rows_of net.now.raw.covers }
+    requires graph { IsGraphOver net.now.raw (N.store nodes.old).vars graph.now }
+    ensures { (tables : ℕ → ℕ → SymbolicState) (sets : ℕ → AnEdge → ℕ → SymbolicSet)
+        → AreWholeRounds net.now.raw (N.store nodes.old).vars graph.now tables sets
+        → Built (rounds_work net.now.raw graph.now tables sets)
+        (IsSettledOn net.now.raw graph.now (tables (enough net.now.raw graph.now)))
+        (N.store nodes.old) (N.store nodes.new) result }
+{
+    settles(net);
+    let ends = match ends_of(alloc, graph) {
+        Ok(ends) => ends,
+        Err(_) => return Err(OpFault::OutOfMemory),
+    };
+    let start = match started(alloc, net, graph) {
+        Ok(start) => start,
+        Err(_) => return Err(OpFault::OutOfMemory),
+    };
+    let last = all_rounds(alloc, nodes, net, rows, graph, &ends, start)?;
+    known_on(alloc, nodes, net, rows, graph, &ends, last)
+}
+
 /// The least closed table of a graph, for all assignments at once: the rounds until no reference changes, or as many as
 /// settle it. `rows` are those of the net, and `IsGraphOver` says what is asked of the graph.
 ///
@@ -405,21 +582,6 @@ pub fn settle<N: Nodes>(
         (HasStates (tables (enough net.now.raw graph.now)) (length graph.now.vertices))
         (N.store nodes.old) (N.store nodes.new) result }
 {
-    settles(net);
-    let each = net.latches().len() * 2 + 1;
-    let ends = match ends_of(alloc, graph) {
-        Ok(ends) => ends,
-        Err(_) => return Err(OpFault::OutOfMemory),
-    };
-    let mut progress = match started(alloc, net, graph) {
-        Ok(progress) => progress,
-        Err(_) => return Err(OpFault::OutOfMemory),
-    };
-    for _ in 0..graph.vertices.len() {
-        progress = more_rounds(alloc, nodes, net, rows, graph, &ends, progress, each)?;
-        if progress.changed.is_empty() {
-            return Ok(Items::from(progress.table));
-        }
-    }
-    Ok(Items::from(progress.table))
+    let last = settled(alloc, nodes, net, rows, graph)?;
+    Ok(Items::from(last.table))
 }

@@ -5,6 +5,7 @@ use Rattle.dd_nodes.specs.Diagram.{Function}
 use Rattle.dd_nodes.specs.Stores.{Store}
 use Rattle.net_core.specs.declared.raw.RawNet.{RawNet}
 use Rattle.net_core.specs.Work.{ArePossibleEach, SymbolicSet}
+use Rattle.dual_rail.specs.declared.rails.Rails.{Rails}
 use Rattle.ste_model.specs.declared.task.Edge.{Edge}
 use Rattle.ste_model.specs.declared.task.Graph.{Graph}
 use Rattle.ste_model.specs.GraphTable.{enough}
@@ -12,11 +13,13 @@ use Rattle.ste_model.specs.GraphWork.{SymbolicState, edge_work, given_by, symbol
 use Rattle.gste_engine.specs.declared.links.End.TheVariants.{From, To}
 use Rattle.gste_engine.specs.declared.rounds.Ends.{Ends}
 use Rattle.gste_engine.specs.declared.rounds.Progress.{Progress}
+use Rattle.gste_engine.specs.declared.rounds.Known.{Known}
 use Rattle.gste_engine.specs.declared.rounds.Sweep.{Sweep}
 use Rattle.gste_engine.specs.declared.rounds.Wave.{Wave}
 use Rattle.gste_engine.specs.declared.state.State.{State}
 use Rattle.gste_engine.specs.Tables.{AreStateRefs, HasStates, IsState}
 use Rattle.gste_engine.specs.private.Links.{AreLinks}
+use Rattle.gste_engine.specs.private.Seen.{AreSeen, AreSeenBut}
 use Rattle.gste_engine.specs.private.Sums.{IsSumOf, arrivals_work, begun, summed_at, unreached}
 use Rattle.gste_engine.specs.private.Waiting.{IsWaiting}
 
@@ -53,14 +56,16 @@ pub record AreGivenBut (t : Store) (net : RawNet) (edges : List Edge) (table : L
 -- What each edge gives on a table, but for those; and where a vertex does not wait, its state is the sum of what comes.
 pub record IsWave (t : Store) (net : RawNet) (graph : Graph) (table : List State) (stale : List ℕ) (vertex m : ℕ) (r : Wave) : Type 0 where
   pub given : AreGivenBut t net graph.edges table stale vertex m r.givens.items
+  pub seen : AreSeenBut t net graph.edges table stale vertex m r.seen.items
   pub waiting : IsWaiting r.waiting
   pub flags : length r.waiting.flags.items ≡ length graph.vertices
   pub sums : (v : ℕ) (d : State) → v < length graph.vertices → ¬ Contains r.waiting.list.items v →
       IsSumOf t net graph r.givens.items v (get_or table v d)
 
--- edge k gives this, and where it gave something else, the vertex waits
-pub record IsWithGiven (old : Wave) (k to : ℕ) (given : State) (new : Wave) : Type 0 where
+-- edge k gives this, with these sets, and where it gave something else, the vertex waits
+pub record IsWithGiven (old : Wave) (k to : ℕ) (given : State) (rails : List Rails) (new : Wave) : Type 0 where
   pub givens : new.givens.items ≡ set old.givens.items k given
+  pub seen : new.seen.items ≡ set old.seen.items k rails
   pub waiting : IsWaiting new.waiting
   pub flags : length new.waiting.flags.items ≡ length old.waiting.flags.items
   pub others : (v : ℕ) → Contains old.waiting.list.items v → Contains new.waiting.list.items v
@@ -92,6 +97,7 @@ pub record IsBetween (t : Store) (net : RawNet) (graph : Graph) (r : Progress) :
   pub long : length r.table.items ≡ length graph.vertices
   pub refs : All (AreStateRefs t net) r.table.items
   pub given : AreGivenBut t net graph.edges r.table.items r.changed.items 0 (length graph.edges) r.givens.items
+  pub seen : AreSeenBut t net graph.edges r.table.items r.changed.items 0 (length graph.edges) r.seen.items
   pub sums : (v : ℕ) (d : State) → v < length graph.vertices → IsSumOf t net graph r.givens.items v (get_or r.table.items v d)
   pub inside : All (λ v. v < length graph.vertices) r.changed.items
   pub flags : length r.flags.items ≡ length graph.vertices
@@ -107,6 +113,7 @@ pub record IsTurn (net : RawNet) (graph : Graph) (states : ℕ → SymbolicState
 pub record AtStart (net : RawNet) (graph : Graph) (r : Progress) : Type 0 where
   pub table : r.table.items ≡ begun net graph.reset (length graph.vertices)
   pub givens : r.givens.items ≡ replicate (length graph.edges) (unreached net)
+  pub seen : length r.seen.items ≡ length graph.edges
   pub changed : r.changed.items ≡ 0 ∷ []
   pub flags : r.flags.items ≡ replicate (length graph.vertices) false
 
@@ -120,3 +127,15 @@ pub record IsProgress (net : RawNet) (graph : Graph) (tables : ℕ → ℕ → S
   pub between : IsBetween t net graph r
   pub more : 0 < length r.changed.items → HasStates (tables n) (length graph.vertices) t r.table.items
   pub done : length r.changed.items ≡ 0 → HasStates (tables (enough net graph)) (length graph.vertices) t r.table.items
+
+-- the table of these states, between two rounds
+pub record IsLast (net : RawNet) (graph : Graph) (states : ℕ → SymbolicState) (t : Store) (r : Progress) : Type 0 where
+  pub between : IsBetween t net graph r
+  pub has : HasStates states (length graph.vertices) t r.table.items
+
+-- the table of these states, with what is known of each edge on it
+pub record IsSettledOn (net : RawNet) (graph : Graph) (states : ℕ → SymbolicState) (t : Store) (r : Known) : Type 0 where
+  pub has : HasStates states (length graph.vertices) t r.table.items
+  pub refs : All (AreStateRefs t net) r.table.items
+  pub given : AreGivenFrom t net graph.edges r.table.items r.givens.items
+  pub seen : AreSeen t net graph.edges r.table.items r.seen.items

@@ -17,6 +17,10 @@ use Rattle.gste_engine.specs.Tables.{AreStateRefs, IsEdgeOver}
 use Rattle.gste_engine.specs.private.EdgeFinds.{AreAllFound, all_found_work}
 use Rattle.gste_engine.proofs.AllGiven.{own_has, own_possible, own_sets, own_table}
 use Rattle.gste_engine.proofs.EdgeTurns.{IsDone, found_call, found_next, found_turn}
+use Rattle.dual_rail.specs.declared.rails.Rails.{Rails}
+use Rattle.gste_engine.specs.private.Seen.{IsSeenFrom}
+use Rattle.gste_engine.proofs.KeptGivens.{From-keeps}
+use Rattle.gste_engine.proofs.KeptSeen.{Seen-keeps, known_given, known_seen}
 use Rattle.gste_engine.proofs.StateRefs.{StateRefs-keep}
 use Rattle.gste_engine.proofs.judged.all_found.Goals as goal
 
@@ -215,3 +219,46 @@ with_edge-requires-clause-nets g c =
     let source : State = c.index-table-edge.result in
     let is_source : source ≡ get_or table edge.from source = c.index-table-edge.is in
     over.nets
+
+pub with_edge-requires-clause-given : goal.with_edge-requires-clause-given
+with_edge-requires-clause-given g c =
+    let s : Store = g.N.Nodes.store c.args.nodes.now in
+    let t : Store = g.N.Nodes.store c.loop-k.nodes in
+    let gs = g.met.N.Nodes.diagram c.args.nodes.now in
+    let gt = g.met.N.Nodes.diagram c.loop-k.nodes in
+    let net : RawNet = c.args.net.now.raw in
+    let edges : List Edge = c.args.edges.now in
+    let table : List State = c.args.table.now in
+    let k = c.loop-k.k in
+    let before : Findings = c.loop-k.found in
+    let p = c.loop-k.invariant in
+    let lt : k < length edges = omega (arith, c.loop-k-test.true) in
+    let edge : Edge = c.index-edges-k.result in
+    let is : edge ≡ get_or edges k edge = c.index-edges-k.is in
+    let over : IsEdgeOver net s.vars (length table) edge = subst (IsEdgeOver net s.vars (length table)) (sym is) (c.requires.edges k edge lt) in
+    let source : State = c.index-table-edge.result in
+    let is_source : source ≡ get_or table edge.from source = c.index-table-edge.is in
+    let given : State = c.index-givens-k.result in
+    From-keeps s t net edge source given gs gt p.keeps (known_given s net edges table k edge source lt is is_source c.args.givens.now given c.index-givens-k.is c.requires.givens)
+
+pub with_edge-requires-clause-seen : goal.with_edge-requires-clause-seen
+with_edge-requires-clause-seen g c = λ reached.
+    let s : Store = g.N.Nodes.store c.args.nodes.now in
+    let t : Store = g.N.Nodes.store c.loop-k.nodes in
+    let gs = g.met.N.Nodes.diagram c.args.nodes.now in
+    let gt = g.met.N.Nodes.diagram c.loop-k.nodes in
+    let net : RawNet = c.args.net.now.raw in
+    let edges : List Edge = c.args.edges.now in
+    let table : List State = c.args.table.now in
+    let k = c.loop-k.k in
+    let before : Findings = c.loop-k.found in
+    let p = c.loop-k.invariant in
+    let lt : k < length edges = omega (arith, c.loop-k-test.true) in
+    let edge : Edge = c.index-edges-k.result in
+    let is : edge ≡ get_or edges k edge = c.index-edges-k.is in
+    let over : IsEdgeOver net s.vars (length table) edge = subst (IsEdgeOver net s.vars (length table)) (sym is) (c.requires.edges k edge lt) in
+    let source : State = c.index-table-edge.result in
+    let is_source : source ≡ get_or table edge.from source = c.index-table-edge.is in
+    let seen : List Rails = c.index-seen-k.result in
+    subst (λ (x : List Rails). IsSeenFrom t net edge source x) (sym {A = List Rails} c.as_slice-sets.ensures)
+    (Seen-keeps s t net edge source seen gs gt p.keeps (known_seen s net edges table k edge source lt is is_source c.args.seen.now seen c.index-seen-k.is c.requires.seen reached))

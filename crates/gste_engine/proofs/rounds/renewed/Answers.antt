@@ -1,4 +1,4 @@
-use Rattle.std.proofs.Common.{◌≡◌, ◌+◌, ◌<◌, ℕ, List, drop, length, get_or, sym, ◌∙◌, ap, subst, arith, All, Ok, Err}
+use Rattle.std.proofs.Common.{◌≡◌, ◌+◌, ◌<◌, ℕ, List, drop, length, map, get_or, sym, ◌∙◌, ap, subst, arith, All, Ok, Err}
 use Rattle.std.proofs.lemmas.List.{get_or_default}
 use Rattle.dd_nodes.specs.Diagram.{Function}
 use Rattle.dd_nodes.specs.Stores.{Store}
@@ -18,8 +18,10 @@ use Rattle.gste_engine.specs.declared.state.State.{State}
 use Rattle.gste_engine.specs.Tables.{AreEdgesOver, AreStateRefs, HasStates, IsEdgeFound, IsEdgeOver}
 use Rattle.gste_engine.specs.private.Links.{AreLinks, IsNextAt}
 use Rattle.gste_engine.specs.private.Rounds.{IsGivenFrom, IsWave, edges_work}
+use Rattle.gste_engine.specs.private.Seen.{IsSeenFrom, rails_of}
 use Rattle.gste_engine.proofs.AllGiven.{ArePossibleOn, edge_built, edge_given, own_has, own_possible, own_sets, own_table}
 use Rattle.gste_engine.proofs.Arrivals.{no_edge}
+use Rattle.gste_engine.proofs.KeptSeen.{edge_seen}
 use Rattle.gste_engine.proofs.StateRefs.{All-states-keep, States-keep}
 use Rattle.gste_engine.proofs.Waves.{wave_begins, wave_ends, wave_turn}
 use Rattle.gste_engine.proofs.rounds.renewed.Goals as goal
@@ -88,6 +90,7 @@ loop-k-preserved g c =
     let b : Built (edges_work net states sets graph.edges) (IsEdgeFound net (states edge.from) (sets edge)) t u (Ok found) = edge_built net states sets graph.edges table t u k edge source (Ok found) gt gu lt is start is_source has possible c.in_ok-found.ensures in
     let keeps = b.spends.keeps in
     let made : IsGivenFrom u net edge source given = edge_given net states sets graph.edges table t u k edge source found gt gu lt is start is_source has possible keeps b.ok in
+    let seen : IsSeenFrom u net edge source (map (rails_of found.nets) edge.con) = edge_seen net states sets graph.edges table t u k edge source found gt gu lt is start is_source has possible keeps b.ok in
     let old : Wave = c.loop-k.wave in
     let new : Wave = c.in-Ok.more in
     let next = c.index-k-in-loop-k.result.now in
@@ -95,7 +98,7 @@ loop-k-preserved g c =
     record {
       keeps = Keeps-trans s t u p.keeps keeps;
       here = at.here;
-      wave = wave_turn net graph table t u (drop (i + 1) changed) v k next edge source given old new gt gu keeps lt is start is_source made c.in-Ok.ensures at p.wave;
+      wave = wave_turn net graph table t u (drop (i + 1) changed) v k next edge source given (map (rails_of found.nets) edge.con) old new gt gu keeps lt is start is_source made seen c.in-Ok.ensures at p.wave;
       so = λ states sets has possible.
           let there : ArePossibleOn t.vars net states sets graph.edges = subst (λ v. ArePossibleOn v net states sets graph.edges) (sym p.keeps.vars) possible in
           let mine = edge_built net states sets graph.edges table t u k edge source (Ok found) gt gu lt is start is_source (States-keep states (length table) s t table gs gt p.keeps has) there c.in_ok-found.ensures in

@@ -6,7 +6,7 @@ use Rattle.ste_model.specs.GraphNeed.{AreWholeRounds}
 use Rattle.ste_model.specs.GraphWork.{SymbolicState}
 use Rattle.gste_engine.specs.private.Rounds.{IsBetween}
 use Rattle.gste_engine.proofs.NextTables.{RoundsSoFar}
-use Rattle.gste_engine.proofs.rounds.settle.Given as goal
+use Rattle.gste_engine.proofs.rounds.all_rounds.Given as goal
 
 -- round 1 and so many groups of rounds are done
 abbrev pub invariant-loop : goal.invariant-loop
