@@ -8,7 +8,7 @@ use Rattle.std.proofs.lemmas.List.Elements.{All-nil, All-cons, All-head, All-tai
 use Rattle.dd_nodes.specs.Diagram.{Function}
 use Rattle.dd_nodes.specs.declared.node.Ref.{Ref}
 use Rattle.dd_nodes.specs.Stores.{Store, Means, function}
-use Rattle.dd_ops.specs.Answer.{Answer}
+use Rattle.dd_ops.specs.Answer.{Answer, xor_bit}
 use Rattle.dd_nodes.specs.Spending.{Has}
 use Rattle.dd_nodes.proofs.Spending.{Covers, Means-same}
 use Rattle.dd_ops.specs.declared.fault.OpFault.{OpFault}
@@ -21,6 +21,8 @@ use Rattle.net_core.proofs.GateSets.{Choice, rows_choice, choice_rows}
 use Rattle.dual_rail.specs.declared.rails.Rails.{Rails}
 use Rattle.dual_rail.specs.Rail.{AreRails, Built, HasFunction, HasSet}
 use Rattle.dual_rail.proofs.Works.{Built-answer, Built-covers, Built-good}
+use Rattle.sym_step.specs.declared.net_rails.NetRails.{NetRails}
+use Rattle.sym_step.specs.private.NetSets.{AreNetRails}
 use Rattle.sym_step.specs.private.Refused.{agree, choice, differ, exclusive_rows, flipped, list_set, list_work, other_factor}
 use Rattle.sym_step.proofs.OtherRail.{same_bits}
 use Rattle.sym_step.proofs.Pairs.{sum_in}
@@ -135,11 +137,28 @@ module _ (x y : Lit) (v w : SymbolicSet) (bits : List Bool) (one_v : v.zero bits
   pub agree_is : not (differ x y v w bits) ≡ agree x y v w bits
   agree_is = opposite_test (factor x v bits) (factor y w bits) (other_factor y w bits) (other_is y w bits one_w)
 
-pub choice_built : (work : List Function) (test f h : Function) (s t : Store) (c a b : Ref) (result : Result Ref OpFault) → Contains work (choice test f h) → Means s test c → Means s f a → Means s h b
-    → Answer (λ bits. if function s c bits then function s a bits else function s b bits) s t result → Built work (HasFunction (choice test f h)) s t result
-choice_built work test f h s t c a b result has mc ma mb x =
-    Built-answer work (λ bits. if function s c bits then function s a bits else function s b bits) (choice test f h) s t result has
-    (λ bits l. ap (λ x. if x then function s a bits else function s b bits) (mc.value bits l) ∙ ap (λ x. if test bits then x else function s b bits) (ma.value bits l) ∙ ap (λ x. if test bits then f bits else x) (mb.value bits l)) x
+by_difference : (t h k : Bool) → k ≡ not h → xor_bit t k ≡ (if t then h else k)
+by_difference true true k e = ap not e
+by_difference true false k e = ap not e
+by_difference false h k e = refl
+
+opposite_back : (h k : Bool) → k ≡ not h → h ≡ not k
+opposite_back true k e = sym (ap not e)
+opposite_back false k e = sym (ap not e)
+
+-- what is 1 where the test is 1, and the opposite of it where the test is 0, is where the test and the opposite differ
+pub difference_built : (work : List Function) (test f h : Function) (s t : Store) (c b : Ref) (result : Result Ref OpFault) → Contains work (choice test f h) → ((bits : List Bool) → length bits ≡ s.vars → h bits ≡ not (f bits)) → Means s test c → Means s h b
+    → Answer (λ bits. xor_bit (function s c bits) (function s b bits)) s t result → Built work (HasFunction (choice test f h)) s t result
+difference_built work test f h s t c b result has opposed mc mb x =
+    Built-answer work (λ bits. xor_bit (function s c bits) (function s b bits)) (choice test f h) s t result has
+    (λ bits l. ap (λ x. xor_bit x (function s b bits)) (mc.value bits l) ∙ (ap (xor_bit (test bits)) (mb.value bits l) ∙ by_difference (test bits) (f bits) (h bits) (opposed bits l))) x
+
+-- what a literal asks of a set with exactly one bit, and what it refuses, are opposites
+pub opposed : (s : Store) (y : Lit) (w : SymbolicSet) (b : NetRails) → AreNetRails s w b → b.known ≡ true → (bits : List Bool) → length bits ≡ s.vars → other_factor y w bits ≡ not (factor y w bits)
+opposed s y w b mw known bits l = other_is y w bits (mw.known known bits l)
+
+pub opposed_back : (s : Store) (y : Lit) (w : SymbolicSet) (b : NetRails) → AreNetRails s w b → b.known ≡ true → (bits : List Bool) → length bits ≡ s.vars → factor y w bits ≡ not (other_factor y w bits)
+opposed_back s y w b mw known bits l = opposite_back (factor y w bits) (other_factor y w bits) (opposed s y w b mw known bits l)
 
 misses : (x y : Lit) → x ≢ Any → y ≢ Any → (a b : Bool) × (some_matches (exclusive_rows x y) (a ∷ b ∷ []) ≡ false)
 misses Zero Zero p q = (false, true, refl)

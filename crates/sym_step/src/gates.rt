@@ -123,7 +123,8 @@ fn only_exclusive(rows: &RowList) -> Option<(Lit, Lit)>
     }
 }
 
-/// The set of an exclusive OR of two inputs that each have exactly one bit, by the literals of its first row.
+/// The set of an exclusive OR of two inputs that each have exactly one bit, by the literals of its first row: where what the
+/// first one asks differs from what the second one refuses, and where it differs from what the second one asks.
 fn exclusive<N: Nodes>(
     ops: &Ops,
     nodes: &mut N,
@@ -134,6 +135,7 @@ fn exclusive<N: Nodes>(
 ) -> Result<Rails, OpFault>
     requires first { AreNetRefs (N.store nodes.old) a }
     requires second { AreNetRefs (N.store nodes.old) b }
+    requires known { b.known ≡ true }
     ensures { (v w : SymbolicSet)
         → AreNetRails (N.store nodes.old) v a → AreNetRails (N.store nodes.old) w b
         → Built (differ x y v w ∷ agree x y v w ∷ [])
@@ -143,8 +145,8 @@ fn exclusive<N: Nodes>(
     let test = a.factor(x);
     let admitted = b.factor(y);
     let refused = b.other(y);
-    let can1 = ops.ite(nodes, test, admitted, refused)?;
-    let can0 = ops.ite(nodes, test, refused, admitted)?;
+    let can1 = ops.xor(nodes, test, refused)?;
+    let can0 = ops.xor(nodes, test, admitted)?;
     Ok(Rails { can0, can1 })
 }
 
