@@ -14,8 +14,9 @@ use std::alloc::{AllocError, Global};
 use ste_base::NodeId;
 
 /// What is kept of one time for the next: the set of each net, a mark for each net of which there was a cut, and the list
-/// of these nets; beside them room for the products of a row. In a blank frame all nets have marks and both bits, and none is listed. A gate of which no input has another set than before, and whose output is not cut now
-/// and was not before, keeps its output's set.
+/// of these nets; beside them room for the products of a row. In a blank frame all nets have marks and both bits, and none
+/// is listed. A gate of which no input has another set than before, and whose output is not cut now and was not before,
+/// keeps its output's set.
 #[derive(Debug, Drop)]
 pub struct Frame {
     pub(crate) nets: Vec<NetRails>,
