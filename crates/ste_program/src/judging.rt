@@ -44,23 +44,23 @@ fn some_budget(reports: &[Report]) -> bool
 }
 
 /// The node steps of each of so many tasks that are tried first: for all tasks together eight for each net and task, but at
-/// least 65,536, which is a table of 1 MB, and at most 2,097,152; and at least 1,024 for each task.
+/// least 131,072, which is a table of 2 MB, and at most 2,097,152; and at least 1,024 for each task.
 fn first_steps(nets: u32, tasks: u32, steps: u32) -> u32
     requires { (1 ≤ tasks) × (1 ≤ steps) }
     ensures exact { result ≡ first_steps nets tasks steps }
     ensures within { (1 ≤ result) × (result ≤ steps) }
 {
     let each = (nets as u64).saturating_mul(8);
-    let all = each.saturating_mul(tasks as u64).clamp(65536, 2097152);
+    let all = each.saturating_mul(tasks as u64).clamp(131072, 2097152);
     let share = (all as u32) / tasks;
     share.max(1024).min(steps)
 }
 
 /// The node steps of each task that are tried next.
 fn next_steps(tried: u32, steps: u32) -> u32
-    ensures { result ≡ min (4 * tried) steps }
+    ensures { result ≡ min (16 * tried) steps }
 {
-    tried.saturating_mul(4).min(steps)
+    tried.saturating_mul(16).min(steps)
 }
 
 /// What is told of tasks, with so many node steps for each: they are checked by the command's workers over one table.
@@ -92,7 +92,7 @@ pub fn reports_of<R: Threads + Sync, G: Gate + Sync>(
         (length tasks.now.vars) steps tasks.now.tasks told.reports.items)) }
 {
     let mut tried = first_steps(net.nets(), tasks.tasks.len() as u32, steps);
-    for _ in 0..8 {
+    for _ in 0..4 {
         let told = told_within(rt, alloc, asked, net, rows, tasks, tried, gate)?;
         if tried == steps || !some_budget(&told.reports) {
             return Ok(told);

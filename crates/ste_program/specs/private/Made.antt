@@ -63,7 +63,7 @@ is_budget other = false
 
 -- the node steps of each of so many tasks over so many nets that are tried first, where so many are granted
 abbrev pub first_steps : ℕ → ℕ → ℕ → ℕ
-first_steps nets tasks steps = min (max (min (max (8 * nets * tasks) 65536) 2097152 / tasks) 1024) steps
+first_steps nets tasks steps = min (max (min (max (8 * nets * tasks) 131072) 2097152 / tasks) 1024) steps
 
 -- the bindings name nets below this number
 abbrev pub AreBindsIn : ℕ → List Bind → Type 0
