@@ -5,6 +5,7 @@ ghost use Rattle.std.specs.Prelude.{◌≡◌, ◌≤◌, ◌<◌, ℕ, All, IfO
 ghost use Rattle.std.specs.List.{list_all};
 ghost use Rattle.dd_nodes.specs.Stores.{Store, IsRef, Keeps};
 ghost use Rattle.net_core.specs.Cases.{cases_of};
+ghost use Rattle.net_core.specs.declared.raw.RawNet.{RawNet};
 ghost use Rattle.dual_rail.specs.Rail.{AreRefs};
 ghost use Rattle.sym_step.specs.Step.{IsCutOf, rows_of};
 ghost use Rattle.sym_step.specs.private.Frames.{IsFrame};
@@ -603,12 +604,35 @@ fn advance_of<N: Nodes>(
     ensures keeps { Keeps (N.store nodes.old) (N.store nodes.new) }
     ensures refs { IfOk result (λ r. All (AreRefs (N.store nodes.new)) r.nets) }
     ensures next { IfOk result (λ r. All (AreRefs (N.store nodes.new)) r.next) }
+    ensures long { IfOk result (λ r. length r.next ≡ length net.now.raw.latches) }
     ensures frame { OnOk result (IsFrame (N.store nodes.new) net.now.raw frame.new) }
 {
-    match advance(alloc, ops, nodes, net, rows, latches, cuts, frame) {
-        Ok(made) => Ok(made),
-        Err(_) => Err("no step".into()),
+    let Ok(made) = advance(alloc, ops, nodes, net, rows, latches, cuts, frame) else {
+        return Err("no step".into());
+    };
+    if made.next.len() != net.latches().len() {
+        return Err("not a set for each latch".into());
     }
+    Ok(made)
+}
+
+/// The cuts at a time: none at some times.
+fn cuts_at(cuts: &[Cut], time: u32) -> &[Cut]
+    ensures { (s : Store) (net : RawNet)
+        → All (IsCutOf s net) cuts.now → All (IsCutOf s net) result.now }
+{
+    match time {
+        1 => &[],
+        4 => &[],
+        _ => cuts,
+    }
+}
+
+/// Whether two steps gave the same.
+fn are_one(one: &Step, other: &Step) -> bool {
+    one.nets.as_slice() == other.nets.as_slice()
+        && one.next.as_slice() == other.next.as_slice()
+        && one.contradictory == other.contradictory
 }
 
 /// Whether steps that go on from one another give what steps of their own give, over five times at which the cuts come
@@ -635,23 +659,11 @@ fn frames_agree<N: Nodes>(
     let mut latches = Items::from(unknowns(alloc, net.latches().len())?);
     let mut frame = Frame::blank(alloc, net)?;
     for time in 0..5 {
-        let few = if time == 1 || time == 4 { 0 } else { cuts.len() };
+        let now = cuts_at(&cuts, time);
         let held = latches.as_slice();
-        let kept = advance_of(
-            alloc,
-            ops,
-            nodes,
-            net,
-            rows,
-            held,
-            &cuts[..few],
-            &mut frame,
-        )?;
-        let anew = step_of(alloc, ops, nodes, net, rows, held, &cuts[..few])?;
-        if kept.nets.as_slice() != anew.nets.as_slice()
-            || kept.contradictory != anew.contradictory
-            || kept.next.len() != net.latches().len()
-        {
+        let kept = advance_of(alloc, ops, nodes, net, rows, held, now, &mut frame)?;
+        let anew = step_of(alloc, ops, nodes, net, rows, held, now)?;
+        if !are_one(&kept, &anew) {
             return Ok(false);
         }
         latches = kept.next;
@@ -660,11 +672,7 @@ fn frames_agree<N: Nodes>(
 }
 
 /// Whether the steps of a net of a text that go on from one another give what others do.
-fn case_frames_agree(
-    alloc: Global,
-    text: &[u8],
-    asked: &[(&str, Bit, Bit)],
-) -> Result<bool, Fail>
+fn case_frames_agree(alloc: Global, text: &[u8], asked: &[(&str, Bit, Bit)]) -> Result<bool, Fail>
     requires { length text.now ≤ 10000 }
 {
     let named = net_of(alloc, text)?;
