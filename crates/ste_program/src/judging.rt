@@ -58,9 +58,9 @@ fn first_steps(nets: u32, tasks: u32, steps: u32) -> u32
 
 /// The node steps of each task that are tried next.
 fn next_steps(tried: u32, steps: u32) -> u32
-    ensures { result ≡ min (16 * tried) steps }
+    ensures { result ≡ min (4 * tried) steps }
 {
-    tried.saturating_mul(16).min(steps)
+    tried.saturating_mul(4).min(steps)
 }
 
 /// What is told of tasks, with so many node steps for each: they are checked by the command's workers over one table.
@@ -92,7 +92,7 @@ pub fn reports_of<R: Threads + Sync, G: Gate + Sync>(
         (length tasks.now.vars) steps tasks.now.tasks told.reports.items)) }
 {
     let mut tried = first_steps(net.nets(), tasks.tasks.len() as u32, steps);
-    for _ in 0..4 {
+    for _ in 0..8 {
         let told = told_within(rt, alloc, asked, net, rows, tasks, tried, gate)?;
         if tried == steps || !some_budget(&told.reports) {
             return Ok(told);
