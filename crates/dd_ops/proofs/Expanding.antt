@@ -21,7 +21,8 @@ use Rattle.dd_ops.specs.declared.fault.OpFault.{OpFault}
 use Rattle.dd_ops.specs.declared.operands.Operands.{Operands}
 use Rattle.dd_ops.specs.declared.memo.Memo.{Memo}
 use Rattle.dd_ops.specs.private.Expands.{IsBelow, Expanded, Expands}
-use Rattle.dd_ops.specs.private.Met.{IsMet, Adds, same_operands}
+use Rattle.dd_ops.specs.private.Met.{IsMet, Adds}
+use Rattle.dd_ops.specs.private.Tables.{same_operands}
 use Rattle.dd_ops.specs.private.Recursion.{AreFrom, top, pair_of, IsPair}
 use Rattle.dd_ops.proofs.Keeping.{same_operands-true, same_operands-refl}
 use Rattle.dd_ops.proofs.Splits.{from-level}

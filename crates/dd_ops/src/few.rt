@@ -12,7 +12,7 @@ pub struct Entry {
 }
 
 /// What stands at a place that is not used yet.
-const BLANK: Entry = Entry {
+pub const BLANK: Entry = Entry {
     operands: Operands {
         first: Ref::FALSE,
         second: Ref::FALSE,

@@ -1,21 +1,21 @@
 //! What one call has met; begin with `Memo`.
 
-ghost use Rattle.std.specs.Prelude.{◌≡◌, Contains, IfSome, IfNone, IfOk, OnOk, Some, cond};
-ghost use Rattle.std.specs.HashMap.{get};
-ghost use Rattle.dd_ops.specs.private.Met.{HasMet, IsBlank, Adds, IsMapOf, entry_of, same_operands};
+ghost use Rattle.std.specs.Prelude.{◌≡◌, Contains, IfSome, IfNone, OnOk, true};
+ghost use Rattle.dd_ops.specs.private.Met.{HasMet, IsBlank, IsMet, Adds};
+ghost use Rattle.dd_ops.specs.private.Tables.{entry_of, is_used};
 
 use crate::few::{Entry, Few};
 use crate::operands::Operands;
+use crate::results::Results;
 use dd_nodes::Ref;
 use std::alloc::{AllocError, Global};
-use std::collections::HashMap;
 
-/// The results that one call has met: the first few in place, and where there are more, all in a map. So a call that
+/// The results that one call has met: the first few in place, and where there are more, all in a table. So a call that
 /// meets few takes no memory.
 #[derive(Drop)]
 pub enum Memo {
     InPlace(Few),
-    InMap(HashMap<Operands, Ref>),
+    InTable(Results),
 }
 
 impl Memo {
@@ -27,20 +27,19 @@ impl Memo {
 
     /// What was made of the operands, where it was met.
     pub fn find(&self, x: Operands) -> Option<Ref>
+        requires { is_used x ≡ true }
         ensures some { IfSome result (λ r. HasMet self.now x r) }
-        ensures none { IfNone result ((r : Ref) → HasMet self.now x r → ⊥) }
+        ensures none { IfNone result (IsMet self.now x → ⊥) }
     {
         match self {
             Memo::InPlace(few) => find_among(few.as_slice(), x),
-            Memo::InMap(map) => match map.get(&x) {
-                Some(r) => Some(*r),
-                None => None,
-            },
+            Memo::InTable(results) => results.find(x),
         }
     }
 
     /// Remembers what was made of the operands.
     pub fn put(&mut self, alloc: Global, x: Operands, r: Ref) -> Result<(), AllocError>
+        requires { is_used x ≡ true }
         ensures { OnOk result (Adds self.old x r self.new) }
     {
         let entry = Entry {
@@ -54,24 +53,25 @@ impl Memo {
                 }
                 self.spill(alloc, entry)
             }
-            Memo::InMap(map) => insert(map, entry),
+            Memo::InTable(results) => results.put(alloc, entry),
         }
     }
 
-    /// Puts all into a map, and the entry with them. It stands apart, since it moves a whole memo.
+    /// Puts all into a table, and the entry with them. It stands apart, since it moves a whole memo.
     #[cold]
     #[inline(never)]
     fn spill(&mut self, alloc: Global, entry: Entry) -> Result<(), AllocError>
+        requires { is_used entry.operands ≡ true }
         ensures { OnOk result (Adds self.old entry.operands entry.result self.new) }
     {
         match self {
             Memo::InPlace(few) => {
-                let mut map = map_of(alloc, few.as_slice())?;
-                insert(&mut map, entry)?;
-                *self = Memo::InMap(map);
+                let mut results = Results::of(alloc, few.as_slice())?;
+                results.put(alloc, entry)?;
+                *self = Memo::InTable(results);
                 Ok(())
             }
-            Memo::InMap(map) => insert(map, entry),
+            Memo::InTable(results) => results.put(alloc, entry),
         }
     }
 }
@@ -87,26 +87,4 @@ fn find_among(entries: &[Entry], x: Operands) -> Option<Ref>
         }
     }
     None
-}
-
-/// A map of these results.
-fn map_of(alloc: Global, entries: &[Entry]) -> Result<HashMap<Operands, Ref>, AllocError>
-    ensures { IfOk result (λ map. IsMapOf entries.now map) }
-{
-    let mut map = HashMap::with_capacity(alloc, 112)?;
-    for entry in entries {
-        insert(&mut map, *entry)?;
-    }
-    Ok(map)
-}
-
-/// Puts a result into the map.
-fn insert(map: &mut HashMap<Operands, Ref>, entry: Entry) -> Result<(), AllocError>
-    ensures { OnOk result ((y : Operands) → get same_operands map.new y
-        ≡ cond (same_operands entry.operands y) (Some entry.result) (get same_operands map.old y)) }
-{
-    match map.insert(entry.operands, entry.result) {
-        Ok(_) => Ok(()),
-        Err(_) => Err(AllocError),
-    }
 }

@@ -1,6 +1,6 @@
 use Rattle.std.proofs.Common.{◌≡◌, ℕ, ◌<◌, false, get_or}
 use Rattle.dd_ops.specs.declared.few.Entry.{Entry}
-use Rattle.dd_ops.specs.private.Met.{same_operands}
+use Rattle.dd_ops.specs.private.Tables.{same_operands}
 use Rattle.dd_ops.proofs.memo.find_among.Given as goal
 
 abbrev pub invariant-loop-entry : goal.invariant-loop-entry
