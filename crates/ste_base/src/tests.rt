@@ -6,7 +6,7 @@ use std::cmp::Ordering;
 use std::test::Fail;
 
 /// Numbers of bytes, rising.
-const LENGTHS: &[usize] = &[0, 1, 29, 30, 31, 32, 300];
+const LENGTHS: &[usize] = &[0, 1, 23, 24, 25, 300];
 
 /// So many bytes, each another than the one before.
 fn text_of(alloc: Global, length: usize) -> Result<Vec<u8>, AllocError> {
