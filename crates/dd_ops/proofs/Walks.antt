@@ -1,16 +1,14 @@
 -- Walks through a table, and what stands on them.
-use Rattle.std.proofs.Common.{◌≡◌, ◌≢◌, ◌⊎◌, ℕ, suc, ◌+◌, ◌-◌, ◌*◌, ◌/◌, ◌%◌, ◌<◌, ◌≤◌, Bool, true, false, not, List, [], ◌∷◌, length, get_or, set, take, cond, inl, inr, refl, sym, ap, ◌∙◌, subst, arith, Contains, mod-lt, lt_of_not-le}
+use Rattle.std.proofs.Common.{◌≡◌, ◌≢◌, ℕ, suc, ◌+◌, ◌-◌, ◌*◌, ◌/◌, ◌%◌, ◌<◌, ◌≤◌, Bool, true, false, List, [], ◌∷◌, length, get_or, set, cond, inl, inr, sym, ap, ◌∙◌, subst, arith, mod-lt, lt_of_not-le}
 use Rattle.std.specs.List.{sum_by}
 use Rattle.std.proofs.Math.Nat.{mod-add-mod, mod-eq_of_lt, add-mod_right, mul-lt-mul_of_pos_right}
-use Rattle.std.proofs.Math.Seq.{take-length}
 use Rattle.std.proofs.lemmas.List.{get_or-set_same, get_or-set_other, get_or_default, length-set}
-use Rattle.std.proofs.lemmas.List.Sums.{sum_by-cons, sum_by-set, sum_by-take-le, count_by-le-length, count_by_more_no, count_by_more_yes}
+use Rattle.std.proofs.lemmas.List.Sums.{sum_by-cons, sum_by-set}
 use mathlib.Core.Logic.{dite}
 use native.Mathlib.Decide.{ℕ_discrete, dec_le}
-use Rattle.dd_nodes.specs.declared.node.Ref.{Ref}
 use Rattle.dd_ops.specs.declared.operands.Operands.{Operands}
 use Rattle.dd_ops.specs.declared.few.Entry.{Entry}
-use Rattle.dd_ops.specs.private.Tables.{AddsEntry, AreUsed, HasEntries, Differ, HasFirst, IsAt, IsOnWalk, IsPlaced, entry_at, entry_of, entry_on, home, is_used, mixed, no_operands, taken, walk}
+use Rattle.dd_ops.specs.private.Tables.{AddsEntry, AreUsed, Differ, IsAt, IsOnWalk, IsPlaced, entry_at, entry_of, entry_on, home, is_used, mixed, taken, walk}
 
 mixed_lt : (x : Operands) → mixed x < 18446744073709551616
 unfolding mixed

@@ -1,4 +1,4 @@
-use Rattle.std.proofs.Common.{◌≡◌, length, refl, sym, ap, ◌∙◌, subst, arith, List, set}
+use Rattle.std.proofs.Common.{refl, sym, ap, ◌∙◌, subst, arith, List, set}
 use Rattle.dd_ops.specs.declared.few.Entry.{Entry}
 use Rattle.dd_ops.specs.private.Tables.{IsPlaced, entry_at, is_used}
 use Rattle.dd_ops.proofs.Walks.{begins, goes_on, never_full, placed}

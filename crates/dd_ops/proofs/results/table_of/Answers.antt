@@ -1,4 +1,4 @@
-use Rattle.std.proofs.Common.{◌≡◌, length, sym, ap, ◌∙◌, subst, List, Vec, Global, ◌+◌, arith}
+use Rattle.std.proofs.Common.{length, sym, ap, ◌∙◌, subst, List, Vec, Global, ◌+◌}
 use Rattle.dd_ops.specs.declared.few.Entry.{Entry}
 use Rattle.dd_ops.specs.private.Tables.{HasFirst}
 use Rattle.dd_ops.proofs.Walks.{long_placed}

@@ -1,4 +1,4 @@
-use Rattle.dd_ops.proofs.Keeping.{adds-pushed, if_put}
+use Rattle.dd_ops.proofs.Keeping.{if_put}
 use Rattle.dd_ops.proofs.memo.Memo.put.Goals as goal
 
 pub returns-in-InTable : goal.returns-in-InTable

@@ -1,7 +1,6 @@
-use Rattle.std.proofs.Common.{◌≡◌, ℕ, ◌+◌, ◌%◌, ◌<◌, length, sym, ap, ◌∙◌, subst, arith, List}
-use Rattle.dd_ops.specs.declared.few.Entry.{Entry}
-use Rattle.dd_ops.specs.private.Tables.{IsOnWalk, same_operands}
-use Rattle.dd_ops.proofs.Walks.{begins, goes_on, differs_on, not_behind, not_on, true_or_false}
+use Rattle.std.proofs.Common.{sym, ap, ◌∙◌, arith}
+use Rattle.dd_ops.specs.private.Tables.{same_operands}
+use Rattle.dd_ops.proofs.Walks.{begins, goes_on, differs_on, true_or_false}
 use Rattle.dd_ops.proofs.Keeping.{same_operands-refl}
 use Rattle.dd_ops.proofs.results.Results.find.Goals as goal
 

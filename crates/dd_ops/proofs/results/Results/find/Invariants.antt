@@ -1,4 +1,3 @@
-use Rattle.std.proofs.Common.{◌≡◌}
 use Rattle.dd_ops.specs.private.Tables.{Differ, IsAt}
 use Rattle.dd_ops.proofs.results.Results.find.Given as goal
 

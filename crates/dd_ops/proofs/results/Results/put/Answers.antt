@@ -1,7 +1,6 @@
-use Rattle.std.proofs.Common.{◌≡◌, sym, ap, subst, List}
-use Rattle.dd_ops.specs.declared.few.Entry.{Entry}
+use Rattle.std.proofs.Common.{sym, subst}
 use Rattle.dd_ops.specs.declared.results.Results.{Results}
-use Rattle.dd_ops.specs.private.Tables.{AddsEntry, HasEntries, IsPlaced}
+use Rattle.dd_ops.specs.private.Tables.{AddsEntry, HasEntries}
 use Rattle.dd_ops.proofs.Walks.{adds_placed}
 use Rattle.dd_ops.proofs.Placing.{adds_wider}
 use Rattle.dd_ops.proofs.results.Results.put.Goals.{then-self-len+in_ok-widen, else-self-len}
