@@ -1,5 +1,5 @@
 -- What is told with few steps, where no task says budget, is told with more steps too.
-use Rattle.std.proofs.Common.{◌≡◌, ◌∙◌, ◌+◌, ◌*◌, ◌≤◌, ◌||◌, ℕ, Bool, true, false, List, [], ◌∷◌, length, Option, Some, None, ap, arith, refl, subst, sym, inl, inr}
+use Rattle.std.proofs.Common.{◌≡◌, ◌∙◌, ◌*◌, ◌≤◌, ◌||◌, ℕ, Bool, true, false, List, [], ◌∷◌, length, Option, Some, None, ap, arith, refl, subst, sym, inl, inr}
 use Rattle.std.proofs.Math.Nat.{mul-le-mul_left}
 use Rattle.std.specs.Prelude.{IfSome}
 use Rattle.std.specs.List.{AllZip, list_any}
@@ -10,7 +10,7 @@ use Rattle.ste_model.specs.declared.task.Task.TheVariants.{Ste, Gste}
 use Rattle.ste_model.specs.declared.verdict.Verdict.{Verdict}
 use Rattle.ste_model.specs.declared.verdict.Verdict.TheVariants.{Pass, Weak, Strong, Vacuous, Budget}
 use Rattle.work_pool.specs.Told.{IsSharedCount, IsToldOf, budgets, counts_budget}
-use Rattle.ste_program.specs.private.Made.{is_budget}
+use Rattle.ste_program.specs.private.Tries.{is_budget}
 
 -- whether some report says budget
 abbrev pub some_budget : List Report → Bool
@@ -20,7 +20,7 @@ neither : (a b : Bool) → (a || b) ≡ false → (a ≡ false) × (b ≡ false)
 neither true b e = absurd (cc e)
 neither false b e = (refl, e)
 
-one_told : (net : RawNet) (vars few steps cubes : ℕ) (task : Task) (report : Report) → is_budget report.verdict ≡ false → IsToldOf net vars few cubes task report → IsToldOf net vars steps cubes task report
+pub one_told : (net : RawNet) (vars few steps cubes : ℕ) (task : Task) (report : Report) → is_budget report.verdict ≡ false → IsToldOf net vars few cubes task report → IsToldOf net vars steps cubes task report
 one_told net vars few steps cubes (Ste task) report other (inl h) = inl h
 one_told net vars few steps cubes (Ste task) report other (inr h) = absurd (cc (sym other ∙ ap (λ (r : Report). is_budget r.verdict) h.0))
 one_told net vars few steps cubes (Gste graph) report other (inl h) = inl h

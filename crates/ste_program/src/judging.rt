@@ -1,10 +1,11 @@
 //! What is told of the tasks of a file; begin with `reports_of`.
-ghost use Rattle.std.specs.Prelude.{◌≡◌, ◌*◌, ◌≤◌, All, IfOk, IfSome, Option, is_some, length, map, min};
+ghost use Rattle.std.specs.Prelude.{◌≡◌, ◌*◌, ◌^◌, ◌<◌, ◌≤◌, ℕ, All, IfOk, IfSome, Option, is_some, length, map};
 ghost use Rattle.std.specs.List.{AllZip, list_any};
 ghost use Rattle.command_line.specs.Bounds.{IsBounded};
 ghost use Rattle.sym_step.specs.Step.{rows_of};
 ghost use Rattle.ste_program.specs.Check.{is_pass};
-ghost use Rattle.ste_program.specs.private.Made.{IsCheckable, first_steps, is_budget};
+ghost use Rattle.ste_program.specs.private.Made.{IsCheckable};
+ghost use Rattle.ste_program.specs.private.Tries.{budget_numbers, first_steps, is_budget, next_steps, says_budget, woven};
 ghost use Rattle.work_pool.specs.Told.{IsSharedCount, IsToldOf};
 
 use command_line::Command;
@@ -13,7 +14,7 @@ use std::alloc::{AllocError, Global};
 use std::thread::Threads;
 use ste_model::{Report, Tasks, Verdict};
 use sym_step::GateRows;
-use work_pool::{Gate, PoolAnswer, run_tasks};
+use work_pool::{Gate, PoolAnswer, run_some, run_tasks};
 
 /// Whether the verdict is pass.
 pub fn is_pass(verdict: Verdict) -> bool
@@ -56,17 +57,56 @@ fn first_steps(nets: u32, tasks: u32, steps: u32) -> u32
     share.max(1024).min(steps)
 }
 
-/// The node steps of each task that are tried next.
-fn next_steps(tried: u32, steps: u32) -> u32
-    ensures { result ≡ min (4 * tried) steps }
+/// The node steps of each of so many tasks that are tried next: four times those that were tried, and at least an equal
+/// share of 2,097,152, which is a table of 32 MB.
+fn next_steps(tried: u32, tasks: u32, steps: u32) -> u32
+    requires { (1 ≤ tasks) × (1 ≤ tried) }
+    ensures exact { result ≡ next_steps tried tasks steps }
+    ensures more { tried < steps → (tried < result) × (result ≤ steps) }
 {
-    tried.saturating_mul(4).min(steps)
+    tried.saturating_mul(4).max(2097152 / tasks).min(steps)
+}
+
+/// Whether the report of this number says budget.
+fn says_budget(reports: &[Report], number: u32) -> bool
+    ensures { result ≡ says_budget reports.now number }
+{
+    match reports.get(number as usize) {
+        Some(report) => is_budget(report.verdict),
+        None => false,
+    }
+}
+
+/// The numbers of the reports that say budget, in order.
+fn budget_numbers(alloc: Global, reports: &[Report]) -> Result<Vec<u32>, AllocError>
+    requires { length reports.now < 2 ^ 32 }
+    ensures { IfOk result (λ numbers. numbers.items ≡ budget_numbers reports.now) }
+{
+    (0..reports.len() as u32)
+        .filter(|number| says_budget(reports, *number))
+        .collect::<Vec<u32>>(alloc)
+}
+
+/// The reports with new ones in the places of these numbers.
+fn woven(mut reports: Vec<Report>, numbers: &[u32], again: Vec<Report>) -> Vec<Report>
+    requires long { length again.items ≡ length numbers.now }
+    requires inside { All (λ number. number < length reports.items) numbers.now }
+    ensures { result.items ≡ woven reports.items numbers.now again.items }
+{
+    let mut place = 0;
+    for report in again {
+        reports[numbers[place] as usize] = report;
+        place += 1;
+    }
+    reports
 }
 
 /// What is told of tasks, with so many node steps for each: they are checked by the command's workers over one table.
 ///
 /// A table takes two words for each step, and to open a large one takes longer than most checks. So few steps are tried
-/// first, and then more. What is told stands where no task says budget: more steps would tell the same.
+/// first, and then more, for the tasks alone that said budget, each time over a table of their own. What was told of the
+/// others stands: more steps would tell the same. Where the number of shared nodes is asked for, all tasks are checked
+/// again, since that number is of one table.
 pub fn reports_of<R: Threads + Sync, G: Gate + Sync>(
     rt: &R,
     alloc: Global,
@@ -92,14 +132,77 @@ pub fn reports_of<R: Threads + Sync, G: Gate + Sync>(
         (length tasks.now.vars) steps tasks.now.tasks told.reports.items)) }
 {
     let mut tried = first_steps(net.nets(), tasks.tasks.len() as u32, steps);
-    for _ in 0..8 {
-        let told = told_within(rt, alloc, asked, net, rows, tasks, tried, gate)?;
-        if tried == steps || !some_budget(&told.reports) {
+    let mut told = told_within(rt, alloc, asked, net, rows, tasks, tried, gate)?;
+    while tried < steps {
+        if !some_budget(&told.reports) {
             return Ok(told);
         }
-        tried = next_steps(tried, steps);
+        let numbers = budget_numbers(alloc, &told.reports)?;
+        tried = next_steps(tried, count_again(asked, tasks, &numbers), steps);
+        told = told_again(
+            rt, alloc, asked, net, rows, tasks, told, &numbers, tried, gate,
+        )?;
     }
-    told_within(rt, alloc, asked, net, rows, tasks, steps, gate)
+    Ok(told)
+}
+
+/// How many tasks are checked again, where those of these numbers say budget.
+fn count_again(asked: &Command<'_>, tasks: &Tasks, numbers: &[u32]) -> u32
+    requires numbers { (1 ≤ length numbers.now) × (length numbers.now < 2 ^ 32) }
+    requires tasks { (1 ≤ length tasks.now.tasks) × (length tasks.now.tasks < 2 ^ 32) }
+    ensures { 1 ≤ result }
+{
+    if asked.nodes {
+        tasks.tasks.len() as u32
+    } else {
+        numbers.len() as u32
+    }
+}
+
+/// What is told of tasks, where those of these numbers said budget and are checked again, with so many node steps for
+/// each; all tasks are, where the number of shared nodes is asked for.
+fn told_again<R: Threads + Sync, G: Gate + Sync>(
+    rt: &R,
+    alloc: Global,
+    asked: &Command<'_>,
+    net: &Net,
+    rows: &GateRows,
+    tasks: &Tasks,
+    told: Reports,
+    numbers: &[u32],
+    steps: u32,
+    gate: &G,
+) -> Result<Reports, AllocError>
+    requires bounded { IsBounded asked.now }
+    requires rows { rows.now.covers ≡ map rows_of net.now.raw.covers }
+    requires checkable { All (IsCheckable net.now.raw.nets (length tasks.now.vars))
+        tasks.now.tasks }
+    requires vars { length tasks.now.vars ≤ 1000 }
+    requires long { length told.reports.items ≡ length tasks.now.tasks }
+    requires numbers { numbers.now ≡ budget_numbers told.reports.items }
+    requires some { 1 ≤ length numbers.now }
+    requires steps { (1 ≤ steps) × (length tasks.now.tasks * steps ≤ 16000000) }
+    ensures told { (few : ℕ) → AllZip
+        (IsToldOf net.now.raw (length tasks.now.vars) few asked.now.cubes) tasks.now.tasks
+        told.reports.items → IfOk result (λ again. AllZip
+        (IsToldOf net.now.raw (length tasks.now.vars) steps asked.now.cubes) tasks.now.tasks
+        again.reports.items) }
+    ensures shown { IfOk result (λ again. is_some again.shared ≡ asked.now.nodes) }
+    ensures counted { IfOk result (λ again. IfSome again.shared (IsSharedCount net.now.raw
+        (length tasks.now.vars) steps tasks.now.tasks again.reports.items)) }
+{
+    if asked.nodes {
+        return told_within(rt, alloc, asked, net, rows, tasks, steps, gate);
+    }
+    let workers = asked.workers;
+    let cubes = asked.cubes;
+    let again = run_some(
+        rt, alloc, workers, net, rows, tasks, numbers, steps, cubes, gate,
+    )?;
+    Ok(Reports {
+        reports: woven(told.reports, numbers, again),
+        shared: None,
+    })
 }
 
 /// What is told of tasks that are checked once, with so many node steps for each.

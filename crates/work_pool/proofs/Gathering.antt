@@ -19,7 +19,7 @@ use Rattle.ste_model.specs.declared.verdict.Verdict.TheVariants.{Pass, Weak, Str
 use Rattle.gste_engine.proofs.Lists.{zip_push, zip_weaker}
 use Rattle.work_pool.specs.Pool.{IsPooled, IsTaskKept, IsTaskOver}
 use Rattle.work_pool.specs.Told.{IsToldOf, budgets, counts_budget}
-use Rattle.work_pool.specs.private.Jobs.{IsDone, IsGathered, IsGathering, IsReady}
+use Rattle.work_pool.specs.private.Jobs.{IsDone, IsGathered, IsGathering, IsReady, tasks_at}
 use Rattle.work_pool.proofs.Ranks.{ranks}
 use Rattle.work_pool.proofs.Done.{done_of, kept_on}
 
@@ -101,31 +101,43 @@ gathers net steps cubes start s o t tasks reports task report gs go gt g done u 
       table = u.table ∙ g.table;
     }
 
+-- the first element of a list that has one
+pub first_of : {X : Type 0} (xs : List X) → 0 < length xs → X
+first_of [] some = absurd (omega arith)
+first_of (x ∷ xs) some = x
+
 module _ {X : Type 0} (store : X → Store) (outcome : X → Result Report AllocError) (net : RawNet) (steps cubes : ℕ) (start : Store) where
   -- what a job leaves of a task
   abbrev pub Leaves : Task → X → Type 0
   Leaves task job = IsDone net steps cubes task start (store job) (outcome job)
 
-  module _ (place : X → ℕ) (whole : Store) (tasks : List Task) (dealt turned : List X) (ready : All (λ job. IsReady steps whole (store job)) dealt) (long : length dealt ≡ length tasks)
-      (numbered : (i : ℕ) (job : X) → i < length tasks → place (get_or dealt i job) ≡ i) (moved : IsPermutation dealt turned) where
+  module _ (place : X → ℕ) (whole : Store) (tasks : List Task) (numbers : List ℕ) (inside : All (λ number. number < length tasks) numbers) (dealt turned : List X) (ready : All (λ job. IsReady steps whole (store job)) dealt)
+      (long : length dealt ≡ length numbers) (numbered : (i : ℕ) (job : X) → i < length numbers → place (get_or dealt i job) ≡ i) (moved : IsPermutation dealt turned) where
     -- what is asked of the jobs before their work, however they were moved
-    pub all_within : All (λ job. place job < length tasks) turned
-    all_within = All-permutation (λ job. place job < length tasks) dealt turned moved (λ i job lt. let e = numbered i job (omega (arith, lt, long)) in omega (arith, e, lt, long))
+    pub all_within : All (λ job. place job < length numbers) turned
+    all_within = All-permutation (λ job. place job < length numbers) dealt turned moved (λ i job lt. let e = numbered i job (omega (arith, lt, long)) in omega (arith, e, lt, long))
 
     pub all_made : All (λ job. (store job).made ≡ []) turned
     all_made = All-permutation (λ job. (store job).made ≡ []) dealt turned moved (λ i job lt. (ready i job lt).made)
 
-    pub all_over : All (IsTaskOver net whole.vars) tasks → (task : Task) → All (λ job. IsTaskOver net (store job).vars (get_or tasks (place job) task)) turned
-    all_over over task = All-permutation (λ job. IsTaskOver net (store job).vars (get_or tasks (place job) task)) dealt turned moved (λ i job lt.
-        let inside : i < length tasks = omega (arith, lt, long) in
-        subst (λ v. IsTaskOver net v (get_or tasks (place (get_or dealt i job)) task)) (sym (ready i job lt).vars) (subst (λ k. IsTaskOver net whole.vars (get_or tasks k task)) (sym (numbered i job inside)) (over i task inside)))
+    pub all_over : All (IsTaskOver net whole.vars) tasks → (task : Task) → All (λ job. IsTaskOver net (store job).vars (get_or tasks (get_or numbers (place job) 0) task)) turned
+    all_over over task = All-permutation (λ job. IsTaskOver net (store job).vars (get_or tasks (get_or numbers (place job) 0) task)) dealt turned moved (λ i job lt.
+        let at : i < length numbers = omega (arith, lt, long) in
+        subst (λ v. IsTaskOver net v (get_or tasks (get_or numbers (place (get_or dealt i job)) 0) task)) (sym (ready i job lt).vars) (subst (λ k. IsTaskOver net whole.vars (get_or tasks (get_or numbers k 0) task)) (sym (numbered i job at)) (over (get_or numbers i 0) task (inside i 0 at))))
 
-    -- the jobs that were dealt are done, and are in order again
+    -- the jobs that were dealt are done, are in order again, and their stores stand on one table
     pub all_done : (given : ℕ) (old new jobs last : List X) → start ≡ gives_up given whole → old ≡ turned → length new ≡ length old → jobs ≡ new → ((i : ℕ) (job : X) → i < length old → place (get_or new i job) ≡ place (get_or old i job))
-        → ((i : ℕ) (task : Task) (job : X) → i < length old → IsDone net (store (get_or old i job)).limit cubes (get_or tasks (place (get_or old i job)) task) (store (get_or old i job)) (store (get_or new i job)) (outcome (get_or new i job)))
-        → IsPermutation jobs last → IsNonDecreasingBy place last → AllZip Leaves tasks last
-    all_done given old new jobs last left is longer back same done moved_back rises = zip_of Leaves tasks last (sym many) (λ i task job lt.
-        subst (λ k. IsDone net steps cubes (get_or tasks k task) start (store (get_or last i job)) (outcome (get_or last i job))) (in_order i job (omega (arith, lt, many))) (at_last i job (omega (arith, lt, many)) task))
+        → ((i : ℕ) (task : Task) (job : X) → i < length old → IsDone net (store (get_or old i job)).limit cubes (get_or tasks (get_or numbers (place (get_or old i job)) 0) task) (store (get_or old i job)) (store (get_or new i job)) (outcome (get_or new i job)))
+        → IsPermutation jobs last → IsNonDecreasingBy place last
+        → ((task : Task) → AllZip Leaves (tasks_at tasks numbers task) last) × All (λ job. (store job).table ≡ start.table) last
+    all_done given old new jobs last left is longer back same done moved_back rises = (
+      λ task. zip_of Leaves (tasks_at tasks numbers task) last (length-map numbers (λ number. get_or tasks number task) ∙ sym many) (λ i t job lt.
+          let at : i < length numbers = let m = length-map numbers (λ number. get_or tasks number task) in omega (arith, lt, m) in
+          subst (λ (x : Task). IsDone net steps cubes x start (store (get_or last i job)) (outcome (get_or last i job)))
+          (ap (λ k. get_or tasks (get_or numbers k 0) task) (in_order i job (omega (arith, at, many))) ∙ sym (get_or-map (λ number. get_or tasks number task) numbers i 0 t at))
+          (at_last i job (omega (arith, at, many)) task)),
+      λ i job lt. let some = inside i 0 (omega (arith, lt, many)) in (at_last i job lt (first_of tasks (omega (arith, some)))).table,
+    )
       where
         back_moved : IsPermutation new last
         back_moved = subst (λ (js : List X). IsPermutation js last) back moved_back
@@ -133,21 +145,21 @@ module _ {X : Type 0} (store : X → Store) (outcome : X → Result Report Alloc
         turned_moved : IsPermutation dealt old
         turned_moved = subst (IsPermutation dealt) (sym is) moved
 
-        many : length last ≡ length tasks
+        many : length last ≡ length numbers
         many = length_permutation new last back_moved ∙ longer ∙ length_permutation dealt old turned_moved ∙ long
 
         ready_at : All (λ job. IsReady steps start (store job)) old
         ready_at = All-permutation (λ job. IsReady steps start (store job)) dealt old turned_moved (λ i job lt. let r = ready i job lt in
             record { made = r.made; limit = r.limit; vars = r.vars ∙ sym (ap (λ (s : Store). s.vars) left); table = r.table ∙ sym (ap (λ (s : Store). s.table) left) })
 
-        at_new : All (λ job. (task : Task) → IsDone net steps cubes (get_or tasks (place job) task) start (store job) (outcome job)) new
+        at_new : All (λ job. (task : Task) → IsDone net steps cubes (get_or tasks (get_or numbers (place job) 0) task) start (store job) (outcome job)) new
         at_new i job lt task =
             let inside : i < length old = omega (arith, lt, longer) in
-            subst (λ k. IsDone net steps cubes (get_or tasks k task) start (store (get_or new i job)) (outcome (get_or new i job))) (sym (same i job inside))
-            (done_of net steps cubes (get_or tasks (place (get_or old i job)) task) start (store (get_or old i job)) (store (get_or new i job)) (outcome (get_or new i job)) (ready_at i job inside) (done i task job inside))
+            subst (λ k. IsDone net steps cubes (get_or tasks (get_or numbers k 0) task) start (store (get_or new i job)) (outcome (get_or new i job))) (sym (same i job inside))
+            (done_of net steps cubes (get_or tasks (get_or numbers (place (get_or old i job)) 0) task) start (store (get_or old i job)) (store (get_or new i job)) (outcome (get_or new i job)) (ready_at i job inside) (done i task job inside))
 
-        at_last : All (λ job. (task : Task) → IsDone net steps cubes (get_or tasks (place job) task) start (store job) (outcome job)) last
-        at_last = All-permutation (λ job. (task : Task) → IsDone net steps cubes (get_or tasks (place job) task) start (store job) (outcome job)) new last back_moved at_new
+        at_last : All (λ job. (task : Task) → IsDone net steps cubes (get_or tasks (get_or numbers (place job) 0) task) start (store job) (outcome job)) last
+        at_last = All-permutation (λ job. (task : Task) → IsDone net steps cubes (get_or tasks (get_or numbers (place job) 0) task) start (store job) (outcome job)) new last back_moved at_new
 
         places_moved : IsPermutation (map place dealt) (map place last)
         places_moved = IsPermutation-trans (map place dealt) (map place old) (map place last) (IsPermutation-map place dealt old turned_moved)

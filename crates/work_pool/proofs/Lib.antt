@@ -3,3 +3,4 @@ pub mod Gathering
 pub mod Ranks
 pub mod Agreeing
 pub mod Shared
+pub mod Numbers

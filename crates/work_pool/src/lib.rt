@@ -10,4 +10,4 @@ mod tests;
 mod turns;
 
 pub use gate::{Gate, NoGate};
-pub use run::{PoolAnswer, run_tasks};
+pub use run::{PoolAnswer, run_some, run_tasks};

@@ -1,4 +1,4 @@
-//! The work on all tasks, over any store that can be shared out; begin with `all_tasks`.
+//! The work on tasks, over any store that can be shared out; begin with `pooled_tasks`.
 
 ghost use Rattle.std.specs.Prelude.{◌≡◌, ℕ, ◌+◌, ◌*◌, ◌^◌, ◌<◌, ◌≤◌, List, [], length, map, All, IfOk, get_or};
 ghost use Rattle.std.specs.List.{AllZip};
@@ -8,7 +8,7 @@ ghost use Rattle.net_core.specs.declared.raw.RawNet.{RawNet};
 ghost use Rattle.ste_model.specs.declared.task.Task.{Task as ATask};
 ghost use Rattle.sym_step.specs.Step.{rows_of};
 ghost use Rattle.work_pool.specs.Pool.{IsPooled, IsTaskOver};
-ghost use Rattle.work_pool.specs.private.Jobs.{IsDone, IsReady};
+ghost use Rattle.work_pool.specs.private.Jobs.{IsDone, IsReady, tasks_at};
 
 use crate::gate::Gate;
 use crate::turns::turns_of;
@@ -22,10 +22,10 @@ use ste_engine::check_ste;
 use ste_model::{Report, Task};
 use sym_step::GateRows;
 
-/// The work on the task of this number: a store of its own, and what came out.
+/// The work on the task whose number stands at this place: a store of its own, and what came out.
 #[derive(Drop)]
 pub(crate) struct Job<N> {
-    pub(crate) task: u32,
+    pub(crate) place: u32,
     pub(crate) nodes: N,
     pub(crate) outcome: Result<Report, AllocError>,
 }
@@ -63,7 +63,7 @@ fn work<N: Nodes>(
     requires rows { rows.now.covers ≡ map rows_of net.now.raw.covers }
     requires made { (N.store job.old.nodes).made ≡ [] }
     requires over { IsTaskOver net.now.raw (N.store job.old.nodes).vars task.now }
-    ensures task { job.new.task ≡ job.old.task }
+    ensures place { job.new.place ≡ job.old.place }
     ensures done { IsDone net.now.raw (N.store job.old.nodes).limit cubes task.now
         (N.store job.old.nodes) (N.store job.new.nodes) job.new.outcome }
 {
@@ -78,22 +78,24 @@ fn work_all<N: Nodes + Send, R: Threads + Sync, G: Gate + Sync>(
     net: &Net,
     rows: &GateRows,
     tasks: &[Task],
+    numbers: &[u32],
     cubes: u32,
     jobs: &mut [Job<N>],
     gate: &G,
 )
     requires workers { 0 < workers }
     requires rows { rows.now.covers ≡ map rows_of net.now.raw.covers }
-    requires within { All (λ job. job.task < length tasks.now) jobs.old }
+    requires numbers { All (λ number. number < length tasks.now) numbers.now }
+    requires within { All (λ job. job.place < length numbers.now) jobs.old }
     requires made { All (λ job. (N.store job.nodes).made ≡ []) jobs.old }
     requires over { (task : ATask) → All (λ job. IsTaskOver net.now.raw (N.store job.nodes).vars
-        (get_or tasks.now job.task task)) jobs.old }
+        (get_or tasks.now (get_or numbers.now job.place 0) task)) jobs.old }
     ensures long { length jobs.new ≡ length jobs.old }
     ensures same { (i : ℕ) (job : Job N) → i < length jobs.old
-        → (get_or jobs.new i job).task ≡ (get_or jobs.old i job).task }
+        → (get_or jobs.new i job).place ≡ (get_or jobs.old i job).place }
     ensures done { (i : ℕ) (task : ATask) (job : Job N) → i < length jobs.old
         → IsDone net.now.raw (N.store (get_or jobs.old i job).nodes).limit cubes
-        (get_or tasks.now (get_or jobs.old i job).task task)
+        (get_or tasks.now (get_or numbers.now (get_or jobs.old i job).place 0) task)
         (N.store (get_or jobs.old i job).nodes) (N.store (get_or jobs.new i job).nodes)
         (get_or jobs.new i job).outcome }
 {
@@ -102,19 +104,21 @@ fn work_all<N: Nodes + Send, R: Threads + Sync, G: Gate + Sync>(
         jobs,
         workers as usize,
         &|_: usize, job: &mut Job<N>|
-            requires within { job.old.task < length tasks.now }
+            requires within { job.old.place < length numbers.now }
+            requires numbers { All (λ number. number < length tasks.now) numbers.now }
             requires rows { rows.now.covers ≡ map rows_of net.now.raw.covers }
             requires made { (N.store job.old.nodes).made ≡ [] }
             requires over { (task : ATask) → IsTaskOver net.now.raw (N.store job.old.nodes).vars
-                (get_or tasks.now job.old.task task) }
-            ensures same { job.new.task ≡ job.old.task }
+                (get_or tasks.now (get_or numbers.now job.old.place 0) task) }
+            ensures same { job.new.place ≡ job.old.place }
             ensures done { (task : ATask)
                 → IsDone net.entry.now.raw (N.store job.old.nodes).limit cubes
-                (get_or tasks.entry.now job.old.task task) (N.store job.old.nodes)
-                (N.store job.new.nodes) job.new.outcome }
+                (get_or tasks.entry.now (get_or numbers.entry.now job.old.place 0) task)
+                (N.store job.old.nodes) (N.store job.new.nodes) job.new.outcome }
         {
-            gate.at_task(job.task);
-            work(alloc, net, rows, &tasks[job.task as usize], cubes, job);
+            let number = numbers[job.place as usize];
+            gate.at_task(number);
+            work(alloc, net, rows, &tasks[number as usize], cubes, job);
         },
     );
 }
@@ -131,8 +135,8 @@ fn deal<N: Split>(
     ensures left { IfOk result
         (λ _. N.store nodes.new ≡ gives_up (count * steps) (N.store nodes.old)) }
     ensures long { IfOk result (λ jobs. length jobs.items ≡ count) }
-    ensures tasks { IfOk result (λ jobs. (i : ℕ) (job : Job N) → i < count
-        → (get_or jobs.items i job).task ≡ i) }
+    ensures places { IfOk result (λ jobs. (i : ℕ) (job : Job N) → i < count
+        → (get_or jobs.items i job).place ≡ i) }
     ensures ready { IfOk result (λ jobs. All
         (λ job. IsReady steps (N.store nodes.old) (N.store job.nodes)) jobs.items) }
 {
@@ -140,7 +144,7 @@ fn deal<N: Split>(
     for i in 0..count {
         let session = nodes.fork(steps);
         jobs.push(Job {
-            task: i as u32,
+            place: i as u32,
             nodes: session,
             outcome: Err(AllocError),
         })?;
@@ -148,22 +152,22 @@ fn deal<N: Split>(
     Ok(jobs)
 }
 
-/// Puts the jobs in the order of the turns of their tasks.
+/// Puts the jobs in the order of their turns.
 fn put_in_turn<N: Nodes>(jobs: &mut Vec<Job<N>>, turns: &[usize])
     ensures { IsPermutation jobs.old.items jobs.new.items }
 {
-    jobs.sort_unstable_by_key(|job| match turns.get(job.task as usize) {
+    jobs.sort_unstable_by_key(|job| match turns.get(job.place as usize) {
         Some(turn) => *turn,
         None => 0,
     });
 }
 
-/// Puts the jobs in the order of their tasks.
+/// Puts the jobs in the order of their places.
 fn put_in_order<N: Nodes>(jobs: &mut Vec<Job<N>>)
     ensures moved { IsPermutation jobs.old.items jobs.new.items }
-    ensures ordered { IsNonDecreasingBy (λ job. job.task) jobs.new.items }
+    ensures ordered { IsNonDecreasingBy (λ job. job.place) jobs.new.items }
 {
-    jobs.sort_unstable_by_key(|job| job.task);
+    jobs.sort_unstable_by_key(|job| job.place);
 }
 
 /// The reports in the order of the jobs, and all stores in one.
@@ -185,7 +189,7 @@ fn gather<N: Split>(
     let mut reports = Vec::new(alloc);
     for job in jobs {
         let Job {
-            task: _,
+            place: _,
             nodes: other,
             outcome,
         } = job;
@@ -195,32 +199,35 @@ fn gather<N: Split>(
     Ok((reports, nodes))
 }
 
-/// Each task is checked over a store of `steps` steps that is cut from this one, and all are merged again.
-pub(crate) fn all_tasks<N: Split + Send, R: Threads + Sync, G: Gate + Sync>(
+/// Each task of these numbers is checked over a store of `steps` steps that is cut from this one, and all are merged
+/// again.
+pub(crate) fn pooled_tasks<N: Split + Send, R: Threads + Sync, G: Gate + Sync>(
     rt: &R,
     alloc: Global,
     workers: u32,
     net: &Net,
     rows: &GateRows,
     tasks: &[Task],
+    numbers: &[u32],
     steps: u32,
     cubes: u32,
     mut nodes: N,
     gate: &G,
 ) -> Result<(Vec<Report>, N), AllocError>
     requires workers { 0 < workers }
-    requires few { length tasks.now < 2 ^ 32 }
+    requires few { length numbers.now < 2 ^ 32 }
+    requires numbers { All (λ number. number < length tasks.now) numbers.now }
     requires rows { rows.now.covers ≡ map rows_of net.now.raw.covers }
     requires made { (N.store nodes).made ≡ [] }
-    requires limit { (N.store nodes).limit ≡ length tasks.now * steps }
+    requires limit { (N.store nodes).limit ≡ length numbers.now * steps }
     requires over { All (IsTaskOver net.now.raw (N.store nodes).vars) tasks.now }
-    ensures pooled { IfOk result (λ r. IsPooled net.now.raw steps cubes tasks.now r.0.items
-        (N.store r.1)) }
+    ensures pooled { (task : ATask) → IfOk result (λ r. IsPooled net.now.raw steps cubes
+        (tasks_at tasks.now numbers.now task) r.0.items (N.store r.1)) }
     ensures vars { IfOk result (λ r. (N.store r.1).vars ≡ (N.store nodes).vars) }
     ensures table { IfOk result (λ r. (N.store r.1).table ≡ (N.store nodes).table) }
 {
-    let mut jobs = deal(alloc, &mut nodes, tasks.len(), steps)?;
-    let turns = turns_of(alloc, tasks, workers)?;
+    let mut jobs = deal(alloc, &mut nodes, numbers.len(), steps)?;
+    let turns = turns_of(alloc, tasks, numbers, workers)?;
     put_in_turn(&mut jobs, turns.as_slice());
     work_all(
         rt,
@@ -229,6 +236,7 @@ pub(crate) fn all_tasks<N: Split + Send, R: Threads + Sync, G: Gate + Sync>(
         net,
         rows,
         tasks,
+        numbers,
         cubes,
         jobs.as_mut_slice(),
         gate,

@@ -1,12 +1,16 @@
 //! The tasks over one shared table; begin with `run_tasks`.
 
 ghost use Rattle.std.specs.Prelude.{◌≡◌, ◌*◌, ◌^◌, ◌<◌, ◌≤◌, [], length, map, All, IfOk};
+ghost use Rattle.std.specs.List.{AllZip, range_with_len};
 ghost use Rattle.dd_table.specs.Sessions.{store_of};
 ghost use Rattle.sym_step.specs.Step.{rows_of};
+ghost use Rattle.ste_model.specs.declared.task.Task.{Task as ATask};
 ghost use Rattle.work_pool.specs.Pool.{IsPooled, IsTaskOver};
+ghost use Rattle.work_pool.specs.Told.{IsToldOfNumber};
+ghost use Rattle.work_pool.specs.private.Jobs.{tasks_at};
 
 use crate::gate::Gate;
-use crate::pool::all_tasks;
+use crate::pool::pooled_tasks;
 use dd_table::{Session, SharedTable, TableNodes};
 use net_core::Net;
 use std::alloc::{AllocError, Global};
@@ -21,6 +25,17 @@ pub struct PoolAnswer {
     pub table: SharedTable,
     pub session: Session,
     ghost of: { session.table ≡ table },
+}
+
+/// The numbers below this one, in order.
+fn numbers_below(alloc: Global, count: u32) -> Result<Vec<u32>, AllocError>
+    ensures { IfOk result (λ numbers. numbers.items ≡ range_with_len 0 count) }
+{
+    let mut numbers = Vec::new(alloc);
+    for i in 0..count {
+        numbers.push(i)?;
+    }
+    Ok(numbers)
 }
 
 /// The reports of all tasks, checked by so many workers over one table, each with `steps` node steps of its own, and with
@@ -57,7 +72,82 @@ pub fn run_tasks<R: Threads + Sync, G: Gate + Sync>(
     ensures slots { IfOk result
         (λ answer. answer.session.slots ≡ 2 * (length tasks.now.tasks * steps)) }
 {
-    let all = tasks.tasks.len() as u32 * steps;
+    let numbers = numbers_below(alloc, tasks.tasks.len() as u32)?;
+    run_numbers(
+        rt,
+        alloc,
+        workers,
+        net,
+        rows,
+        tasks,
+        numbers.as_slice(),
+        steps,
+        cubes,
+        gate,
+    )
+}
+
+/// The reports of the tasks of these numbers, in the order of the numbers, checked over a table of their own, each with
+/// `steps` node steps. All else is as with `run_tasks`.
+pub fn run_some<R: Threads + Sync, G: Gate + Sync>(
+    rt: &R,
+    alloc: Global,
+    workers: u32,
+    net: &Net,
+    rows: &GateRows,
+    tasks: &Tasks,
+    numbers: &[u32],
+    steps: u32,
+    cubes: u32,
+    gate: &G,
+) -> Result<Vec<Report>, AllocError>
+    requires rows { rows.now.covers ≡ map rows_of net.now.raw.covers }
+    requires workers { (1 ≤ workers) × (workers ≤ 64) }
+    requires some { 1 ≤ length numbers.now }
+    requires numbers { All (λ number. number < length tasks.now.tasks) numbers.now }
+    requires steps { (1 ≤ steps) × (length numbers.now * steps ≤ 16000000) }
+    requires vars { length tasks.now.vars ≤ 1000 }
+    requires over { All (IsTaskOver net.now.raw (length tasks.now.vars)) tasks.now.tasks }
+
+    // For each number, in order, what is told of the task of that number.
+    ensures told { IfOk result (λ reports. AllZip
+        (IsToldOfNumber net.now.raw (length tasks.now.vars) steps cubes tasks.now.tasks)
+        numbers.now reports.items) }
+{
+    let answer = run_numbers(
+        rt, alloc, workers, net, rows, tasks, numbers, steps, cubes, gate,
+    )?;
+    Ok(answer.reports)
+}
+
+/// The tasks of these numbers over a table of their own.
+fn run_numbers<R: Threads + Sync, G: Gate + Sync>(
+    rt: &R,
+    alloc: Global,
+    workers: u32,
+    net: &Net,
+    rows: &GateRows,
+    tasks: &Tasks,
+    numbers: &[u32],
+    steps: u32,
+    cubes: u32,
+    gate: &G,
+) -> Result<PoolAnswer, AllocError>
+    requires rows { rows.now.covers ≡ map rows_of net.now.raw.covers }
+    requires workers { (1 ≤ workers) × (workers ≤ 64) }
+    requires some { 1 ≤ length numbers.now }
+    requires numbers { All (λ number. number < length tasks.now.tasks) numbers.now }
+    requires steps { (1 ≤ steps) × (length numbers.now * steps ≤ 16000000) }
+    requires vars { length tasks.now.vars ≤ 1000 }
+    requires over { All (IsTaskOver net.now.raw (length tasks.now.vars)) tasks.now.tasks }
+    ensures answer { (task : ATask) → IfOk result (λ answer. IsPooled net.now.raw steps cubes
+        (tasks_at tasks.now.tasks numbers.now task) answer.reports.items
+        (store_of answer.session)) }
+    ensures vars { IfOk result (λ answer. answer.session.vars ≡ length tasks.now.vars) }
+    ensures slots { IfOk result
+        (λ answer. answer.session.slots ≡ 2 * (length numbers.now * steps)) }
+{
+    let all = numbers.len() as u32 * steps;
     let (table, session) = SharedTable::open(alloc, tasks.vars.len() as u32, 2 * all)?;
     let (reports, session) = over(
         rt,
@@ -66,6 +156,7 @@ pub fn run_tasks<R: Threads + Sync, G: Gate + Sync>(
         net,
         rows,
         tasks.tasks.as_slice(),
+        numbers,
         steps,
         cubes,
         &table,
@@ -79,7 +170,7 @@ pub fn run_tasks<R: Threads + Sync, G: Gate + Sync>(
     })
 }
 
-/// The tasks over this table, beginning with this session of it.
+/// The tasks of these numbers over this table, beginning with this session of it.
 fn over<R: Threads + Sync, G: Gate + Sync>(
     rt: &R,
     alloc: Global,
@@ -87,6 +178,7 @@ fn over<R: Threads + Sync, G: Gate + Sync>(
     net: &Net,
     rows: &GateRows,
     tasks: &[Task],
+    numbers: &[u32],
     steps: u32,
     cubes: u32,
     table: &SharedTable,
@@ -95,19 +187,20 @@ fn over<R: Threads + Sync, G: Gate + Sync>(
 ) -> Result<(Vec<Report>, Session), AllocError>
     requires table { session.table ≡ table.now }
     requires workers { 0 < workers }
-    requires few { length tasks.now < 2 ^ 32 }
+    requires few { length numbers.now < 2 ^ 32 }
+    requires numbers { All (λ number. number < length tasks.now) numbers.now }
     requires rows { rows.now.covers ≡ map rows_of net.now.raw.covers }
     requires over { All (IsTaskOver net.now.raw session.vars) tasks.now }
     requires made { session.made ≡ [] }
-    requires limit { session.limit ≡ length tasks.now * steps }
+    requires limit { session.limit ≡ length numbers.now * steps }
     ensures table { IfOk result (λ r. r.1.table ≡ session.table) }
     ensures vars { IfOk result (λ r. r.1.vars ≡ session.vars) }
-    ensures pooled { IfOk result
-        (λ r. IsPooled net.now.raw steps cubes tasks.now r.0.items (store_of r.1)) }
+    ensures pooled { (task : ATask) → IfOk result (λ r. IsPooled net.now.raw steps cubes
+        (tasks_at tasks.now numbers.now task) r.0.items (store_of r.1)) }
 {
     let nodes = TableNodes::on(table, session);
-    let (reports, nodes) = all_tasks(
-        rt, alloc, workers, net, rows, tasks, steps, cubes, nodes, gate,
+    let (reports, nodes) = pooled_tasks(
+        rt, alloc, workers, net, rows, tasks, numbers, steps, cubes, nodes, gate,
     )?;
     Ok((reports, nodes.into_session()))
 }

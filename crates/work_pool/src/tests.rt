@@ -8,7 +8,7 @@ ghost use Rattle.sym_step.specs.Step.{rows_of};
 ghost use Rattle.work_pool.specs.Pool.{IsTaskOver};
 
 use crate::gate::Gate;
-use crate::run::run_tasks;
+use crate::run::{run_some, run_tasks};
 use bool_expr::Expr;
 use net_core::{Net, RawNet, order};
 use std::alloc::{AllocError, Global};
@@ -141,6 +141,26 @@ fn tells_in_order<R: Threads + Sync>(rt: &R, alloc: Global, workers: u32) -> Res
         same = same && report.verdict == case.3;
     }
     Ok(same)
+}
+
+/// Whether two workers give the verdicts of the last task and of the first one, in this order, and tell the gate of two.
+fn tells_of_two<R: Threads + Sync>(rt: &R, alloc: Global) -> Result<bool, Fail> {
+    let ready = net_with_rows(alloc)?;
+    let tasks = all_cases(alloc)?;
+    let count = Count {
+        begun: AtomicU64::new(0),
+    };
+    let Ready { net, rows } = &ready;
+    let reports = run_some(rt, alloc, 2, net, rows, &tasks, &[2, 0], 100, 4, &count)?;
+    let two = reports.len() == 2 && count.begun.load(Ordering::SeqCst) == 2;
+    Ok(two && reports[0].verdict == CASES[2].3 && reports[1].verdict == CASES[0].3)
+}
+
+#[test]
+fn some_tasks_are_told_of_in_the_order_of_the_numbers(rt: HostRuntime) -> Result<(), Fail> {
+    let same = tells_of_two(&rt, rt.alloc())?;
+    assert!(rt; same);
+    Ok(())
 }
 
 #[test]

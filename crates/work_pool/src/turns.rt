@@ -1,6 +1,6 @@
 //! In which order the jobs are shared out; begin with `turns_of`.
 
-ghost use Rattle.std.specs.Prelude.{◌<◌};
+ghost use Rattle.std.specs.Prelude.{◌<◌, All, length};
 
 use std::alloc::{AllocError, Global};
 use ste_model::{Task, depth};
@@ -15,11 +15,17 @@ fn size_of_task(task: &Task) -> u64 {
     }
 }
 
-/// The numbers of the tasks with their sizes, longest first.
-fn ranked_tasks(alloc: Global, tasks: &[Task]) -> Result<Vec<(u64, usize)>, AllocError> {
+/// The places of the tasks of these numbers with their sizes, longest first.
+fn ranked_tasks(
+    alloc: Global,
+    tasks: &[Task],
+    numbers: &[u32],
+) -> Result<Vec<(u64, usize)>, AllocError>
+    requires { All (λ number. number < length tasks.now) numbers.now }
+{
     let mut ranked = Vec::new(alloc);
-    for i in 0..tasks.len() {
-        ranked.push((size_of_task(&tasks[i]), i))?;
+    for i in 0..numbers.len() {
+        ranked.push((size_of_task(&tasks[numbers[i] as usize]), i))?;
     }
     ranked.sort_unstable_by_key(|entry| (u64::MAX - entry.0, entry.1));
     Ok(ranked)
@@ -38,18 +44,20 @@ fn places_in_turn(alloc: Global, count: usize, run: usize) -> Result<Vec<usize>,
     Ok(places)
 }
 
-/// The turn of each task. In the order of turns, each worker's run begins with one of the longest tasks, and goes on with
-/// shorter ones.
+/// The turn of each task of these numbers. In the order of turns, each worker's run begins with one of the longest tasks,
+/// and goes on with shorter ones.
 pub(crate) fn turns_of(
     alloc: Global,
     tasks: &[Task],
+    numbers: &[u32],
     workers: u32,
 ) -> Result<Vec<usize>, AllocError>
-    requires { 0 < workers }
+    requires numbers { All (λ number. number < length tasks.now) numbers.now }
+    requires workers { 0 < workers }
 {
-    let count = tasks.len();
+    let count = numbers.len();
     let run = count.div_ceil(workers as usize).max(1);
-    let ranked = ranked_tasks(alloc, tasks)?;
+    let ranked = ranked_tasks(alloc, tasks, numbers)?;
     let places = places_in_turn(alloc, count, run)?;
     let mut turns = Vec::from_elem(alloc, 0, count)?;
     for (entry, place) in ranked.iter().zip(places.iter()) {

@@ -1,5 +1,5 @@
 -- For private functions. What the steps to a report know of the texts.
-use Rattle.std.specs.Prelude.{◌≡◌, ◌≢◌, ◌<◌, ◌≤◌, ◌⊎◌, ◌∷◌, ◌++◌, ◌/◌, ◌*◌, ℕ, Bool, true, false, min, max, List, [], length, All, Option, Err}
+use Rattle.std.specs.Prelude.{◌≡◌, ◌≢◌, ◌<◌, ◌≤◌, ◌⊎◌, ◌∷◌, ◌++◌, ℕ, Bool, List, [], length, All, Option, Err}
 use Rattle.blif_syntax.specs.declared.models.Model.{Model}
 use Rattle.command_line.specs.Command.{Command}
 use Rattle.hierarchy.specs.Faults.{IsFree, IsRefusal}
@@ -20,8 +20,6 @@ use Rattle.ste_model.specs.declared.task.Graph.{Graph}
 use Rattle.ste_model.specs.declared.task.Quint.{Quint}
 use Rattle.ste_model.specs.declared.task.Task.{Task}
 use Rattle.ste_model.specs.declared.task.Task.TheVariants.{Ste, Gste}
-use Rattle.ste_model.specs.declared.verdict.Verdict.{Verdict}
-use Rattle.ste_model.specs.declared.verdict.Verdict.TheVariants.{Budget}
 use Rattle.ste_model.specs.GraphNeed.{BindsReadBelow}
 use Rattle.ste_model.specs.Need.{ReadBelow}
 use Rattle.task_binding.specs.Answer.{IsAnswer}
@@ -55,15 +53,6 @@ abbrev pub IsNotBound : List Model → RawTasks → Refusal → Type 0
 IsNotBound models raw found =
     (fault : BindFault) × (found ≡ refusal.Binding fault) × (fault ≢ bind.OutOfMemory)
     × IsAnswer (net_named models) (length (nets models)) raw (Err fault)
-
--- the verdict is budget
-abbrev pub is_budget : Verdict → Bool
-is_budget Budget = true
-is_budget other = false
-
--- the node steps of each of so many tasks over so many nets that are tried first, where so many are granted
-abbrev pub first_steps : ℕ → ℕ → ℕ → ℕ
-first_steps nets tasks steps = min (max (min (max (8 * nets * tasks) 131072) 2097152 / tasks) 1024) steps
 
 -- the bindings name nets below this number
 abbrev pub AreBindsIn : ℕ → List Bind → Type 0

@@ -1,5 +1,5 @@
 -- For private functions. What a job has and leaves, and what has been gathered so far.
-use Rattle.std.specs.Prelude.{◌≡◌, ◌≢◌, ◌≤◌, ◌*◌, ℕ, List, [], ◌++◌, length, Result, IfOk}
+use Rattle.std.specs.Prelude.{◌≡◌, ◌≢◌, ◌≤◌, ◌*◌, ℕ, List, [], ◌++◌, length, get_or, map, Result, IfOk}
 use Rattle.std.specs.List.{AllZip}
 use Rattle.std.specs.declared.alloc.AllocError.{AllocError}
 use Rattle.dd_nodes.specs.Stores.{Store}
@@ -9,6 +9,10 @@ use Rattle.ste_model.specs.declared.task.Task.{Task}
 use Rattle.ste_model.specs.declared.verdict.Verdict.TheVariants.{Budget}
 use Rattle.work_pool.specs.Pool.{IsTaskKept}
 use Rattle.work_pool.specs.Told.{IsToldOf, budgets}
+
+-- the tasks of these numbers, in the order of the numbers; each number is that of a task
+abbrev pub tasks_at : List Task → List ℕ → Task → List Task
+tasks_at tasks numbers task = map (λ number. get_or tasks number task) numbers
 
 -- t stands on the table of s, has its variables, made nothing, and may make so many nodes
 pub record IsReady (steps : ℕ) (s t : Store) : Type 0 where

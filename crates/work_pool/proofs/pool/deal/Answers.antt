@@ -14,7 +14,7 @@ loop-i-preserved g c =
     record {
       left = more_given s t (g.N.Nodes.store c.fork-session.new.self) c.loop-i.i c.args.steps i.left c.fork-session.ensures.left;
       long = ap length pushed ∙ length-append c.loop-i.jobs.items _ ∙ ap (λ n. n + 1) i.long;
-      tasks = numbered_more (λ j. j.task) c.loop-i.jobs.items c.push.new.self.items _ c.loop-i.i pushed i.long refl i.tasks;
+      places = numbered_more (λ j. j.place) c.loop-i.jobs.items c.push.new.self.items _ c.loop-i.i pushed i.long refl i.places;
       ready = all_more (λ j. IsReady c.args.steps s (g.N.Nodes.store j.nodes)) c.loop-i.jobs.items c.push.new.self.items _ pushed i.ready record {
         made = ap (λ (u : Store). u.made) more;
         limit = ap (λ (u : Store). u.limit) more;

@@ -1,0 +1,45 @@
+use Rattle.std.proofs.Common.{◌∙◌, ◌<◌, ◌≤◌, ◌*◌, ℕ, List, All, length, ap, subst, sym}
+use Rattle.std.specs.List.{AllZip}
+use Rattle.std.proofs.lemmas.Slice.Zip.{AllZip-long}
+use Rattle.command_line.specs.Command.{Command}
+use Rattle.work_pool.specs.Told.{IsToldOf, IsToldOfNumber}
+use Rattle.ste_program.specs.private.Tries.{woven}
+use Rattle.ste_program.proofs.TaskLists.{over_all}
+use Rattle.ste_program.proofs.Woven.{again_told, budgets_inside, budgets_steps}
+use Rattle.ste_program.proofs.judging.told_again.Goals as goal
+
+pub run_some-requires-clause-numbers : goal.run_some-requires-clause-numbers
+run_some-requires-clause-numbers g c κs within =
+    subst (λ (n : ℕ). All (λ number. number < n) c.args.numbers.now) c.requires.long
+    (subst (λ (numbers : List ℕ). All (λ number. number < length c.args.told.reports.items) numbers) (sym c.requires.numbers) (budgets_inside c.args.told.reports.items))
+
+pub run_some-requires-clause-steps : goal.run_some-requires-clause-steps
+run_some-requires-clause-steps g c κs within = (
+  c.requires.steps.0,
+  subst (λ (numbers : List ℕ). length numbers * c.args.steps ≤ 16000000) (sym c.requires.numbers)
+      (budgets_steps c.args.told.reports.items (length c.args.tasks.now.tasks) c.args.steps 16000000 c.requires.long c.requires.steps.1),
+)
+
+pub run_some-requires-clause-over : goal.run_some-requires-clause-over
+run_some-requires-clause-over g c κs within = over_all c.args.net.now.raw (length c.args.tasks.now.vars) c.args.tasks.now.tasks c.requires.checkable
+
+pub woven-requires-clause-long : goal.woven-requires-clause-long
+woven-requires-clause-long g c =
+    AllZip-long (IsToldOfNumber c.args.net.now.raw (length c.args.tasks.now.vars) c.args.steps c.asked.inside.cubes c.args.tasks.now.tasks) c.args.numbers.now c.in_ok-again.again.items c.in_ok-again.ensures.told
+
+pub woven-requires-clause-inside : goal.woven-requires-clause-inside
+woven-requires-clause-inside g c =
+    subst (λ (numbers : List ℕ). All (λ number. number < length c.args.told.reports.items) numbers) (sym c.requires.numbers) (budgets_inside c.args.told.reports.items)
+
+pub returns-clause-told : goal.returns-clause-told
+returns-clause-told g c = λ few told.
+    let net = c.args.net.now.raw in
+    let vars = length c.args.tasks.now.vars in
+    let tasks = c.args.tasks.now.tasks in
+    let reports = c.args.told.reports.items in
+    let again = c.in_ok-again.again.items in
+    let cubes = ap (λ (asked : Command). asked.cubes) c.asked.view_is in
+    let news = subst (λ (n : ℕ). AllZip (IsToldOfNumber net vars c.args.steps n tasks) c.args.numbers.now again) cubes c.in_ok-again.ensures.told in
+    subst (AllZip (IsToldOf net vars c.args.steps c.args.asked.now.cubes) tasks) (sym (c.woven.ensures ∙ ap (λ (numbers : List ℕ). woven reports numbers again) c.requires.numbers))
+    (again_told net vars c.args.steps c.args.asked.now.cubes tasks few reports again told
+    (subst (λ (numbers : List ℕ). AllZip (IsToldOfNumber net vars c.args.steps c.args.asked.now.cubes tasks) numbers again) c.requires.numbers news))
