@@ -3,6 +3,7 @@ use Rattle.std.proofs.Common.{◌≡◌, ◌≢◌, ℕ, suc, ◌+◌, ◌<◌, 
 use Rattle.std.specs.Prelude.{Any, IsSome}
 use Rattle.std.specs.List.{AllZip}
 use Rattle.std.proofs.lemmas.Bool.{cases_lt}
+use Rattle.dd_nodes.specs.declared.node.Ref.{Ref}
 use Rattle.dd_nodes.specs.Diagram.{Function}
 use Rattle.dd_nodes.specs.Functions.{IsCofactorOf}
 use Rattle.dd_nodes.specs.Spending.{Spends}
@@ -12,8 +13,7 @@ use Rattle.dd_nodes.proofs.Stores.{Builds-nothing, IsGood, Keeps-trans}
 use Rattle.dd_ops.specs.declared.fault.OpFault.{OpFault}
 use Rattle.dd_ops.specs.declared.fault.OpFault.TheVariants.{StepsOut}
 use Rattle.dual_rail.specs.declared.rails.Rails.{Rails}
-use Rattle.dual_rail.specs.Rail.{AreRails, AreRefs, Built}
-use Rattle.dual_rail.proofs.Turns.{zip_long}
+use Rattle.dual_rail.specs.Rail.{AreRails, Built}
 use Rattle.net_core.specs.declared.bit_set.BitSet.{BitSet}
 use Rattle.net_core.specs.declared.raw.RawNet.{RawNet}
 use Rattle.net_core.specs.Work.{ArePossibleEach, SymbolicAsked, SymbolicSet, time_work}
@@ -24,7 +24,9 @@ use Rattle.ste_model.specs.Found.{IsTableOf}
 use Rattle.ste_model.specs.Report.{IsFailingPlace}
 use Rattle.ste_model.specs.Work.{latches_at, symbolic_asked_at, symbolic_cuts_at}
 use Rattle.sym_step.specs.declared.cut.Cut.{Cut}
+use Rattle.sym_step.specs.declared.frame.Frame.{Frame}
 use Rattle.sym_step.specs.declared.made.Step.{Step}
+use Rattle.sym_step.specs.private.Frames.{step_of}
 use Rattle.sym_step.specs.Step.{IsCutBy, IsStep}
 use Rattle.ste_engine.specs.declared.failing.Failure.{Failure}
 use Rattle.ste_engine.specs.private.Places.{FailsBy, MakesNothing, fixed_task}
@@ -32,7 +34,6 @@ use Rattle.ste_engine.proofs.Constants.{never_out, nothing_made, of_time}
 use Rattle.ste_engine.proofs.Family.{family_at}
 use Rattle.ste_engine.proofs.FirstFails.{IsFirstFail}
 use Rattle.ste_engine.proofs.FixedTasks.{constant_cuts, constant_family, constant_latches, constant_table, fixed_depth, fixed_whole}
-use Rattle.ste_engine.proofs.Times.{held_long, zip_refs}
 
 -- ---- nothing is made
 
@@ -59,24 +60,18 @@ module _ (net : RawNet) (task : Assertion) (bits : List Bool) (failure : Failure
   pub place_begins : (table : ℕ → ℕ → BitSet) (t : Store) (held : List Rails) → IsGood t → AllZip (AreRails t) (latches_at net fixed (constant_table table) 0) held → IsPlaceAt table t 0 held
   place_begins table t held d zip = record { latches = zip; none = λ j lt. absurd (omega (arith, lt)) }
 
-  pub place_long : (table : ℕ → ℕ → BitSet) (t : Store) (k : ℕ) (held : List Rails) → IsPlaceAt table t k held → length held ≡ length net.latches
-  place_long table t k held p = sym (zip_long (AreRails t) (latches_at net fixed (constant_table table) k) held p.latches) ∙ held_long net fixed (constant_table table) k
-
-  pub place_refs : (table : ℕ → ℕ → BitSet) (t : Store) (k : ℕ) (held : List Rails) → IsPlaceAt table t k held → All (AreRefs t) held
-  place_refs table t k held p = zip_refs t (latches_at net fixed (constant_table table) k) held p.latches
-
-  module _ (table : ℕ → ℕ → BitSet) (is : IsTableOf net task bits table) (t u : Store) (k : ℕ) (lt : k < depth task) where
-    abbrev pub StepCall : List Cut → List Rails → Result Step OpFault → Type 0
+  module _ (table : ℕ → ℕ → BitSet) (is : IsTableOf net task bits table) (t u : Store) (k : ℕ) (lt : k < depth task) (frame : Frame) where
+    abbrev pub StepCall : List Cut → List Rails → Result Ref OpFault → Type 0
     StepCall cuts held result = (ls : List SymbolicSet) (asked : SymbolicAsked) (sets : ℕ → SymbolicSet) → AllZip (AreRails t) ls held → AllZip (IsCutBy t) asked.cuts cuts → ArePossibleEach t.vars net ls asked sets
-        → Built (time_work net ls asked sets) (IsStep net sets) t u result
+        → Built (time_work net ls asked sets) (λ (v : Store) (r : Ref). IsStep net sets v (step_of net frame r)) t u result
 
-    pub step_built : (cuts : List Cut) (held : List Rails) (result : Result Step OpFault) → AllZip (IsCutBy t) (symbolic_cuts_at fixed.ant k) cuts → IsPlaceAt table t k held → StepCall cuts held result
-        → Built (time_work net (latches_at net fixed (constant_table table) k) (symbolic_asked_at fixed k) (constant_table table k)) (IsStep net (constant_table table k)) t u result
+    pub step_built : (cuts : List Cut) (held : List Rails) (result : Result Ref OpFault) → AllZip (IsCutBy t) (symbolic_cuts_at fixed.ant k) cuts → IsPlaceAt table t k held → StepCall cuts held result
+        → Built (time_work net (latches_at net fixed (constant_table table) k) (symbolic_asked_at fixed k) (constant_table table k)) (λ (v : Store) (r : Ref). IsStep net (constant_table table k) v (step_of net frame r)) t u result
     step_built cuts held result fits p call =
         call (latches_at net fixed (constant_table table) k) (symbolic_asked_at fixed k) (constant_table table k) p.latches fits
         (family_at net t.vars fixed (constant_table table) k (fixed_whole net t.vars task bits table is) (subst (λ n. k < n) (sym (fixed_depth bits task)) lt))
 
-    module _ (cuts : List Cut) (held : List Rails) (result : Result Step OpFault) (gu : IsGood u) (made : All (λ r. IsSome (u.held r)) u.made)
+    module _ (cuts : List Cut) (held : List Rails) (result : Result Ref OpFault) (gu : IsGood u) (made : All (λ r. IsSome (u.held r)) u.made)
         (fits : AllZip (IsCutBy t) (symbolic_cuts_at fixed.ant k) cuts) (p : IsPlaceAt table t k held) (call : StepCall cuts held result) where
       -- a step makes nothing
       pub step_makes : MakesNothing t u

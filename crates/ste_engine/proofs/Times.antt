@@ -21,7 +21,7 @@ use Rattle.ste_model.specs.Need.{IsWholeTable}
 use Rattle.ste_model.specs.Work.{all_empty, all_strong, all_weak, consequents_work, constant_set, latches_at, over_times, quints_work, strong_findings, symbolic_asked_at, symbolic_cuts_at, task_work, weak_findings, work_at}
 use Rattle.dual_rail.specs.declared.rails.Rails.{Rails}
 use Rattle.dual_rail.specs.Rail.{AreRails, AreRefs, Built}
-use Rattle.dual_rail.proofs.Turns.{within_more, zip_long}
+use Rattle.dual_rail.proofs.Turns.{within_more}
 use Rattle.dual_rail.proofs.Works.{Built-wider, Rails-keep, SoFar, Within, behind, last, refs_of}
 use Rattle.sym_step.specs.declared.cut.Cut.{Cut}
 use Rattle.sym_step.specs.Step.{IsCutBy}
@@ -82,16 +82,12 @@ strong_sum task table n = sum (over_times (λ t. strong_findings (table t) (symb
 abbrev pub weak_sum : Assertion → (ℕ → ℕ → SymbolicSet) → ℕ → Function
 weak_sum task table n = sum (over_times (λ t. weak_findings (table t) (symbolic_cuts_at task.con t)) n)
 
-pub record ReachedAt (net : RawNet) (task : Assertion) (table : ℕ → ℕ → SymbolicSet) (s t : Store) (n : ℕ) (r : Turned) : Type 0 where
+pub record ReachedAt (net : RawNet) (task : Assertion) (table : ℕ → ℕ → SymbolicSet) (s t : Store) (n : ℕ) (held : List Rails) (r : Turned) : Type 0 where
   pub so : SoFar (task_work net task table) s t
-  pub next : AllZip (AreRails t) (latches_at net task table n) r.next
+  pub next : AllZip (AreRails t) (latches_at net task table n) held
   pub contradictory : Means t (empty_sum net table n) r.contradictory
   pub found : AreFound (strong_sum task table n) (weak_sum task table n) t r.found
   pub nets : (k id : ℕ) → k < n → id < net.nets → (rails : Rails) × AreRails t (table k id) rails
-
-pub held_long : (net : RawNet) (task : Assertion) (table : ℕ → ℕ → SymbolicSet) (n : ℕ) → length (latches_at net task table n) ≡ length net.latches
-held_long net task table zero = length-map net.latches (λ latch. constant_set (first_set task.reset latch))
-held_long net task table (suc n) = length-map net.latches (λ (latch : Latch). table n latch.input.0)
 
 pub zip_refs : (t : Store) (sets : List SymbolicSet) (rails : List Rails) → AllZip (AreRails t) sets rails → All (AreRefs t) rails
 zip_refs t [] [] h = All-nil (AreRefs t)
@@ -100,10 +96,8 @@ zip_refs t (w ∷ ws) [] h = absurd h
 zip_refs t (w ∷ ws) (r ∷ rs) h = All-cons (AreRefs t) r rs (refs_of t w r h.0) (zip_refs t ws rs h.1)
 
 -- what one time goes on with is held
-pub turned_refs : (net : RawNet) (task : Assertion) (table : ℕ → ℕ → SymbolicSet) (s t : Store) (n : ℕ) (r : Turned) → ReachedAt net task table s t n r → AreTurnedRefs t net r
-turned_refs net task table s t n r p = record {
-  long = sym (zip_long (AreRails t) (latches_at net task table n) r.next p.next) ∙ held_long net task table n;
-  latches = zip_refs t (latches_at net task table n) r.next p.next;
+pub turned_refs : (net : RawNet) (task : Assertion) (table : ℕ → ℕ → SymbolicSet) (s t : Store) (n : ℕ) (held : List Rails) (r : Turned) → ReachedAt net task table s t n held r → AreTurnedRefs t r
+turned_refs net task table s t n held r p = record {
   contradictory = p.contradictory.ref;
   found = record { strong = p.found.strong.ref; weak = p.found.weak.ref };
 }
@@ -159,7 +153,7 @@ module _ (net : RawNet) (task : Assertion) (table : ℕ → ℕ → SymbolicSet)
   abbrev pub turned_at : ℕ → List Function
   turned_at n = turned_work net (latches_at net task table n) (symbolic_cuts_at task.ant n) (symbolic_cuts_at task.con n) (table n) (empty_sum net table n) (strong_sum task table n) (weak_sum task table n)
 
-  abbrev pub IsTurnedAt : ℕ → Store → Turned → Type 0
+  abbrev pub IsTurnedAt : ℕ → List Rails → Store → Turned → Type 0
   IsTurnedAt n = IsTurned net (symbolic_cuts_at task.con n) (table n) (empty_sum net table n) (strong_sum task table n) (weak_sum task table n)
 
   turned_in : (n : ℕ) → n < depth task → Within (turned_at n) (task_work net task table)
@@ -185,27 +179,27 @@ module _ (net : RawNet) (task : Assertion) (table : ℕ → ℕ → SymbolicSet)
       (Contains-append_cases time (e ∷ (cons ++ (S ++ W))) f h)
 
   -- one time more
-  pub time_call : (s t u : Store) (n : ℕ) (ant con : List Cut) (before : Turned) (result : Result Turned OpFault) → IsWholeTable net s.vars task table → n < depth task
-      → AllZip (IsCutBy t) (symbolic_cuts_at task.ant n) ant → AllZip (IsCutBy t) (symbolic_cuts_at task.con n) con → ReachedAt net task table s t n before
-      → ((ls : List SymbolicSet) (ds es : List SymbolicCut) (sets : ℕ → SymbolicSet) (c f h : Function) → AllZip (AreRails t) ls before.next → AllZip (IsCutBy t) ds ant → AllZip (IsCutBy t) es con
-      → ArePossibleEach t.vars net ls (asked_by ds) sets → Means t c before.contradictory → AreFound f h t before.found → Built (turned_work net ls ds es sets c f h) (IsTurned net es sets c f h) t u result)
-      → Built (turned_at n) (IsTurnedAt n) t u result
-  time_call s t u n ant con before result whole lt fits_ant fits_con p call =
+  pub time_call : (s t u : Store) (n : ℕ) (ant con : List Cut) (old new : List Rails) (before : Turned) (result : Result Turned OpFault) → IsWholeTable net s.vars task table → n < depth task
+      → AllZip (IsCutBy t) (symbolic_cuts_at task.ant n) ant → AllZip (IsCutBy t) (symbolic_cuts_at task.con n) con → ReachedAt net task table s t n old before
+      → ((ls : List SymbolicSet) (ds es : List SymbolicCut) (sets : ℕ → SymbolicSet) (c f h : Function) → AllZip (AreRails t) ls old → AllZip (IsCutBy t) ds ant → AllZip (IsCutBy t) es con
+      → ArePossibleEach t.vars net ls (asked_by ds) sets → Means t c before.contradictory → AreFound f h t before.found → Built (turned_work net ls ds es sets c f h) (IsTurned net es sets c f h new) t u result)
+      → Built (turned_at n) (IsTurnedAt n new) t u result
+  time_call s t u n ant con old new before result whole lt fits_ant fits_con p call =
       call (latches_at net task table n) (symbolic_cuts_at task.ant n) (symbolic_cuts_at task.con n) (table n) (empty_sum net table n) (strong_sum task table n) (weak_sum task table n)
       p.next fits_ant fits_con
       (subst (λ v. ArePossibleEach v net (latches_at net task table n) (symbolic_asked_at task n) (table n)) (sym p.so.keeps.vars) (family_at net s.vars task table n whole lt)) p.contradictory p.found
 
-  pub time_turn : (s t u : Store) (n : ℕ) (before : Turned) (result : Result Turned OpFault) → IsGood t → IsGood u → n < depth task → ReachedAt net task table s t n before
-      → Built (turned_at n) (IsTurnedAt n) t u result → Built (task_work net task table) (IsTurnedAt n) s u result
-  time_turn s t u n before result gt gu lt p b =
-      last (task_work net task table) (IsTurnedAt n) s t u result gt gu p.so (Built-wider (task_work net task table) (turned_at n) (IsTurnedAt n) t u result (turned_in n lt) b)
+  pub time_turn : (s t u : Store) (n : ℕ) (old new : List Rails) (before : Turned) (result : Result Turned OpFault) → IsGood t → IsGood u → n < depth task → ReachedAt net task table s t n old before
+      → Built (turned_at n) (IsTurnedAt n new) t u result → Built (task_work net task table) (IsTurnedAt n new) s u result
+  time_turn s t u n old new before result gt gu lt p b =
+      last (task_work net task table) (IsTurnedAt n new) s t u result gt gu p.so (Built-wider (task_work net task table) (turned_at n) (IsTurnedAt n new) t u result (turned_in n lt) b)
 
-  pub reached_next : (s t u : Store) (n : ℕ) (before r : Turned) → IsGood t → IsGood u → Keeps t u → ReachedAt net task table s t n before → SoFar (task_work net task table) s u → IsTurnedAt n u r → ReachedAt net task table s u (n + 1) r
-  reached_next s t u n before r gt gu keeps old so p =
+  pub reached_next : (s t u : Store) (n : ℕ) (held new : List Rails) (before r : Turned) → IsGood t → IsGood u → Keeps t u → ReachedAt net task table s t n held before → SoFar (task_work net task table) s u → IsTurnedAt n new u r → ReachedAt net task table s u (n + 1) new r
+  reached_next s t u n held new before r gt gu keeps old so p =
       let e : n + 1 ≡ suc n = omega arith in
       record {
         so = so;
-        next = subst (λ k. AllZip (AreRails u) (latches_at net task table k) r.next) (sym e) p.next;
+        next = subst (λ k. AllZip (AreRails u) (latches_at net task table k) new) (sym e) p.next;
         contradictory = subst (λ f. Means u f r.contradictory) (sym (sum_next (λ t. some_empty net (table t) ∷ []) n)) p.contradictory;
         found = record {
           strong = subst (λ f. Means u f r.found.strong) (sym (sum_next (λ t. strong_findings (table t) (symbolic_cuts_at task.con t)) n)) p.found.strong;

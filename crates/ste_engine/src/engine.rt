@@ -18,14 +18,14 @@ use crate::finish::finish;
 use crate::reports::{budget_report, report_of};
 use crate::results::Results;
 use crate::timeline::Timeline;
-use crate::turn::{at_start, turn};
+use crate::turn::{at_start, first_frame, turn};
 use dd_nodes::Nodes;
 use dd_ops::{OpFault, Ops};
 use net_core::Net;
 use std::alloc::{AllocError, Global};
 use ste_base::Time;
 use ste_model::{Assertion, Quint, Report, depth};
-use sym_step::{Frame, GateRows};
+use sym_step::GateRows;
 
 /// The references of quintuples, as a timeline before time 0.
 fn line_of<N: Nodes>(
@@ -69,11 +69,8 @@ fn results<N: Nodes>(
     let depth = depth(task);
     let mut ant = line_of(alloc, ops, nodes, task.ant.as_slice(), depth)?;
     let mut con = line_of(alloc, ops, nodes, task.con.as_slice(), depth)?;
-    let mut reached = match at_start(alloc, net, task.reset) {
-        Ok(reached) => reached,
-        Err(_) => return Err(OpFault::OutOfMemory),
-    };
-    let mut frame = match Frame::blank(alloc, net) {
+    let mut reached = at_start();
+    let mut frame = match first_frame(alloc, net, task.reset) {
         Ok(frame) => frame,
         Err(_) => return Err(OpFault::OutOfMemory),
     };

@@ -1,12 +1,13 @@
 //! How a consequent fails where all references are constants; begin with `first_failing`.
 
 ghost use Rattle.std.specs.Prelude.{◌≡◌, ◌<◌, All, length};
+ghost use Rattle.sym_step.specs.private.Frames.{nets_of};
 ghost use Rattle.ste_engine.specs.private.Places.{fails, first_failing};
 
 use dd_nodes::Ref;
 use dual_rail::Rails;
 use ste_base::NodeId;
-use sym_step::Cut;
+use sym_step::{Cut, Frame};
 
 /// How a consequent fails: its net can only have the opposite bit, or can have both.
 #[derive(Clone, Copy, Debug, PartialEq, Eq, Drop)]
@@ -36,13 +37,13 @@ fn fails(failure: Failure, r: Rails, c: Cut) -> bool
     }
 }
 
-/// The net of the first consequent that fails so, on the sets of all nets.
-pub fn first_failing(failure: Failure, nets: &[Rails], cuts: &[Cut]) -> Option<NodeId>
-    requires { All (λ c. c.node.0 < length nets.now) cuts.now }
-    ensures { result ≡ first_failing failure nets.now cuts.now }
+/// The net of the first consequent that fails so, on the sets of a frame.
+pub fn first_failing(failure: Failure, frame: &Frame, cuts: &[Cut]) -> Option<NodeId>
+    requires { All (λ c. c.node.0 < length (nets_of frame.now)) cuts.now }
+    ensures { result ≡ first_failing failure (nets_of frame.now) cuts.now }
 {
     for c in cuts {
-        if fails(failure, nets[c.node.0 as usize], *c) {
+        if fails(failure, frame.rails(c.node), *c) {
             return Some(c.node);
         }
     }

@@ -7,6 +7,7 @@ ghost use Rattle.dd_nodes.specs.Stores.{IsRef, Means};
 ghost use Rattle.net_core.specs.Work.{SymbolicCut, SymbolicSet, conjunction, disjunction, negation};
 ghost use Rattle.dual_rail.specs.Rail.{AreRails, AreRefs, Built, HasFunction};
 ghost use Rattle.sym_step.specs.Step.{IsCutBy, rails_at};
+ghost use Rattle.sym_step.specs.private.Frames.{nets_of};
 ghost use Rattle.ste_model.specs.Work.{both_bits, found_strong, found_weak, refutes};
 ghost use Rattle.ste_engine.specs.private.Finds.{AreFound, AreFoundRefs, add_work, both_except_work, except, except_work, find_work, found_work, more_strong, more_weak, opposite_except_work, refutes_work, strong_work, weak_work};
 
@@ -14,7 +15,7 @@ use crate::results::Found;
 use dd_nodes::{Nodes, Ref};
 use dd_ops::{OpFault, Ops};
 use dual_rail::{Rails, both, either};
-use sym_step::Cut;
+use sym_step::{Cut, Frame};
 
 /// Where the one is 1 and the other is 0.
 pub fn but_not<N: Nodes>(ops: &Ops, nodes: &mut N, one: Ref, other: Ref) -> Result<Ref, OpFault>
@@ -184,25 +185,25 @@ fn find<N: Nodes>(
 pub fn find_all<N: Nodes>(
     ops: &Ops,
     nodes: &mut N,
-    nets: &[Rails],
+    frame: &Frame,
     cuts: &[Cut],
     found: Found,
 ) -> Result<Found, OpFault>
-    requires nets { All (AreRefs (N.store nodes.old)) nets.now }
-    requires inside { All (λ c. c.node.0 < length nets.now) cuts.now }
+    requires nets { All (AreRefs (N.store nodes.old)) (nets_of frame.now) }
+    requires inside { All (λ c. c.node.0 < length (nets_of frame.now)) cuts.now }
     requires guards { All (λ c. IsRef (N.store nodes.old) c.guard) cuts.now }
     requires values { All (λ c. IsRef (N.store nodes.old) c.value) cuts.now }
     requires found { AreFoundRefs (N.store nodes.old) found }
     ensures { (sets : ℕ → SymbolicSet) (ds : List SymbolicCut) (f h : Function)
-        → ((id : ℕ) → id < length nets.now
-        → AreRails (N.store nodes.old) (sets id) (rails_at nets.now id))
+        → ((id : ℕ) → id < length (nets_of frame.now)
+        → AreRails (N.store nodes.old) (sets id) (rails_at (nets_of frame.now) id))
         → AllZip (IsCutBy (N.store nodes.old)) ds cuts.now → AreFound f h (N.store nodes.old) found
         → Built (found_work sets ds f h) (AreFound (more_strong sets ds f) (more_weak sets ds h))
         (N.store nodes.old) (N.store nodes.new) result }
 {
     let mut all = found;
     for c in cuts {
-        all = find(ops, nodes, nets[c.node.0 as usize], *c, all)?;
+        all = find(ops, nodes, frame.rails(c.node), *c, all)?;
     }
     Ok(all)
 }

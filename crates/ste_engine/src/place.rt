@@ -10,7 +10,7 @@ ghost use Rattle.ste_engine.specs.private.Times.{IsTimeline};
 use crate::asks::Ask;
 use crate::failing::{Failure, first_failing};
 use crate::timeline::Timeline;
-use crate::turn::first_sets;
+use crate::turn::first_frame;
 use bool_expr::value;
 use dd_nodes::{Nodes, Ref};
 use dd_ops::{OpFault, Ops};
@@ -18,7 +18,7 @@ use net_core::Net;
 use std::alloc::{AllocError, Global};
 use ste_base::{NodeId, Time};
 use ste_model::{Assertion, Quint, depth};
-use sym_step::{Cut, Frame, GateRows, advance};
+use sym_step::{Cut, GateRows, renew};
 
 /// The constant of a bit.
 pub fn constant(bit: bool) -> Ref
@@ -91,30 +91,19 @@ pub fn failing_place<N: Nodes>(
     let depth = depth(task);
     let mut ant = fixed_line(alloc, task.ant.as_slice(), bits, depth)?;
     let mut con = fixed_line(alloc, task.con.as_slice(), bits, depth)?;
-    let mut latches = first_sets(alloc, net, task.reset)?;
-    let mut frame = Frame::blank(alloc, net)?;
+    let mut frame = first_frame(alloc, net, task.reset)?;
     for t in 0..depth {
         let asked = ant.cuts_at(alloc, t)?;
         let wanted = con.cuts_at(alloc, t)?;
-        let made = match advance(
-            alloc,
-            ops,
-            nodes,
-            net,
-            rows,
-            latches.as_slice(),
-            asked.as_slice(),
-            &mut frame,
-        ) {
-            Ok(made) => made,
+        match renew(alloc, ops, nodes, net, rows, asked.as_slice(), &mut frame) {
+            Ok(_) => {}
             Err(OpFault::OutOfMemory) => return Err(AllocError),
             // Nothing has to be made, so no step is wanted.
             Err(OpFault::StepsOut) => unreachable!(),
-        };
-        if let Some(node) = first_failing(failure, made.nets.as_slice(), wanted.as_slice()) {
+        }
+        if let Some(node) = first_failing(failure, &frame, wanted.as_slice()) {
             return Ok((node, t));
         }
-        latches = made.next;
     }
     // Some consequent fails so at some time below the depth.
     unreachable!()

@@ -2,12 +2,12 @@
 
 ghost use Rattle.std.specs.Prelude.{◌≡◌, ℕ, List, All, IfOk, OnOk, map};
 ghost use Rattle.std.specs.List.{AllZip};
-ghost use Rattle.dd_nodes.specs.Diagram.{Function};
-ghost use Rattle.dd_nodes.specs.Stores.{Means};
+ghost use Rattle.dd_nodes.specs.Diagram.{Function, IsDiagram};
+ghost use Rattle.dd_nodes.specs.Stores.{Means, Store};
 ghost use Rattle.net_core.specs.Work.{ArePossibleEach, SymbolicCut, SymbolicSet};
 ghost use Rattle.dual_rail.specs.Rail.{AreRails, Built};
 ghost use Rattle.sym_step.specs.Step.{IsCutBy, IsCutOf, rows_of};
-ghost use Rattle.sym_step.specs.private.Frames.{IsFrame};
+ghost use Rattle.sym_step.specs.private.Frames.{IsFrame, next_of};
 ghost use Rattle.ste_engine.specs.private.Finds.{AreFound};
 ghost use Rattle.ste_engine.specs.private.Turns.{AreTurnedRefs, IsTurned, asked_by, first_rails, turned_work};
 
@@ -19,12 +19,11 @@ use dual_rail::{Rails, either, free, one, zero};
 use net_core::{Init, Latch, Net};
 use std::alloc::{AllocError, Global};
 use ste_base::Items;
-use sym_step::{Cut, Frame, GateRows, advance};
+use sym_step::{Cut, Frame, GateRows, renew};
 
-/// What the times so far leave: the latches' sets of the next time, where some net was empty, and what is found.
+/// What the times so far leave beside their frame: where some net was empty, and what is found.
 #[derive(Debug, Drop)]
 pub struct Turned {
-    pub next: Items<Rails>,
     pub contradictory: Ref,
     pub found: Found,
 }
@@ -54,21 +53,32 @@ pub fn first_sets(alloc: Global, net: &Net, reset: bool) -> Result<Items<Rails>,
     Ok(Items::from(sets))
 }
 
-/// What there is before time 0.
-pub fn at_start(alloc: Global, net: &Net, reset: bool) -> Result<Turned, AllocError>
-    ensures next { IfOk result (λ r. r.next ≡ map (first_rails reset) net.now.raw.latches) }
-    ensures contradictory { IfOk result (λ r. r.contradictory ≡ Ref.FALSE) }
-    ensures found { IfOk result (λ r. r.found ≡ record { strong = Ref.FALSE; weak = Ref.FALSE }) }
+/// The frame before time 0.
+pub fn first_frame(alloc: Global, net: &Net, reset: bool) -> Result<Frame, AllocError>
+    ensures frame { IfOk result (λ frame. (s : Store)
+        → IsDiagram s.held s.vars → IsFrame s net.now.raw frame) }
+    ensures next { IfOk result (λ frame.
+        next_of net.now.raw frame ≡ map (first_rails reset) net.now.raw.latches) }
 {
-    let next = first_sets(alloc, net, reset)?;
-    Ok(Turned {
-        next,
+    let first = first_sets(alloc, net, reset)?;
+    let frame = Frame::starting(alloc, net, first)?;
+    Ok(frame)
+}
+
+/// What there is before time 0.
+pub fn at_start() -> Turned
+    ensures { result ≡ record {
+      contradictory = Ref.FALSE;
+      found = record { strong = Ref.FALSE; weak = Ref.FALSE };
+    } }
+{
+    Turned {
         contradictory: Ref::FALSE,
         found: Found {
             strong: Ref::FALSE,
             weak: Ref::FALSE,
         },
-    })
+    }
 }
 
 /// One time: its sets, and what is found there. `ant` is what is asked, `con` what is to follow; the frame keeps the time
@@ -87,34 +97,25 @@ pub fn turn<N: Nodes>(
     requires rows { rows.now.covers ≡ map rows_of net.now.raw.covers }
     requires ant { All (IsCutOf (N.store nodes.old) net.now.raw) ant.now }
     requires con { All (IsCutOf (N.store nodes.old) net.now.raw) con.now }
-    requires before { AreTurnedRefs (N.store nodes.old) net.now.raw before.now }
+    requires before { AreTurnedRefs (N.store nodes.old) before.now }
     requires frame { IsFrame (N.store nodes.old) net.now.raw frame.old }
     ensures frame { OnOk result (IsFrame (N.store nodes.new) net.now.raw frame.new) }
     ensures built { (ls : List SymbolicSet) (ds es : List SymbolicCut)
         (sets : ℕ → SymbolicSet) (c f h : Function)
-        → AllZip (AreRails (N.store nodes.old)) ls before.now.next
+        → AllZip (AreRails (N.store nodes.old)) ls (next_of net.now.raw frame.old)
         → AllZip (IsCutBy (N.store nodes.old)) ds ant.now
         → AllZip (IsCutBy (N.store nodes.old)) es con.now
         → ArePossibleEach (N.store nodes.old).vars net.now.raw ls (asked_by ds) sets
         → Means (N.store nodes.old) c before.now.contradictory
         → AreFound f h (N.store nodes.old) before.now.found
-        → Built (turned_work net.now.raw ls ds es sets c f h) (IsTurned net.now.raw es sets c f h)
+        → Built (turned_work net.now.raw ls ds es sets c f h)
+        (IsTurned net.now.raw es sets c f h (next_of net.now.raw frame.new))
         (N.store nodes.old) (N.store nodes.new) result }
 {
-    let made = advance(
-        alloc,
-        ops,
-        nodes,
-        net,
-        rows,
-        before.next.as_slice(),
-        ant,
-        frame,
-    )?;
-    let contradictory = either(ops, nodes, before.contradictory, made.contradictory)?;
-    let found = find_all(ops, nodes, made.nets.as_slice(), con, before.found)?;
+    let empty = renew(alloc, ops, nodes, net, rows, ant, frame)?;
+    let contradictory = either(ops, nodes, before.contradictory, empty)?;
+    let found = find_all(ops, nodes, frame, con, before.found)?;
     Ok(Turned {
-        next: made.next,
         contradictory,
         found,
     })

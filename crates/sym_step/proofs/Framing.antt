@@ -1,29 +1,34 @@
 -- What is kept of the time before, while nets get their sets.
-use Rattle.std.proofs.Common.{◌≡◌, ℕ, ◌<◌, Bool, false, List, [], ◌∷◌, ◌++◌, length, take, map, get_or, set, refl, sym, ◌∙◌, ap, subst, arith, inl, inr, All, get_or-set_same, get_or-set_other}
+use Rattle.std.proofs.Common.{◌≡◌, ℕ, ◌<◌, Bool, false, List, Option, None, Some, [], ◌∷◌, ◌++◌, length, take, map, get_or, set, refl, sym, ◌∙◌, ap, subst, arith, inl, inr, All, get_or-set_same, get_or-set_other}
 use Rattle.std.specs.List.{AllZip}
 use Rattle.std.proofs.lemmas.Bool.{cases_eq}
-use Rattle.std.proofs.lemmas.List.{get_or_default}
+use Rattle.std.proofs.lemmas.List.{get_or_default, length-map}
 use Rattle.std.proofs.Math.Seq.{take-append_seam}
-use Rattle.std.proofs.lemmas.List.Elements.{All-head, All-tail}
+use Rattle.std.proofs.lemmas.List.Elements.{All-cons, All-head, All-nil, All-tail}
 use Rattle.ste_base.specs.declared.id.NodeId.{NodeId}
 use Rattle.dd_nodes.specs.declared.node.Ref.{Ref}
 use Rattle.dd_nodes.specs.Diagram.{Function}
 use Rattle.dd_nodes.specs.Stores.{Store, IsRef, Keeps, Means}
 use Rattle.dd_nodes.proofs.Stores.{IsGood, function-keeps}
+use Rattle.dual_rail.specs.declared.rails.Rails.{Rails}
+use Rattle.dual_rail.specs.Rail.{AreRails, AreRefs}
+use Rattle.dual_rail.proofs.Turns.{All-refs-keep}
 use Rattle.net_core.specs.declared.bit_set.BitSet.{BitSet}
+use Rattle.net_core.specs.declared.raw.Latch.{Latch}
 use Rattle.net_core.specs.declared.raw.Gate.{Gate}
 use Rattle.net_core.specs.declared.raw.RawNet.{RawNet}
 use Rattle.net_core.specs.Flat.{IsInRange, HasOneDriver, IsSettledOrder}
 use Rattle.net_core.specs.Possible.{MayGive}
 use Rattle.net_core.specs.Run.{gate_bit}
-use Rattle.net_core.specs.Work.{ArePossibleEach, SymbolicCut, SymbolicSet, everything, output_set, set_at, uncut}
+use Rattle.net_core.specs.Work.{ArePossibleEach, SymbolicCut, SymbolicSet, everything, output_set, set_at, some_empty, uncut}
 use Rattle.net_core.proofs.OneTime.{fixed, gate_in}
 use Rattle.net_core.proofs.Possible.{same_fields, same_set}
 use Rattle.sym_step.specs.declared.cut.Cut.{Cut}
 use Rattle.sym_step.specs.declared.frame.Frame.{Frame}
+use Rattle.sym_step.specs.declared.made.Step.{Step}
 use Rattle.sym_step.specs.declared.net_rails.NetRails.{NetRails}
-use Rattle.sym_step.specs.Step.{IsCutBy}
-use Rattle.sym_step.specs.private.Frames.{AreKept, AreNoted, IsFrame, IsGiven, flag_at}
+use Rattle.sym_step.specs.Step.{HaveSets, IsCutBy, IsStep}
+use Rattle.sym_step.specs.private.Frames.{AreFirst, AreKept, AreNoted, IsFrame, IsGiven, bare, first_or, flag_at, input_rails, nets_of, next_of, step_of}
 use Rattle.sym_step.specs.private.NetSets.{AreNetRails, AreNetRefs, net_at, own_where}
 use Rattle.sym_step.specs.private.Parts.{AreMarks, HaveNets, asks}
 use Rattle.sym_step.proofs.Cutting.{unmarked}
@@ -117,7 +122,60 @@ frame_keeps s t net frame range ds dt k f = record {
   room = f.room;
   inside = f.inside;
   undriven = λ id lt is none. Net-keeps s t everything (net_at frame.nets.items id) ds dt k (f.undriven id lt is none);
+  first = λ sets is. let h = f.first sets is in record { long = h.long; refs = All-refs-keep s t sets k h.refs };
   kept = λ n d lt uncut. given_keeps s t net frame.nets.items (get_or net.gates n d) ds dt k f.refs (inside_by net frame.nets.items range f.long n d lt) (f.kept n d lt uncut);
+}
+
+-- ---- the latches' next sets
+
+-- the nets' rails are held
+pub rails_refs : (s : Store) (nets : List NetRails) → All (AreNetRefs s) nets → All (AreRefs s) (map bare nets)
+rails_refs s [] h = All-nil (AreRefs s)
+rails_refs s (r ∷ rs) h = let own = All-head (AreNetRefs s) r rs h in All-cons (AreRefs s) (bare r) (map bare rs) (record { zero = own.zero; one = own.one }) (rails_refs s rs (All-tail (AreNetRefs s) r rs h))
+
+inputs_refs : (s : Store) (nets : List Rails) (latches : List Latch) → All (AreRefs s) nets → All (λ latch. latch.input.0 < length nets) latches → All (AreRefs s) (map (input_rails nets) latches)
+inputs_refs s nets [] refs inside = All-nil (AreRefs s)
+inputs_refs s nets (x ∷ xs) refs inside = All-cons (AreRefs s) (input_rails nets x) (map (input_rails nets) xs)
+    (refs x.input.0 _ (All-head (λ (latch : Latch). latch.input.0 < length nets) x xs inside)) (inputs_refs s nets xs refs (All-tail (λ (latch : Latch). latch.input.0 < length nets) x xs inside))
+
+-- the latches' inputs are nets of a frame
+pub inputs_inside : (s : Store) (net : RawNet) (frame : Frame) → IsInRange net → IsFrame s net frame → All (λ latch. latch.input.0 < length (nets_of frame)) net.latches
+inputs_inside s net frame range f k d lt = subst (λ (n : ℕ). (get_or net.latches k d).input.0 < n) (sym (length-map frame.nets.items bare ∙ f.long)) (range.latch_inputs k d lt)
+
+-- the sets that the latches have at the time behind a frame are held, one for each
+pub next_first : (s : Store) (net : RawNet) (frame : Frame) → IsInRange net → IsFrame s net frame → AreFirst s net (next_of net frame)
+next_first s net frame range f = by frame.first refl
+  where
+    by : (o : Option (List Rails)) → frame.first ≡ o → AreFirst s net (first_or o (map (input_rails (nets_of frame)) net.latches))
+    by None e = record {
+      long = length-map net.latches (input_rails (nets_of frame));
+      refs = inputs_refs s (nets_of frame) net.latches (rails_refs s frame.nets.items f.refs) (inputs_inside s net frame range f);
+    }
+    by (Some sets) e = f.first sets e
+
+-- a frame with other first sets, or none
+pub with_first : (s : Store) (net : RawNet) (frame : Frame) (first : Option (List Rails)) → IsFrame s net frame → ((sets : List Rails) → first ≡ Some sets → AreFirst s net sets) → IsFrame s net (record frame { first = first })
+with_first s net frame first f h = record {
+  long = f.long;
+  marked = f.marked;
+  refs = f.refs;
+  room = f.room;
+  inside = f.inside;
+  undriven = f.undriven;
+  first = h;
+  kept = f.kept;
+}
+
+pub not_first : (s : Store) (net : RawNet) (first : Option (List Rails)) → first ≡ None → (sets : List Rails) → first ≡ Some sets → AreFirst s net sets
+not_first s net first none sets some = absurd (cc (sym none ∙ some))
+
+-- a step with what a frame has of its time
+pub same_step : (net : RawNet) (sets : ℕ → SymbolicSet) (t : Store) (frame : Frame) (r : Ref) (made : Step) → made.nets ≡ nets_of frame → made.contradictory ≡ r → made.next ≡ next_of net frame → IsStep net sets t (step_of net frame r) → IsStep net sets t made
+same_step net sets t frame r made nets empty next h = record {
+  long = ap length nets ∙ h.long;
+  nets = subst (HaveSets net sets t) (sym nets) h.nets;
+  contradictory = subst (Means t (some_empty net sets)) (sym empty) h.contradictory;
+  next = subst (λ (xs : List Rails). AllZip (AreRails t) (map (λ latch. sets latch.input.0) net.latches) xs) (sym next) h.next;
 }
 
 -- ---- a time that is done

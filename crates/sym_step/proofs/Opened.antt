@@ -1,5 +1,5 @@
 -- The nets that latches drive, and those that nothing drives, get their sets.
-use Rattle.std.proofs.Common.{◌≡◌, ◌≢◌, ℕ, zero, suc, ◌+◌, ◌<◌, Bool, true, false, List, [], ◌∷◌, length, map, get_or, set, replicate, refl, sym, ◌∙◌, ap, subst, arith, inl, inr, All, get_or-set_same, get_or-set_other, ne_eqb, eq-eqb, eqb-true, Ok, Err, Result}
+use Rattle.std.proofs.Common.{◌≡◌, ◌≢◌, ℕ, zero, suc, ◌+◌, ◌<◌, Bool, true, false, List, [], ◌∷◌, length, map, get_or, set, replicate, None, refl, sym, ◌∙◌, ap, subst, arith, inl, inr, All, get_or-set_same, get_or-set_other, ne_eqb, eq-eqb, eqb-true, Ok, Err, Result}
 use Rattle.dd_ops.specs.declared.fault.OpFault.{OpFault}
 use Rattle.std.specs.Prelude.{OnOk, ◌||◌, ◌==◌, AllPairs, if◌then◌else◌}
 use Rattle.std.specs.List.{AllZip}
@@ -26,6 +26,7 @@ use Rattle.sym_step.specs.declared.frame.Frame.{Frame}
 use Rattle.sym_step.specs.private.Frames.{AreOpen, HaveLatches, HaveOpen, IsFrame, IsOpen, StayRight, flag_at, is_listed}
 use Rattle.sym_step.specs.private.NetSets.{AreNetRails, AreNetRefs, net_at}
 use Rattle.sym_step.specs.private.Parts.{HaveNets, HaveSources, asks}
+use Rattle.sym_step.proofs.Framing.{not_first}
 use Rattle.sym_step.proofs.NetRefs.{Net-keeps}
 use Rattle.sym_step.proofs.Sourced.{all_unknown, before_by, known, unknown, unknown_net}
 use Rattle.sym_step.proofs.Turning.{Net-same}
@@ -65,13 +66,14 @@ at_replicate (suc n) zero x d lt = refl
 at_replicate (suc n) (suc k) x d lt = at_replicate n k x d (omega (arith, lt))
 
 -- a frame of no time is one
-pub blank_is : (s : Store) (net : RawNet) (frame : Frame) → IsGood s → IsInRange net → frame.nets.items ≡ replicate net.nets unknown → frame.cut.items ≡ replicate net.nets true → frame.asked.items ≡ [] → All (λ gate. length gate.inputs < length frame.products.items) net.gates → IsFrame s net frame
-blank_is s net frame gs range nets cut asked room = record {
+pub blank_is : (s : Store) (net : RawNet) (frame : Frame) → IsGood s → IsInRange net → frame.nets.items ≡ replicate net.nets unknown → frame.cut.items ≡ replicate net.nets true → frame.asked.items ≡ [] → frame.first ≡ None → All (λ gate. length gate.inputs < length frame.products.items) net.gates → IsFrame s net frame
+blank_is s net frame gs range nets cut asked none room = record {
   room = room;
   long = ap length nets ∙ length-replicate net.nets unknown;
   marked = ap length cut ∙ length-replicate net.nets true;
   refs = subst (All (AreNetRefs s)) (sym nets) (all_unknown s net.nets gs);
   inside = subst (All (λ (node : NodeId). node.0 < net.nets)) (sym asked) (All-nil (λ (node : NodeId). node.0 < net.nets));
+  first = not_first s net frame.first none;
   undriven = λ id lt is none. subst (AreNetRails s everything) (sym (ap (λ (xs : List NetRails). net_at xs id) nets ∙ at_replicate net.nets id unknown unknown lt)) (unknown_net s gs);
   kept = λ k d lt uncut. let id : ℕ = (get_or net.gates k d).output.0 in
       absurd (false≢true (sym uncut ∙ ap (λ (xs : List Bool). flag_at xs id) cut ∙ at_replicate net.nets id true false (range.gate_outputs k d lt)));

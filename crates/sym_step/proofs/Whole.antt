@@ -4,6 +4,8 @@ use Rattle.std.specs.List.{AllZip}
 use Rattle.std.proofs.lemmas.Bool.{cases_lt}
 use Rattle.std.proofs.lemmas.List.{length-map, get_or_default}
 use Rattle.std.proofs.lemmas.List.Elements.{All-head, All-tail, All-nil, All-cons}
+use Rattle.dd_nodes.specs.declared.node.Ref.{Ref}
+use Rattle.dd_nodes.specs.Diagram.{Function}
 use Rattle.dd_nodes.specs.Stores.{Store, IsRef, function}
 use Rattle.dd_nodes.proofs.Stores.{IsGood}
 use Rattle.dd_ops.specs.declared.fault.OpFault.{OpFault}
@@ -22,7 +24,9 @@ use Rattle.dual_rail.specs.Rail.{AreRails, AreRefs, Built, set_of}
 use Rattle.dual_rail.proofs.Works.{set_where, refs_of}
 use Rattle.dual_rail.proofs.Turns.{own_zip}
 use Rattle.sym_step.specs.declared.cut.Cut.{Cut}
+use Rattle.sym_step.specs.declared.frame.Frame.{Frame}
 use Rattle.sym_step.specs.declared.made.Step.{Step}
+use Rattle.sym_step.specs.private.Frames.{step_of}
 use Rattle.sym_step.specs.private.Parts.{asks}
 use Rattle.sym_step.specs.Step.{IsCutBy, IsCutOf, IsPossibleStep, IsStep, asked_of, rails_at, sets_of}
 use Rattle.sym_step.proofs.Cutting.{own_demands}
@@ -93,10 +97,16 @@ module _ (net : RawNet) (range : IsInRange net) (settled : IsSettled net) (latch
   abbrev pub exist : (sets : ℕ → SymbolicSet) × ArePossibleEach s.vars net ls asked sets
   exist = sets_exist net s.vars ls asked settled (length-map latches (set_where s) ∙ long)
 
+  -- the clause of a call at the references' own functions
+  pub own_call : {A : Type 0} (right : (ℕ → SymbolicSet) → Store → A → Type 0) (result : Result A OpFault)
+      → ((ls : List SymbolicSet) (asked : SymbolicAsked) (sets : ℕ → SymbolicSet) → AllZip (AreRails s) ls latches → AllZip (IsCutBy s) asked.cuts cuts → ArePossibleEach s.vars net ls asked sets → Built (time_work net ls asked sets) (right sets) s t result)
+      → Built (time_work net ls asked exist.0) (right exist.0) s t result
+  own_call right result call = call ls asked exist.0 (own_zip s latches refs) (own_demands s cuts (λ k d l. (good k d l).guard) (λ k d l. (good k d l).value)) exist.1
+
   pub own_built : (result : Result Step OpFault)
       → ((ls : List SymbolicSet) (asked : SymbolicAsked) (sets : ℕ → SymbolicSet) → AllZip (AreRails s) ls latches → AllZip (IsCutBy s) asked.cuts cuts → ArePossibleEach s.vars net ls asked sets → Built (time_work net ls asked sets) (IsStep net sets) s t result)
       → Built (time_work net ls asked exist.0) (IsStep net exist.0) s t result
-  own_built result call = call ls asked exist.0 (own_zip s latches refs) (own_demands s cuts (λ k d l. (good k d l).guard) (λ k d l. (good k d l).value)) exist.1
+  own_built result call = own_call (IsStep net) result call
 
   pub step_left : (r : Step) → Built (time_work net ls asked exist.0) (IsStep net exist.0) s t (Ok r) → StepLeft net latches cuts s t r
   step_left r made = record {
@@ -132,3 +142,8 @@ module _ (net : RawNet) (range : IsInRange net) (settled : IsSettled net) (latch
   pub possible_left : (result : Result Step OpFault) → Built (time_work net ls asked exist.0) (IsStep net exist.0) s t result → IfOk result (λ r. IsPossibleStep net latches cuts s t r)
   possible_left (Ok r) made = (step_left r made).possible
   possible_left (Err e) made = tt
+
+-- where some net is empty is held
+pub empty_ref : (net : RawNet) (sets : ℕ → SymbolicSet) (frame : Frame) (work : List Function) (s t : Store) (result : Result Ref OpFault) → Built work (λ (u : Store) (r : Ref). IsStep net sets u (step_of net frame r)) s t result → IfOk result (λ r. IsRef t r)
+empty_ref net sets frame work s t (Ok r) made = made.ok.contradictory.ref
+empty_ref net sets frame work s t (Err e) made = tt

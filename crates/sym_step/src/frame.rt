@@ -1,28 +1,32 @@
 //! What is kept of one time for the next; begin with `Frame`.
 
-ghost use Rattle.std.specs.Prelude.{◌≡◌, ◌<◌, ◌≤◌, IfOk, IsTrue, All, false, length, map, set};
+ghost use Rattle.std.specs.Prelude.{◌≡◌, ◌<◌, ◌≤◌, IfOk, IsTrue, None, OnOk, All, false, length, map, set};
 ghost use Rattle.dd_nodes.specs.Diagram.{IsDiagram};
 ghost use Rattle.dd_nodes.specs.Stores.{Store};
 ghost use Rattle.sym_step.specs.private.NetSets.{net_at};
-ghost use Rattle.sym_step.specs.private.Frames.{IsFrame, flag_at};
+ghost use Rattle.dual_rail.specs.Rail.{AreRefs};
+ghost use Rattle.sym_step.specs.Step.{rails_at};
+ghost use Rattle.sym_step.specs.private.Frames.{IsFrame, flag_at, input_rails, nets_of, next_of};
 
 use crate::cut::Cut;
 use crate::net_rails::NetRails;
 use dd_nodes::Ref;
+use dual_rail::Rails;
 use net_core::{Gate, Latch, Net};
 use std::alloc::{AllocError, Global};
-use ste_base::NodeId;
+use ste_base::{Items, NodeId};
 
 /// What is kept of one time for the next: the set of each net, a mark for each net of which there was a cut, and the list
-/// of these nets; beside them room for the products of a row. In a blank frame all nets have marks and both bits, and none
-/// is listed. A gate of which no input has another set than before, and whose output is not cut now and was not before,
-/// keeps its output's set.
+/// of these nets; beside them room for the products of a row, and before a first time the sets of the latches there. In a
+/// blank frame all nets have marks and both bits, and none is listed. A gate of which no input has another set than before,
+/// and whose output is not cut now and was not before, keeps its output's set.
 #[derive(Debug, Drop)]
 pub struct Frame {
     pub(crate) nets: Vec<NetRails>,
     pub(crate) cut: Vec<bool>,
     pub(crate) asked: Vec<NodeId>,
     pub(crate) products: Vec<Ref>,
+    pub(crate) first: Option<Items<Rails>>,
 }
 
 impl Frame {
@@ -40,7 +44,28 @@ impl Frame {
             cut,
             asked,
             products,
+            first: None,
         })
+    }
+
+    /// A frame before a first time, at which the latches have these sets.
+    pub fn starting(alloc: Global, net: &Net, first: Items<Rails>) -> Result<Frame, AllocError>
+        requires { length first ≡ length net.now.raw.latches }
+        ensures frame { IfOk result (λ frame. (s : Store)
+            → IsDiagram s.held s.vars → All (AreRefs s) first → IsFrame s net.now.raw frame) }
+        ensures next { IfOk result (λ frame. next_of net.now.raw frame ≡ first) }
+    {
+        let mut frame = Frame::blank(alloc, net)?;
+        frame.first = Some(first);
+        Ok(frame)
+    }
+
+    /// The set of a net at the time of the frame.
+    pub fn rails(&self, node: NodeId) -> Rails
+        requires { node.0 < length (nets_of self.now) }
+        ensures { result ≡ rails_at (nets_of self.now) node.0 }
+    {
+        self.nets[node.0 as usize].rails()
     }
 }
 
@@ -87,6 +112,30 @@ pub fn latch_inputs(
         found.push(nets[latch.input.0 as usize])?;
     }
     Ok(found)
+}
+
+/// The sets of the latches' inputs at the time of a frame.
+pub fn own_sets(alloc: Global, frame: &Frame, latches: &[Latch]) -> Result<Items<Rails>, AllocError>
+    requires { All (λ latch. latch.input.0 < length (nets_of frame.now)) latches.now }
+    ensures { IfOk result (λ sets. sets ≡ map (input_rails (nets_of frame.now)) latches.now) }
+{
+    let mut found = Vec::with_capacity(alloc, latches.len())?;
+    for latch in latches {
+        found.push(frame.rails(latch.input))?;
+    }
+    Ok(Items::from(found))
+}
+
+/// The sets that the latches have at the next time; the frame is then no longer before a first one.
+pub fn next_sets(alloc: Global, net: &Net, frame: &mut Frame) -> Result<Items<Rails>, AllocError>
+    requires { All (λ latch. latch.input.0 < length (nets_of frame.old)) net.now.raw.latches }
+    ensures sets { IfOk result (λ sets. sets ≡ next_of net.now.raw frame.old) }
+    ensures rest { frame.new ≡ record frame.old { first = None } }
+{
+    match frame.first.take() {
+        Some(first) => Ok(first),
+        None => own_sets(alloc, frame, net.latches()),
+    }
 }
 
 /// Whether both are the same references.

@@ -25,4 +25,4 @@ pub use made::Step;
 pub use piece::Piece;
 pub use row_list::RowList;
 pub use rows::{CoverRows, GateRows};
-pub use time::{advance, step};
+pub use time::{advance, renew, step};

@@ -1,19 +1,19 @@
 //! One step of a net; begin with `step`.
 
-ghost use Rattle.std.specs.Prelude.{◌≡◌, ◌<◌, ◌∷◌, ◌++◌, [], ◌≤◌, ℕ, List, All, IfOk, OnOk, length, map};
+ghost use Rattle.std.specs.Prelude.{◌≡◌, ◌<◌, ◌∷◌, ◌++◌, [], ◌≤◌, ℕ, List, All, IfOk, None, OnOk, length, map};
 ghost use Rattle.std.specs.List.{AllZip};
 ghost use Rattle.dd_nodes.specs.Diagram.{Function};
 ghost use Rattle.dd_nodes.specs.Stores.{IsRef, Keeps, Means};
 ghost use Rattle.net_core.specs.Work.{ArePossibleEach, SymbolicSet, SymbolicAsked, disjunction, no_bit, some_bit, sum, sums, time_work};
 ghost use Rattle.dual_rail.specs.Rail.{AreRefs, AreRails, Built, HasFunction, Whatever};
-ghost use Rattle.sym_step.specs.Step.{IsCutOf, IsCutBy, IsPossibleStep, IsStep, rails_at, rows_of};
-ghost use Rattle.sym_step.specs.private.Frames.{AreKept, AreOpen, IsFrame};
+ghost use Rattle.sym_step.specs.Step.{IsCutOf, IsCutBy, IsPossibleStep, IsStep, rows_of};
+ghost use Rattle.sym_step.specs.private.Frames.{AreKept, AreOpen, IsFrame, input_rails, next_of, nets_of, step_of};
 ghost use Rattle.sym_step.specs.private.NetSets.{AreNetRails, AreNetRefs};
 ghost use Rattle.sym_step.specs.private.Parts.{AreMarks, HaveNets};
 
 use crate::cut::Cut;
 use crate::cuts::marked;
-use crate::frame::{Frame, asked_nets, latch_inputs};
+use crate::frame::{Frame, asked_nets, latch_inputs, next_sets, own_sets};
 use crate::made::Step;
 use crate::net_rails::NetRails;
 use crate::place::place_gates;
@@ -59,19 +59,6 @@ fn some_empty<N: Nodes>(ops: &Ops, nodes: &mut N, nets: &[NetRails]) -> Result<R
     Ok(sum)
 }
 
-/// The sets of the latch inputs.
-fn next(alloc: Global, nets: &[Rails], latches: &[Latch]) -> Result<Items<Rails>, AllocError>
-    requires { All (λ latch. latch.input.0 < length nets.now) latches.now }
-    ensures { IfOk result (λ found. found
-        ≡ map (λ latch. rails_at nets.now latch.input.0) latches.now) }
-{
-    let mut found = Vec::with_capacity(alloc, latches.len())?;
-    for latch in latches {
-        found.push(nets[latch.input.0 as usize])?;
-    }
-    Ok(Items::from(found))
-}
-
 /// The sets without where they have a bit.
 fn rails_of(alloc: Global, nets: &[NetRails]) -> Result<Items<Rails>, AllocError>
     ensures { IfOk result (λ rails. rails
@@ -84,24 +71,18 @@ fn rails_of(alloc: Global, nets: &[NetRails]) -> Result<Items<Rails>, AllocError
     Ok(Items::from(rails))
 }
 
-/// The step of these sets.
-fn finished(
-    alloc: Global,
-    net: &Net,
-    nets: &[NetRails],
-    contradictory: Ref,
-) -> Result<Step, AllocError>
-    requires { length nets.now ≡ net.now.raw.nets }
-    ensures nets { IfOk result (λ r. r.nets
-        ≡ map (λ n. record { can0 = n.can0; can1 = n.can1 }) nets.now) }
+/// What a frame has of its time, as a step.
+fn finished(alloc: Global, net: &Net, frame: &Frame, contradictory: Ref) -> Result<Step, AllocError>
+    requires { length frame.now.nets.items ≡ net.now.raw.nets }
+    ensures nets { IfOk result (λ r. r.nets ≡ nets_of frame.now) }
     ensures contradictory { IfOk result (λ r. r.contradictory ≡ contradictory) }
     ensures next { IfOk result (λ r. r.next
-        ≡ map (λ latch. rails_at r.nets latch.input.0) net.now.raw.latches) }
+        ≡ map (input_rails (nets_of frame.now)) net.now.raw.latches) }
 {
-    let rails = rails_of(alloc, nets)?;
-    let next = next(alloc, rails.as_slice(), net.latches())?;
+    let nets = rails_of(alloc, &frame.nets)?;
+    let next = own_sets(alloc, frame, net.latches())?;
     Ok(Step {
-        nets: rails,
+        nets,
         contradictory,
         next,
     })
@@ -185,7 +166,9 @@ fn renew_frame<N: Nodes>(
     requires latches { All (AreRefs (N.store nodes.old)) latches.now }
     requires cuts { All (IsCutOf (N.store nodes.old) net.now.raw) cuts.now }
     requires frame { IsFrame (N.store nodes.old) net.now.raw frame.old }
+    requires first { frame.old.first ≡ None }
     ensures frame { OnOk result (IsFrame (N.store nodes.new) net.now.raw frame.new) }
+    ensures first { OnOk result (frame.new.first ≡ None) }
     ensures built { (ls : List SymbolicSet) (asked : SymbolicAsked) (sets : ℕ → SymbolicSet)
         → AllZip (AreRails (N.store nodes.old)) ls latches.now
         → AllZip (IsCutBy (N.store nodes.old)) asked.cuts cuts.now
@@ -224,6 +207,38 @@ fn renew_frame<N: Nodes>(
     Ok(())
 }
 
+/// The sets of one time in the frame, and where some net is empty, by the work functions of one time.
+fn time_at<N: Nodes>(
+    alloc: Global,
+    ops: &Ops,
+    nodes: &mut N,
+    net: &Net,
+    rows: &GateRows,
+    latches: &[Rails],
+    cuts: &[Cut],
+    frame: &mut Frame,
+) -> Result<Ref, OpFault>
+    requires rows { rows.now.covers ≡ map rows_of net.now.raw.covers }
+    requires long { length latches.now ≡ length net.now.raw.latches }
+    requires latches { All (AreRefs (N.store nodes.old)) latches.now }
+    requires cuts { All (IsCutOf (N.store nodes.old) net.now.raw) cuts.now }
+    requires frame { IsFrame (N.store nodes.old) net.now.raw frame.old }
+    requires first { frame.old.first ≡ None }
+    ensures frame { OnOk result (IsFrame (N.store nodes.new) net.now.raw frame.new) }
+    ensures first { OnOk result (frame.new.first ≡ None) }
+    ensures built { (ls : List SymbolicSet) (asked : SymbolicAsked) (sets : ℕ → SymbolicSet)
+        → AllZip (AreRails (N.store nodes.old)) ls latches.now
+        → AllZip (IsCutBy (N.store nodes.old)) asked.cuts cuts.now
+        → ArePossibleEach (N.store nodes.old).vars net.now.raw ls asked sets
+        → Built (time_work net.now.raw ls asked sets)
+        (λ t r. IsStep net.now.raw sets t (step_of net.now.raw frame.new r))
+        (N.store nodes.old) (N.store nodes.new) result }
+{
+    renew_frame(alloc, ops, nodes, net, rows, latches, cuts, frame)?;
+    let contradictory = some_empty(ops, nodes, frame.nets.as_slice())?;
+    Ok(contradictory)
+}
+
 /// The step, by the work functions of one time.
 fn made_at<N: Nodes>(
     alloc: Global,
@@ -248,10 +263,51 @@ fn made_at<N: Nodes>(
         → Built (time_work net.now.raw ls asked sets) (IsStep net.now.raw sets)
         (N.store nodes.old) (N.store nodes.new) result }
 {
-    renew_frame(alloc, ops, nodes, net, rows, latches, cuts, frame)?;
-    let contradictory = some_empty(ops, nodes, frame.nets.as_slice())?;
-    let made = finished(alloc, net, frame.nets.as_slice(), contradictory)?;
+    frame.first = None;
+    let contradictory = time_at(alloc, ops, nodes, net, rows, latches, cuts, frame)?;
+    let made = finished(alloc, net, frame, contradictory)?;
     Ok(made)
+}
+
+/// The possible sets of one time for every assignment at once, left in the frame, from what was kept of the time before:
+/// the result is where some set is empty. The latches have the sets of their inputs at the time before, or at a first time
+/// those that the frame starts with. `rows` are those of the net, `cuts` is what is asked. `StepsOut` comes only where all
+/// steps are spent and a node of the work functions of this time is not held; after any error what was held stays, and the
+/// frame is not to be used.
+pub fn renew<N: Nodes>(
+    alloc: Global,
+    ops: &Ops,
+    nodes: &mut N,
+    net: &Net,
+    rows: &GateRows,
+    cuts: &[Cut],
+    frame: &mut Frame,
+) -> Result<Ref, OpFault>
+    requires rows { rows.now.covers ≡ map rows_of net.now.raw.covers }
+    requires cuts { All (IsCutOf (N.store nodes.old) net.now.raw) cuts.now }
+    requires frame { IsFrame (N.store nodes.old) net.now.raw frame.old }
+    ensures keeps { Keeps (N.store nodes.old) (N.store nodes.new) }
+    ensures ref_of { IfOk result (λ r. IsRef (N.store nodes.new) r) }
+    ensures built { (ls : List SymbolicSet) (asked : SymbolicAsked) (sets : ℕ → SymbolicSet)
+        → AllZip (AreRails (N.store nodes.old)) ls (next_of net.now.raw frame.old)
+        → AllZip (IsCutBy (N.store nodes.old)) asked.cuts cuts.now
+        → ArePossibleEach (N.store nodes.old).vars net.now.raw ls asked sets
+        → Built (time_work net.now.raw ls asked sets)
+        (λ t r. IsStep net.now.raw sets t (step_of net.now.raw frame.new r))
+        (N.store nodes.old) (N.store nodes.new) result }
+    ensures frame { OnOk result (IsFrame (N.store nodes.new) net.now.raw frame.new) }
+{
+    let latches = next_sets(alloc, net, frame)?;
+    time_at(
+        alloc,
+        ops,
+        nodes,
+        net,
+        rows,
+        latches.as_slice(),
+        cuts,
+        frame,
+    )
 }
 
 /// The possible sets of one time for every assignment at once, where some set is empty, and the next latch sets, from

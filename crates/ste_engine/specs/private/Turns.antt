@@ -1,5 +1,5 @@
 -- For private functions. What one time leaves, and what all times leave.
-use Rattle.std.specs.Prelude.{◌≡◌, ◌<◌, ℕ, Bool, List, ◌∷◌, ◌++◌, length, map, All, Contains, if◌then◌else◌}
+use Rattle.std.specs.Prelude.{◌≡◌, ◌<◌, ℕ, Bool, List, ◌∷◌, ◌++◌, map, Contains, if◌then◌else◌}
 use Rattle.std.specs.List.{AllZip}
 use Rattle.dd_nodes.specs.declared.node.Ref.{Ref}
 use Rattle.dd_nodes.specs.Diagram.{Function}
@@ -10,7 +10,7 @@ use Rattle.net_core.specs.declared.raw.Latch.{Latch}
 use Rattle.net_core.specs.declared.raw.RawNet.{RawNet}
 use Rattle.net_core.specs.Work.{SymbolicAsked, SymbolicCut, SymbolicSet, disjunction, some_empty, time_work}
 use Rattle.dual_rail.specs.declared.rails.Rails.{Rails}
-use Rattle.dual_rail.specs.Rail.{AreRails, AreRefs}
+use Rattle.dual_rail.specs.Rail.{AreRails}
 use Rattle.ste_model.specs.declared.task.Assertion.{Assertion}
 use Rattle.ste_model.specs.declared.task.Quint.{Quint}
 use Rattle.ste_model.specs.Need.{kept_functions}
@@ -42,10 +42,8 @@ pub record IsLine (s : Store) (quints : List Quint) (depth t : ℕ) (line : Time
   pub fit : AreAsks s 0 quints asks
   pub is : IsTimeline asks depth t line
 
--- what one time goes on with: a set for each latch, and the sums so far
-pub record AreTurnedRefs (s : Store) (net : RawNet) (before : Turned) : Type 0 where
-  pub long : length before.next ≡ length net.latches
-  pub latches : All (AreRefs s) before.next
+-- the sums that one time goes on with
+pub record AreTurnedRefs (s : Store) (before : Turned) : Type 0 where
   pub contradictory : IsRef s before.contradictory
   pub found : AreFoundRefs s before.found
 
@@ -54,10 +52,10 @@ abbrev pub turned_work : RawNet → List SymbolicSet → List SymbolicCut → Li
 turned_work net ls ds es sets c f h =
     time_work net ls (asked_by ds) sets ++ (disjunction c (some_empty net sets) ∷ found_work sets es f h)
 
--- one time has been dealt with: each net's set has references, and the next sets and the sums are these
-pub record IsTurned (net : RawNet) (es : List SymbolicCut) (sets : ℕ → SymbolicSet) (c f h : Function) (t : Store) (r : Turned) : Type 0 where
+-- one time has been dealt with: each net's set has references, and the latches' next sets and the sums are these
+pub record IsTurned (net : RawNet) (es : List SymbolicCut) (sets : ℕ → SymbolicSet) (c f h : Function) (held : List Rails) (t : Store) (r : Turned) : Type 0 where
   pub nets : (id : ℕ) → id < net.nets → (rails : Rails) × AreRails t (sets id) rails
-  pub next : AllZip (AreRails t) (map (λ latch. sets latch.input.0) net.latches) r.next
+  pub next : AllZip (AreRails t) (map (λ latch. sets latch.input.0) net.latches) held
   pub contradictory : Means t (disjunction c (some_empty net sets)) r.contradictory
   pub found : AreFound (more_strong sets es f) (more_weak sets es h) t r.found
 

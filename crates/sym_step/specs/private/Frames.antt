@@ -1,15 +1,20 @@
 -- For private functions. What is kept of one time for the next.
-use Rattle.std.specs.Prelude.{◌≡◌, ◌⊎◌, ◌<◌, ◌==◌, All, Bool, false, ℕ, List, length, slice_index_or}
+use Rattle.std.specs.Prelude.{◌≡◌, ◌⊎◌, ◌<◌, ◌==◌, All, Bool, false, ℕ, List, Option, None, Some, length, map, slice_index_or}
 use Rattle.std.specs.List.{list_any}
 use Rattle.ste_base.specs.declared.id.NodeId.{NodeId}
+use Rattle.dd_nodes.specs.declared.node.Ref.{Ref}
 use Rattle.dd_nodes.specs.Stores.{Store}
+use Rattle.dual_rail.specs.declared.rails.Rails.{Rails}
+use Rattle.dual_rail.specs.Rail.{AreRefs}
 use Rattle.net_core.specs.declared.raw.Gate.{Gate}
 use Rattle.net_core.specs.declared.raw.RawNet.{RawNet}
 use Rattle.net_core.specs.declared.raw.Latch.{Latch}
 use Rattle.net_core.specs.declared.source.Source.TheVariants.{Input, Free}
 use Rattle.net_core.specs.Source.{source_of}
 use Rattle.net_core.specs.Work.{SymbolicSet, everything, output_set}
+use Rattle.sym_step.specs.Step.{rails_at}
 use Rattle.sym_step.specs.declared.frame.Frame.{Frame}
+use Rattle.sym_step.specs.declared.made.Step.{Step}
 use Rattle.sym_step.specs.declared.net_rails.NetRails.{NetRails}
 use Rattle.sym_step.specs.private.NetSets.{AreNetRails, AreNetRefs, HaveInputs, net_at}
 
@@ -71,6 +76,35 @@ abbrev pub StayRight : (ℕ → SymbolicSet) → Store → List NetRails → Sto
 StayRight sets t old u new =
     (id : ℕ) → AreNetRails t (sets id) (net_at old id) → AreNetRails u (sets id) (net_at new id)
 
+-- the set of a net without where it has a bit
+abbrev pub bare : NetRails → Rails
+bare r = record { can0 = r.can0; can1 = r.can1 }
+
+-- the sets of the nets at the time of a frame
+abbrev pub nets_of : Frame → List Rails
+nets_of frame = map bare frame.nets.items
+
+-- the set of a latch's input
+abbrev pub input_rails : List Rails → Latch → Rails
+input_rails nets latch = rails_at nets latch.input.0
+
+abbrev pub first_or : Option (List Rails) → List Rails → List Rails
+first_or None rails = rails
+first_or (Some first) rails = first
+
+-- the sets that the latches have at the time behind a frame: those of their inputs, where none are told
+abbrev pub next_of : RawNet → Frame → List Rails
+next_of net frame = first_or frame.first (map (input_rails (nets_of frame)) net.latches)
+
+-- what a frame has of its time, as a step, with where some net is empty
+abbrev pub step_of : RawNet → Frame → Ref → Step
+step_of net frame contradictory = record { nets = nets_of frame; contradictory = contradictory; next = next_of net frame }
+
+-- sets of the latches, one for each
+pub record AreFirst (s : Store) (net : RawNet) (sets : List Rails) : Type 0 where
+  pub long : length sets ≡ length net.latches
+  pub refs : All (AreRefs s) sets
+
 -- A frame of a time: each net has references that are held, and a gate whose output was not cut has given it its set.
 pub record IsFrame (s : Store) (net : RawNet) (frame : Frame) : Type 0 where
   pub long : length frame.nets.items ≡ net.nets
@@ -79,4 +113,5 @@ pub record IsFrame (s : Store) (net : RawNet) (frame : Frame) : Type 0 where
   pub room : All (λ gate. length gate.inputs < length frame.products.items) net.gates
   pub inside : All (λ node. node.0 < net.nets) frame.asked.items
   pub undriven : AreOpen s net frame.asked.items frame.nets.items
+  pub first : (sets : List Rails) → frame.first ≡ Some sets → AreFirst s net sets
   pub kept : All (λ gate. flag_at frame.cut.items gate.output.0 ≡ false → IsGiven s net frame.nets.items gate) net.gates

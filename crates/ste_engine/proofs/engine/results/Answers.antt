@@ -1,4 +1,4 @@
-use Rattle.std.proofs.Common.{◌≡◌, ◌<◌, ◌≤◌, ◌+◌, List, All, Ok, Err, sym, ◌∙◌, subst, arith}
+use Rattle.std.proofs.Common.{◌≡◌, ◌<◌, ◌≤◌, ◌+◌, List, All, Ok, Err, sym, ◌∙◌, ap, subst, arith}
 use Rattle.std.specs.List.{AllZip}
 use Rattle.dd_nodes.specs.Diagram.{Function}
 use Rattle.dd_nodes.specs.Stores.{Store, Means}
@@ -13,6 +13,7 @@ use Rattle.ste_model.specs.declared.task.Quint.{Quint}
 use Rattle.ste_model.specs.Asked.{depth}
 use Rattle.ste_model.specs.Work.{latches_at, quints_work, task_work}
 use Rattle.ste_model.proofs.Needs.{whole_exists}
+use Rattle.sym_step.specs.private.Frames.{next_of}
 use Rattle.ste_engine.specs.declared.results.Found.{Found}
 use Rattle.ste_engine.specs.declared.timeline.Timeline.{Timeline}
 use Rattle.ste_engine.specs.declared.turn.Turned.{Turned}
@@ -86,24 +87,6 @@ returns-in-Err g c = λ table whole.
     let b : Built (quints_work task.con) ConLine t1 t2 (Ok c.in_ok-con.con) = subst (λ (xs : List Quint). Built (quints_work xs) (λ t line. IsLine t xs n 0 line) t1 t2 (Ok c.in_ok-con.con)) c.as_slice-2.ensures c.in_ok-con.ensures in
     Built-lost work (AreResults net.raw task table) s t2 (more work ConLine s t1 t2 (Ok c.in_ok-con.con) g1 g2 (first work AntLine s t1 (Ok c.in_ok-ant.ant) (Built-wider work (quints_work task.ant) AntLine s t1 (Ok c.in_ok-ant.ant) (ant_in net.raw task table) a)) (Built-wider work (quints_work task.con) ConLine t1 t2 (Ok c.in_ok-con.con) (con_in net.raw task table) b))
 
-pub returns-in-Err-blank : goal.returns-in-Err-blank
-returns-in-Err-blank g c = λ table whole.
-    let s : Store = g.N.Nodes.store c.args.nodes.now in
-    let gs = g.met.N.Nodes.diagram c.args.nodes.now in
-    let net = c.args.net.now in
-    let task : Assertion = c.args.task.now in
-    let n = c.depth-depth.result in
-    let t1 : Store = g.N.Nodes.store c.line_of.new.nodes in
-    let g1 = g.met.N.Nodes.diagram c.line_of.new.nodes in
-    let work : List Function = task_work net.raw task table in
-    let AntLine : Store → Timeline → Type 0 = λ t line. IsLine t task.ant n 0 line in
-    let a : Built (quints_work task.ant) AntLine s t1 (Ok c.in_ok-ant.ant) = subst (λ (xs : List Quint). Built (quints_work xs) (λ t line. IsLine t xs n 0 line) s t1 (Ok c.in_ok-ant.ant)) c.as_slice.ensures c.in_ok-ant.ensures in
-    let t2 : Store = g.N.Nodes.store c.line_of-2.new.nodes in
-    let g2 = g.met.N.Nodes.diagram c.line_of-2.new.nodes in
-    let ConLine : Store → Timeline → Type 0 = λ t line. IsLine t task.con n 0 line in
-    let b : Built (quints_work task.con) ConLine t1 t2 (Ok c.in_ok-con.con) = subst (λ (xs : List Quint). Built (quints_work xs) (λ t line. IsLine t xs n 0 line) t1 t2 (Ok c.in_ok-con.con)) c.as_slice-2.ensures c.in_ok-con.ensures in
-    Built-lost work (AreResults net.raw task table) s t2 (more work ConLine s t1 t2 (Ok c.in_ok-con.con) g1 g2 (first work AntLine s t1 (Ok c.in_ok-ant.ant) (Built-wider work (quints_work task.ant) AntLine s t1 (Ok c.in_ok-ant.ant) (ant_in net.raw task table) a)) (Built-wider work (quints_work task.con) ConLine t1 t2 (Ok c.in_ok-con.con) (con_in net.raw task table) b))
-
 pub loop-t-init : goal.loop-t-init
 loop-t-init g c =
     let s : Store = g.N.Nodes.store c.args.nodes.now in
@@ -119,18 +102,19 @@ loop-t-init g c =
     let g2 = g.met.N.Nodes.diagram c.line_of-2.new.nodes in
     let ConLine : Store → Timeline → Type 0 = λ t line. IsLine t task.con n 0 line in
     let b : Built (quints_work task.con) ConLine t1 t2 (Ok c.in_ok-con.con) = subst (λ (xs : List Quint). Built (quints_work xs) (λ t line. IsLine t xs n 0 line) t1 t2 (Ok c.in_ok-con.con)) c.as_slice-2.ensures c.in_ok-con.ensures in
-    let start = c.in-Ok.ensures in
+    let start = c.at_start-reached.ensures in
+    let begun = c.in-Ok.ensures in
     record {
       ant = Line-keeps t1 t2 task.ant n 0 c.in_ok-ant.ant g1 g2 b.spends.keeps a.ok;
       con = b.ok;
-      frame = c.in-Ok-blank.ensures t2 g2;
+      frame = begun.frame t2 g2;
       reached = λ table whole.
           let work : List Function = task_work net.raw task table in
           record {
             so = more work ConLine s t1 t2 (Ok c.in_ok-con.con) g1 g2 (first work AntLine s t1 (Ok c.in_ok-ant.ant) (Built-wider work (quints_work task.ant) AntLine s t1 (Ok c.in_ok-ant.ant) (ant_in net.raw task table) a)) (Built-wider work (quints_work task.con) ConLine t1 t2 (Ok c.in_ok-con.con) (con_in net.raw task table) b);
-            next = subst (λ (xs : List Rails). AllZip (AreRails t2) (latches_at net.raw task table 0) xs) (sym start.next) (firsts_are t2 task.reset net.raw.latches g2);
-            contradictory = subst (λ r. Means t2 (empty_sum net.raw table 0) r) (sym start.contradictory) (zero_means t2 g2);
-            found = subst (λ (r : Found). AreFound (strong_sum task table 0) (weak_sum task table 0) t2 r) (sym start.found) (record { strong = zero_means t2 g2; weak = zero_means t2 g2 });
+            next = subst (λ (xs : List Rails). AllZip (AreRails t2) (latches_at net.raw task table 0) xs) (sym begun.next) (firsts_are t2 task.reset net.raw.latches g2);
+            contradictory = subst (λ r. Means t2 (empty_sum net.raw table 0) r) (sym (ap (λ (r : Turned). r.contradictory) start)) (zero_means t2 g2);
+            found = subst (λ (r : Found). AreFound (strong_sum task table 0) (weak_sum task table 0) t2 r) (sym (ap (λ (r : Turned). r.found) start)) (record { strong = zero_means t2 g2; weak = zero_means t2 g2 });
             nets = λ k id lt inside. absurd (omega (arith, lt));
           };
     }
@@ -166,16 +150,16 @@ loop-t-preserved g c =
     let settled : IsSettled net.raw = settled_by_order net.raw net.settled net.in_order in
     let w = whole_exists net.raw s.vars task settled in
     let after : Turned = c.in_ok-reached.reached in
-    let mine = time_call net.raw task w.0 s t u k c.as_slice-in-loop-t.result.now c.as_slice-in-loop-t-2.result.now c.loop-t.reached (Ok after) w.1 below ant.by con.by (p.reached w.0 w.1) c.in_ok-reached.ensures.built in
+    let mine = time_call net.raw task w.0 s t u k c.as_slice-in-loop-t.result.now c.as_slice-in-loop-t-2.result.now (next_of net.raw c.loop-t.frame) (next_of net.raw c.turn.new.frame) c.loop-t.reached (Ok after) w.1 below ant.by con.by (p.reached w.0 w.1) c.in_ok-reached.ensures.built in
     let keeps = mine.spends.keeps in
     record {
       ant = Line-keeps t u task.ant n (k + 1) c.cuts_at.new.self gt gu keeps ant.is;
       con = Line-keeps t u task.con n (k + 1) c.cuts_at-in-loop-t.new.self gt gu keeps con.is;
       frame = c.in_ok-reached.ensures.frame;
       reached = λ table whole.
-          let before : ReachedAt net.raw task table s t k c.loop-t.reached = p.reached table whole in
-          let b = time_turn net.raw task table s t u k c.loop-t.reached (Ok after) gt gu below before (time_call net.raw task table s t u k c.as_slice-in-loop-t.result.now c.as_slice-in-loop-t-2.result.now c.loop-t.reached (Ok after) whole below ant.by con.by before c.in_ok-reached.ensures.built) in
-          reached_next net.raw task table s t u k c.loop-t.reached after gt gu keeps before (first (task_work net.raw task table) (IsTurnedAt net.raw task table k) s u (Ok after) b) b.ok;
+          let before : ReachedAt net.raw task table s t k (next_of net.raw c.loop-t.frame) c.loop-t.reached = p.reached table whole in
+          let b = time_turn net.raw task table s t u k (next_of net.raw c.loop-t.frame) (next_of net.raw c.turn.new.frame) c.loop-t.reached (Ok after) gt gu below before (time_call net.raw task table s t u k c.as_slice-in-loop-t.result.now c.as_slice-in-loop-t-2.result.now (next_of net.raw c.loop-t.frame) (next_of net.raw c.turn.new.frame) c.loop-t.reached (Ok after) whole below ant.by con.by before c.in_ok-reached.ensures.built) in
+          reached_next net.raw task table s t u k (next_of net.raw c.loop-t.frame) (next_of net.raw c.turn.new.frame) c.loop-t.reached after gt gu keeps before (first (task_work net.raw task table) (IsTurnedAt net.raw task table k (next_of net.raw c.turn.new.frame)) s u (Ok after) b) b.ok;
     }
 
 pub returns-in_err-reached : goal.returns-in_err-reached
@@ -196,9 +180,9 @@ returns-in_err-reached g c = λ table whole.
     let gu = g.met.N.Nodes.diagram c.turn.new.nodes in
     let work : List Function = task_work net.raw task table in
     let fault = c.in_err-reached.field-0.0 in
-    let before : ReachedAt net.raw task table s t k c.loop-t.reached = p.reached table whole in
-    let b = time_turn net.raw task table s t u k c.loop-t.reached (Err fault) gt gu below before (time_call net.raw task table s t u k c.as_slice-in-loop-t.result.now c.as_slice-in-loop-t-2.result.now c.loop-t.reached (Err fault) whole below ant.by con.by before c.in_err-reached.ensures.built) in
-    pass work (IsTurnedAt net.raw task table k) (AreResults net.raw task table) s s u fault c.from_residual-in_err-reached.result gs gu (So-start work s) b c.from_residual-in_err-reached.ensures.1
+    let before : ReachedAt net.raw task table s t k (next_of net.raw c.loop-t.frame) c.loop-t.reached = p.reached table whole in
+    let b = time_turn net.raw task table s t u k (next_of net.raw c.loop-t.frame) (next_of net.raw c.turn.new.frame) c.loop-t.reached (Err fault) gt gu below before (time_call net.raw task table s t u k c.as_slice-in-loop-t.result.now c.as_slice-in-loop-t-2.result.now (next_of net.raw c.loop-t.frame) (next_of net.raw c.turn.new.frame) c.loop-t.reached (Err fault) whole below ant.by con.by before c.in_err-reached.ensures.built) in
+    pass work (IsTurnedAt net.raw task table k (next_of net.raw c.turn.new.frame)) (AreResults net.raw task table) s s u fault c.from_residual-in_err-reached.result gs gu (So-start work s) b c.from_residual-in_err-reached.ensures.1
 
 pub turn-requires-clause-ant : goal.turn-requires-clause-ant
 turn-requires-clause-ant g c =
@@ -244,7 +228,7 @@ turn-requires-clause-before g c =
     let below : k < depth task = subst (λ m. k < m) c.depth-depth.ensures c.loop-t-test.true in
     let settled : IsSettled net.raw = settled_by_order net.raw net.settled net.in_order in
     let w = whole_exists net.raw s.vars task settled in
-    turned_refs net.raw task w.0 s t k c.loop-t.reached (p.reached w.0 w.1)
+    turned_refs net.raw task w.0 s t k (next_of net.raw c.loop-t.frame) c.loop-t.reached (p.reached w.0 w.1)
 
 pub finish-requires-clause-contradictory : goal.finish-requires-clause-contradictory
 finish-requires-clause-contradictory g c =
@@ -286,7 +270,7 @@ returns g c = λ table whole.
     let u : Store = g.N.Nodes.store c.finish.new.nodes in
     let gu = g.met.N.Nodes.diagram c.finish.new.nodes in
     let end : k ≡ depth task = (let le = c.loop-t-test.false in let most = c.loop-t.auto.t-end in omega (arith, le, most)) ∙ c.depth-depth.ensures in
-    let q : ReachedAt net.raw task table s t (depth task) c.loop-t.reached = subst (λ j. ReachedAt net.raw task table s t j c.loop-t.reached) end (p.reached table whole) in
+    let q : ReachedAt net.raw task table s t (depth task) (next_of net.raw c.loop-t.frame) c.loop-t.reached = subst (λ j. ReachedAt net.raw task table s t j (next_of net.raw c.loop-t.frame) c.loop-t.reached) end (p.reached table whole) in
     let C : Function = empty_sum net.raw table (depth task) in
     let S : Function = strong_sum task table (depth task) in
     let W : Function = weak_sum task table (depth task) in

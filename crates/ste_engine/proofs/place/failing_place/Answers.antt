@@ -13,6 +13,7 @@ use Rattle.ste_model.specs.Found.{IsTableOf}
 use Rattle.ste_model.specs.Work.{constant_set, latches_at, symbolic_cuts_at}
 use Rattle.sym_step.specs.declared.made.Step.{Step}
 use Rattle.sym_step.specs.Step.{IsCutBy, IsStep, rails_at}
+use Rattle.sym_step.specs.private.Frames.{next_of, nets_of, step_of}
 use Rattle.sym_step.proofs.Cutting.{Demands-keep}
 use Rattle.ste_engine.specs.declared.failing.Failure.{Failure}
 use Rattle.ste_engine.specs.private.Places.{fixed_asks, fixed_quint, fixed_task}
@@ -20,7 +21,7 @@ use Rattle.ste_engine.specs.private.Times.{IsTimeline}
 use Rattle.ste_engine.proofs.FirstFails.{IsTold, first_is}
 use Rattle.ste_engine.proofs.FixedTasks.{constant_table, fixed_are, fixed_inside}
 use Rattle.ste_engine.proofs.Lines.{IsNextLine, Line-keeps, ant_within, con_within, next_line}
-use Rattle.ste_engine.proofs.PlaceTurns.{IsPlaceAt, not_some, nothing_more, nothing_yet, place_begins, place_ends, place_is, place_long, place_next, place_refs, step_built, step_goes, step_makes}
+use Rattle.ste_engine.proofs.PlaceTurns.{IsPlaceAt, not_some, nothing_more, nothing_yet, place_begins, place_ends, place_is, place_next, step_built, step_goes, step_makes}
 use Rattle.ste_engine.proofs.Times.{firsts_are}
 use Rattle.ste_engine.proofs.place.failing_place.Goals as goal
 
@@ -46,14 +47,14 @@ loop-t-init g c =
     record {
       ant = record { asks = fixed_asks bits 0 task.ant; fit = fixed_are bits s 0 task.ant gs; is = subst (λ (xs : List Quint). IsTimeline (fixed_asks bits 0 xs) n 0 c.in_ok-ant.ant) c.as_slice.ensures c.in_ok-ant.ensures };
       con = record { asks = fixed_asks bits 0 task.con; fit = fixed_are bits s 0 task.con gs; is = subst (λ (xs : List Quint). IsTimeline (fixed_asks bits 0 xs) n 0 c.in_ok-con.con) c.as_slice-2.ensures c.in_ok-con.ensures };
-      reached = λ table is. place_begins net task bits f table s c.in_ok-latches.latches gs
-          (subst (λ (xs : List Rails). AllZip (AreRails s) (latches_at net (fixed_task bits task) (constant_table table) 0) xs) (sym c.in_ok-latches.ensures) (firsts_are s task.reset net.latches gs));
-      frame = c.in_ok-frame.ensures s gs;
+      reached = λ table is. place_begins net task bits f table s (next_of net c.in_ok-frame.frame) gs
+          (subst (λ (xs : List Rails). AllZip (AreRails s) (latches_at net (fixed_task bits task) (constant_table table) 0) xs) (sym c.in_ok-frame.ensures.next) (firsts_are s task.reset net.latches gs));
+      frame = c.in_ok-frame.ensures.frame s gs;
       same = nothing_yet s;
     }
 
-pub advance-requires-clause-long : goal.advance-requires-clause-long
-advance-requires-clause-long g c =
+pub renew-requires-clause-cuts : goal.renew-requires-clause-cuts
+renew-requires-clause-cuts g c =
     let net : RawNet = c.args.net.now.raw in
     let task : Assertion = c.args.task.now in
     let bits : List Bool = c.args.bits.now in
@@ -62,40 +63,8 @@ advance-requires-clause-long g c =
     let p = c.loop-t.invariant in
     let k = c.loop-t.t in
     let n = c.depth-depth.result in
-    let table : ℕ → ℕ → BitSet = c.requires.found.0 in
-    let is : IsTableOf net task bits table = c.requires.found.1 in
-    let held : List Rails = c.as_slice-in-loop-t.result.now in
-    let at : IsPlaceAt net task bits f table t k held = subst (λ (xs : List Rails). IsPlaceAt net task bits f table t k xs) (sym c.as_slice-in-loop-t.ensures) (p.reached table is) in
-    place_long net task bits f table t k held at
-
-pub advance-requires-clause-latches : goal.advance-requires-clause-latches
-advance-requires-clause-latches g c =
-    let net : RawNet = c.args.net.now.raw in
-    let task : Assertion = c.args.task.now in
-    let bits : List Bool = c.args.bits.now in
-    let f : Failure = c.args.failure in
-    let t : Store = g.N.Nodes.store c.loop-t.nodes in
-    let p = c.loop-t.invariant in
-    let k = c.loop-t.t in
-    let n = c.depth-depth.result in
-    let table : ℕ → ℕ → BitSet = c.requires.found.0 in
-    let is : IsTableOf net task bits table = c.requires.found.1 in
-    let held : List Rails = c.as_slice-in-loop-t.result.now in
-    let at : IsPlaceAt net task bits f table t k held = subst (λ (xs : List Rails). IsPlaceAt net task bits f table t k xs) (sym c.as_slice-in-loop-t.ensures) (p.reached table is) in
-    place_refs net task bits f table t k held at
-
-pub advance-requires-clause-cuts : goal.advance-requires-clause-cuts
-advance-requires-clause-cuts g c =
-    let net : RawNet = c.args.net.now.raw in
-    let task : Assertion = c.args.task.now in
-    let bits : List Bool = c.args.bits.now in
-    let f : Failure = c.args.failure in
-    let t : Store = g.N.Nodes.store c.loop-t.nodes in
-    let p = c.loop-t.invariant in
-    let k = c.loop-t.t in
-    let n = c.depth-depth.result in
-    let ant : IsNextLine t net (map (fixed_quint bits) task.ant) n k c.cuts_at.new.self c.as_slice-in-loop-t-2.result.now = next_line t net (map (fixed_quint bits) task.ant) n k c.loop-t.ant c.cuts_at.new.self c.in_ok-asked.asked.items c.as_slice-in-loop-t-2.result.now
-    p.ant c.loop-t-test.true (fixed_inside bits net.nets task.ant c.requires.ant) c.as_slice-in-loop-t-2.ensures.value c.in_ok-asked.ensures in
+    let ant : IsNextLine t net (map (fixed_quint bits) task.ant) n k c.cuts_at.new.self c.as_slice-in-loop-t.result.now = next_line t net (map (fixed_quint bits) task.ant) n k c.loop-t.ant c.cuts_at.new.self c.in_ok-asked.asked.items c.as_slice-in-loop-t.result.now
+    p.ant c.loop-t-test.true (fixed_inside bits net.nets task.ant c.requires.ant) c.as_slice-in-loop-t.ensures.value c.in_ok-asked.ensures in
     ant.of
 
 pub returns-in-Err-OutOfMemory-clause-same : goal.returns-in-Err-OutOfMemory-clause-same
@@ -112,14 +81,14 @@ returns-in-Err-OutOfMemory-clause-same g c =
     let below : k < depth task = subst (λ m. k < m) c.depth-depth.ensures c.loop-t-test.true in
     let table : ℕ → ℕ → BitSet = c.requires.found.0 in
     let is : IsTableOf net task bits table = c.requires.found.1 in
-    let held : List Rails = c.as_slice-in-loop-t.result.now in
-    let at : IsPlaceAt net task bits f table t k held = subst (λ (xs : List Rails). IsPlaceAt net task bits f table t k xs) (sym c.as_slice-in-loop-t.ensures) (p.reached table is) in
-    let ant : IsNextLine t net (map (fixed_quint bits) task.ant) n k c.cuts_at.new.self c.as_slice-in-loop-t-2.result.now = next_line t net (map (fixed_quint bits) task.ant) n k c.loop-t.ant c.cuts_at.new.self c.in_ok-asked.asked.items c.as_slice-in-loop-t-2.result.now
-    p.ant c.loop-t-test.true (fixed_inside bits net.nets task.ant c.requires.ant) c.as_slice-in-loop-t-2.ensures.value c.in_ok-asked.ensures in
-    let u : Store = g.N.Nodes.store c.advance.new.nodes in
+    let held : List Rails = next_of net c.loop-t.frame in
+    let at : IsPlaceAt net task bits f table t k held = p.reached table is in
+    let ant : IsNextLine t net (map (fixed_quint bits) task.ant) n k c.cuts_at.new.self c.as_slice-in-loop-t.result.now = next_line t net (map (fixed_quint bits) task.ant) n k c.loop-t.ant c.cuts_at.new.self c.in_ok-asked.asked.items c.as_slice-in-loop-t.result.now
+    p.ant c.loop-t-test.true (fixed_inside bits net.nets task.ant c.requires.ant) c.as_slice-in-loop-t.ensures.value c.in_ok-asked.ensures in
+    let u : Store = g.N.Nodes.store c.renew.new.nodes in
     let gt = g.met.N.Nodes.diagram c.loop-t.nodes in
-    let gu = g.met.N.Nodes.diagram c.advance.new.nodes in
-    let makes = step_makes net task bits f table is t u k below c.as_slice-in-loop-t-2.result.now held (Err c.in-Err-OutOfMemory.field-0) gu (g.met.N.Nodes.made_held c.advance.new.nodes) ant.by at c.in-Err-OutOfMemory.ensures.built in
+    let gu = g.met.N.Nodes.diagram c.renew.new.nodes in
+    let makes = step_makes net task bits f table is t u k below c.renew.new.frame c.as_slice-in-loop-t.result.now held (Err c.in-Err-OutOfMemory.field-0) gu (g.met.N.Nodes.made_held c.renew.new.nodes) ant.by at c.in-Err-OutOfMemory.ensures.built in
     nothing_more s t u p.same makes
 
 pub unreachable-requires : goal.unreachable-requires
@@ -135,14 +104,14 @@ unreachable-requires g c =
     let below : k < depth task = subst (λ m. k < m) c.depth-depth.ensures c.loop-t-test.true in
     let table : ℕ → ℕ → BitSet = c.requires.found.0 in
     let is : IsTableOf net task bits table = c.requires.found.1 in
-    let held : List Rails = c.as_slice-in-loop-t.result.now in
-    let at : IsPlaceAt net task bits f table t k held = subst (λ (xs : List Rails). IsPlaceAt net task bits f table t k xs) (sym c.as_slice-in-loop-t.ensures) (p.reached table is) in
-    let ant : IsNextLine t net (map (fixed_quint bits) task.ant) n k c.cuts_at.new.self c.as_slice-in-loop-t-2.result.now = next_line t net (map (fixed_quint bits) task.ant) n k c.loop-t.ant c.cuts_at.new.self c.in_ok-asked.asked.items c.as_slice-in-loop-t-2.result.now
-    p.ant c.loop-t-test.true (fixed_inside bits net.nets task.ant c.requires.ant) c.as_slice-in-loop-t-2.ensures.value c.in_ok-asked.ensures in
-    let u : Store = g.N.Nodes.store c.advance.new.nodes in
+    let held : List Rails = next_of net c.loop-t.frame in
+    let at : IsPlaceAt net task bits f table t k held = p.reached table is in
+    let ant : IsNextLine t net (map (fixed_quint bits) task.ant) n k c.cuts_at.new.self c.as_slice-in-loop-t.result.now = next_line t net (map (fixed_quint bits) task.ant) n k c.loop-t.ant c.cuts_at.new.self c.in_ok-asked.asked.items c.as_slice-in-loop-t.result.now
+    p.ant c.loop-t-test.true (fixed_inside bits net.nets task.ant c.requires.ant) c.as_slice-in-loop-t.ensures.value c.in_ok-asked.ensures in
+    let u : Store = g.N.Nodes.store c.renew.new.nodes in
     let gt = g.met.N.Nodes.diagram c.loop-t.nodes in
-    let gu = g.met.N.Nodes.diagram c.advance.new.nodes in
-    step_goes net task bits f table is t u k below c.as_slice-in-loop-t-2.result.now held (Err c.in-Err-StepsOut.field-0) gu (g.met.N.Nodes.made_held c.advance.new.nodes) ant.by at c.in-Err-StepsOut.ensures.built (ap Err c.in-Err-StepsOut.field-0-is)
+    let gu = g.met.N.Nodes.diagram c.renew.new.nodes in
+    step_goes net task bits f table is t u k below c.renew.new.frame c.as_slice-in-loop-t.result.now held (Err c.in-Err-StepsOut.field-0) gu (g.met.N.Nodes.made_held c.renew.new.nodes) ant.by at c.in-Err-StepsOut.ensures.built (ap Err c.in-Err-StepsOut.field-0-is)
 
 pub first_failing-requires : goal.first_failing-requires
 first_failing-requires g c =
@@ -157,19 +126,19 @@ first_failing-requires g c =
     let below : k < depth task = subst (λ m. k < m) c.depth-depth.ensures c.loop-t-test.true in
     let table : ℕ → ℕ → BitSet = c.requires.found.0 in
     let is : IsTableOf net task bits table = c.requires.found.1 in
-    let held : List Rails = c.as_slice-in-loop-t.result.now in
-    let at : IsPlaceAt net task bits f table t k held = subst (λ (xs : List Rails). IsPlaceAt net task bits f table t k xs) (sym c.as_slice-in-loop-t.ensures) (p.reached table is) in
-    let ant : IsNextLine t net (map (fixed_quint bits) task.ant) n k c.cuts_at.new.self c.as_slice-in-loop-t-2.result.now = next_line t net (map (fixed_quint bits) task.ant) n k c.loop-t.ant c.cuts_at.new.self c.in_ok-asked.asked.items c.as_slice-in-loop-t-2.result.now
-    p.ant c.loop-t-test.true (fixed_inside bits net.nets task.ant c.requires.ant) c.as_slice-in-loop-t-2.ensures.value c.in_ok-asked.ensures in
-    let u : Store = g.N.Nodes.store c.advance.new.nodes in
+    let held : List Rails = next_of net c.loop-t.frame in
+    let at : IsPlaceAt net task bits f table t k held = p.reached table is in
+    let ant : IsNextLine t net (map (fixed_quint bits) task.ant) n k c.cuts_at.new.self c.as_slice-in-loop-t.result.now = next_line t net (map (fixed_quint bits) task.ant) n k c.loop-t.ant c.cuts_at.new.self c.in_ok-asked.asked.items c.as_slice-in-loop-t.result.now
+    p.ant c.loop-t-test.true (fixed_inside bits net.nets task.ant c.requires.ant) c.as_slice-in-loop-t.ensures.value c.in_ok-asked.ensures in
+    let u : Store = g.N.Nodes.store c.renew.new.nodes in
     let gt = g.met.N.Nodes.diagram c.loop-t.nodes in
-    let gu = g.met.N.Nodes.diagram c.advance.new.nodes in
-    let con : IsNextLine t net (map (fixed_quint bits) task.con) n k c.cuts_at-in-loop-t.new.self c.as_slice-in-loop-t-4.result.now = next_line t net (map (fixed_quint bits) task.con) n k c.loop-t.con c.cuts_at-in-loop-t.new.self c.in_ok-wanted.wanted.items c.as_slice-in-loop-t-4.result.now
-    p.con c.loop-t-test.true (fixed_inside bits net.nets task.con c.requires.con) c.as_slice-in-loop-t-4.ensures.value c.in_ok-wanted.ensures in
-    let made : Step = c.in-Ok.made in
-    let step : IsStep net (constant_table table k) u made = (step_built net task bits f table is t u k below c.as_slice-in-loop-t-2.result.now held (Ok made) ant.by at c.in-Ok.ensures.built).ok in
-    let nets : List Rails = c.as_slice-in-loop-t-3.result.now in
-    let long : length nets ≡ net.nets = ap (λ (xs : List Rails). length xs) c.as_slice-in-loop-t-3.ensures ∙ step.long in
+    let gu = g.met.N.Nodes.diagram c.renew.new.nodes in
+    let con : IsNextLine t net (map (fixed_quint bits) task.con) n k c.cuts_at-in-loop-t.new.self c.as_slice-in-loop-t-2.result.now = next_line t net (map (fixed_quint bits) task.con) n k c.loop-t.con c.cuts_at-in-loop-t.new.self c.in_ok-wanted.wanted.items c.as_slice-in-loop-t-2.result.now
+    p.con c.loop-t-test.true (fixed_inside bits net.nets task.con c.requires.con) c.as_slice-in-loop-t-2.ensures.value c.in_ok-wanted.ensures in
+    let made : Step = step_of net c.renew.new.frame c.in-Ok.field-0 in
+    let step : IsStep net (constant_table table k) u made = (step_built net task bits f table is t u k below c.renew.new.frame c.as_slice-in-loop-t.result.now held (Ok c.in-Ok.field-0) ant.by at c.in-Ok.ensures.built).ok in
+    let nets : List Rails = nets_of c.renew.new.frame in
+    let long : length nets ≡ net.nets = step.long in
     λ j d lt. let inside = (con.of j d lt).node in omega (arith, long, inside)
 
 pub returns-in-Some-clause-place : goal.returns-in-Some-clause-place
@@ -185,25 +154,25 @@ returns-in-Some-clause-place g c =
     let below : k < depth task = subst (λ m. k < m) c.depth-depth.ensures c.loop-t-test.true in
     let table : ℕ → ℕ → BitSet = c.requires.found.0 in
     let is : IsTableOf net task bits table = c.requires.found.1 in
-    let held : List Rails = c.as_slice-in-loop-t.result.now in
-    let at : IsPlaceAt net task bits f table t k held = subst (λ (xs : List Rails). IsPlaceAt net task bits f table t k xs) (sym c.as_slice-in-loop-t.ensures) (p.reached table is) in
-    let ant : IsNextLine t net (map (fixed_quint bits) task.ant) n k c.cuts_at.new.self c.as_slice-in-loop-t-2.result.now = next_line t net (map (fixed_quint bits) task.ant) n k c.loop-t.ant c.cuts_at.new.self c.in_ok-asked.asked.items c.as_slice-in-loop-t-2.result.now
-    p.ant c.loop-t-test.true (fixed_inside bits net.nets task.ant c.requires.ant) c.as_slice-in-loop-t-2.ensures.value c.in_ok-asked.ensures in
-    let u : Store = g.N.Nodes.store c.advance.new.nodes in
+    let held : List Rails = next_of net c.loop-t.frame in
+    let at : IsPlaceAt net task bits f table t k held = p.reached table is in
+    let ant : IsNextLine t net (map (fixed_quint bits) task.ant) n k c.cuts_at.new.self c.as_slice-in-loop-t.result.now = next_line t net (map (fixed_quint bits) task.ant) n k c.loop-t.ant c.cuts_at.new.self c.in_ok-asked.asked.items c.as_slice-in-loop-t.result.now
+    p.ant c.loop-t-test.true (fixed_inside bits net.nets task.ant c.requires.ant) c.as_slice-in-loop-t.ensures.value c.in_ok-asked.ensures in
+    let u : Store = g.N.Nodes.store c.renew.new.nodes in
     let gt = g.met.N.Nodes.diagram c.loop-t.nodes in
-    let gu = g.met.N.Nodes.diagram c.advance.new.nodes in
-    let con : IsNextLine t net (map (fixed_quint bits) task.con) n k c.cuts_at-in-loop-t.new.self c.as_slice-in-loop-t-4.result.now = next_line t net (map (fixed_quint bits) task.con) n k c.loop-t.con c.cuts_at-in-loop-t.new.self c.in_ok-wanted.wanted.items c.as_slice-in-loop-t-4.result.now
-    p.con c.loop-t-test.true (fixed_inside bits net.nets task.con c.requires.con) c.as_slice-in-loop-t-4.ensures.value c.in_ok-wanted.ensures in
-    let makes = step_makes net task bits f table is t u k below c.as_slice-in-loop-t-2.result.now held (Ok c.in-Ok.made) gu (g.met.N.Nodes.made_held c.advance.new.nodes) ant.by at c.in-Ok.ensures.built in
-    let made : Step = c.in-Ok.made in
-    let step : IsStep net (constant_table table k) u made = (step_built net task bits f table is t u k below c.as_slice-in-loop-t-2.result.now held (Ok made) ant.by at c.in-Ok.ensures.built).ok in
-    let nets : List Rails = c.as_slice-in-loop-t-3.result.now in
-    let long : length nets ≡ net.nets = ap (λ (xs : List Rails). length xs) c.as_slice-in-loop-t-3.ensures ∙ step.long in
-    let have : (id : ℕ) → id < length nets → AreRails u (constant_set (table k id)) (rails_at nets id) = λ id lt. subst (λ (xs : List Rails). AreRails u (constant_set (table k id)) (rails_at xs id)) (sym c.as_slice-in-loop-t-3.ensures) (step.nets id (omega (arith, long, lt))) in
-    let wanted : AllZip (IsCutBy u) (symbolic_cuts_at (map (fixed_quint bits) task.con) k) c.as_slice-in-loop-t-4.result.now = Demands-keep t u (symbolic_cuts_at (map (fixed_quint bits) task.con) k) c.as_slice-in-loop-t-4.result.now gt gu makes.keeps con.by in
+    let gu = g.met.N.Nodes.diagram c.renew.new.nodes in
+    let con : IsNextLine t net (map (fixed_quint bits) task.con) n k c.cuts_at-in-loop-t.new.self c.as_slice-in-loop-t-2.result.now = next_line t net (map (fixed_quint bits) task.con) n k c.loop-t.con c.cuts_at-in-loop-t.new.self c.in_ok-wanted.wanted.items c.as_slice-in-loop-t-2.result.now
+    p.con c.loop-t-test.true (fixed_inside bits net.nets task.con c.requires.con) c.as_slice-in-loop-t-2.ensures.value c.in_ok-wanted.ensures in
+    let makes = step_makes net task bits f table is t u k below c.renew.new.frame c.as_slice-in-loop-t.result.now held (Ok c.in-Ok.field-0) gu (g.met.N.Nodes.made_held c.renew.new.nodes) ant.by at c.in-Ok.ensures.built in
+    let made : Step = step_of net c.renew.new.frame c.in-Ok.field-0 in
+    let step : IsStep net (constant_table table k) u made = (step_built net task bits f table is t u k below c.renew.new.frame c.as_slice-in-loop-t.result.now held (Ok c.in-Ok.field-0) ant.by at c.in-Ok.ensures.built).ok in
+    let nets : List Rails = nets_of c.renew.new.frame in
+    let long : length nets ≡ net.nets = step.long in
+    let have : (id : ℕ) → id < length nets → AreRails u (constant_set (table k id)) (rails_at nets id) = λ id lt. step.nets id (omega (arith, long, lt)) in
+    let wanted : AllZip (IsCutBy u) (symbolic_cuts_at (map (fixed_quint bits) task.con) k) c.as_slice-in-loop-t-2.result.now = Demands-keep t u (symbolic_cuts_at (map (fixed_quint bits) task.con) k) c.as_slice-in-loop-t-2.result.now gt gu makes.keeps con.by in
     let inside : All (λ quint. quint.node.0 < length nets) task.con = λ j d lt. let within = c.requires.con j d lt in omega (arith, long, within) in
-    let told = first_is f u (table k) nets bits k gu have task.con c.as_slice-in-loop-t-4.result.now inside wanted in
-    place_is net task bits f table is t u k below held c.in-Some.node at (subst (λ (o : Option NodeId). IsTold f (table k) (cuts_at task.con bits k) o) (sym c.in-Some.ensures) told)
+    let told = first_is f u (table k) nets bits k gu have task.con c.as_slice-in-loop-t-2.result.now inside wanted in
+    place_is net task bits f table is t u k below c.renew.new.frame held c.in-Some.node at (subst (λ (o : Option NodeId). IsTold f (table k) (cuts_at task.con bits k) o) (sym c.in-Some.ensures) told)
 
 pub returns-in-Some-clause-same : goal.returns-in-Some-clause-same
 returns-in-Some-clause-same g c =
@@ -219,14 +188,14 @@ returns-in-Some-clause-same g c =
     let below : k < depth task = subst (λ m. k < m) c.depth-depth.ensures c.loop-t-test.true in
     let table : ℕ → ℕ → BitSet = c.requires.found.0 in
     let is : IsTableOf net task bits table = c.requires.found.1 in
-    let held : List Rails = c.as_slice-in-loop-t.result.now in
-    let at : IsPlaceAt net task bits f table t k held = subst (λ (xs : List Rails). IsPlaceAt net task bits f table t k xs) (sym c.as_slice-in-loop-t.ensures) (p.reached table is) in
-    let ant : IsNextLine t net (map (fixed_quint bits) task.ant) n k c.cuts_at.new.self c.as_slice-in-loop-t-2.result.now = next_line t net (map (fixed_quint bits) task.ant) n k c.loop-t.ant c.cuts_at.new.self c.in_ok-asked.asked.items c.as_slice-in-loop-t-2.result.now
-    p.ant c.loop-t-test.true (fixed_inside bits net.nets task.ant c.requires.ant) c.as_slice-in-loop-t-2.ensures.value c.in_ok-asked.ensures in
-    let u : Store = g.N.Nodes.store c.advance.new.nodes in
+    let held : List Rails = next_of net c.loop-t.frame in
+    let at : IsPlaceAt net task bits f table t k held = p.reached table is in
+    let ant : IsNextLine t net (map (fixed_quint bits) task.ant) n k c.cuts_at.new.self c.as_slice-in-loop-t.result.now = next_line t net (map (fixed_quint bits) task.ant) n k c.loop-t.ant c.cuts_at.new.self c.in_ok-asked.asked.items c.as_slice-in-loop-t.result.now
+    p.ant c.loop-t-test.true (fixed_inside bits net.nets task.ant c.requires.ant) c.as_slice-in-loop-t.ensures.value c.in_ok-asked.ensures in
+    let u : Store = g.N.Nodes.store c.renew.new.nodes in
     let gt = g.met.N.Nodes.diagram c.loop-t.nodes in
-    let gu = g.met.N.Nodes.diagram c.advance.new.nodes in
-    let makes = step_makes net task bits f table is t u k below c.as_slice-in-loop-t-2.result.now held (Ok c.in-Ok.made) gu (g.met.N.Nodes.made_held c.advance.new.nodes) ant.by at c.in-Ok.ensures.built in
+    let gu = g.met.N.Nodes.diagram c.renew.new.nodes in
+    let makes = step_makes net task bits f table is t u k below c.renew.new.frame c.as_slice-in-loop-t.result.now held (Ok c.in-Ok.field-0) gu (g.met.N.Nodes.made_held c.renew.new.nodes) ant.by at c.in-Ok.ensures.built in
     nothing_more s t u p.same makes
 
 pub loop-t-preserved : goal.loop-t-preserved
@@ -243,36 +212,36 @@ loop-t-preserved g c =
     let below : k < depth task = subst (λ m. k < m) c.depth-depth.ensures c.loop-t-test.true in
     let table : ℕ → ℕ → BitSet = c.requires.found.0 in
     let is : IsTableOf net task bits table = c.requires.found.1 in
-    let held : List Rails = c.as_slice-in-loop-t.result.now in
-    let at : IsPlaceAt net task bits f table t k held = subst (λ (xs : List Rails). IsPlaceAt net task bits f table t k xs) (sym c.as_slice-in-loop-t.ensures) (p.reached table is) in
-    let ant : IsNextLine t net (map (fixed_quint bits) task.ant) n k c.cuts_at.new.self c.as_slice-in-loop-t-2.result.now = next_line t net (map (fixed_quint bits) task.ant) n k c.loop-t.ant c.cuts_at.new.self c.in_ok-asked.asked.items c.as_slice-in-loop-t-2.result.now
-    p.ant c.loop-t-test.true (fixed_inside bits net.nets task.ant c.requires.ant) c.as_slice-in-loop-t-2.ensures.value c.in_ok-asked.ensures in
-    let u : Store = g.N.Nodes.store c.advance.new.nodes in
+    let held : List Rails = next_of net c.loop-t.frame in
+    let at : IsPlaceAt net task bits f table t k held = p.reached table is in
+    let ant : IsNextLine t net (map (fixed_quint bits) task.ant) n k c.cuts_at.new.self c.as_slice-in-loop-t.result.now = next_line t net (map (fixed_quint bits) task.ant) n k c.loop-t.ant c.cuts_at.new.self c.in_ok-asked.asked.items c.as_slice-in-loop-t.result.now
+    p.ant c.loop-t-test.true (fixed_inside bits net.nets task.ant c.requires.ant) c.as_slice-in-loop-t.ensures.value c.in_ok-asked.ensures in
+    let u : Store = g.N.Nodes.store c.renew.new.nodes in
     let gt = g.met.N.Nodes.diagram c.loop-t.nodes in
-    let gu = g.met.N.Nodes.diagram c.advance.new.nodes in
-    let con : IsNextLine t net (map (fixed_quint bits) task.con) n k c.cuts_at-in-loop-t.new.self c.as_slice-in-loop-t-4.result.now = next_line t net (map (fixed_quint bits) task.con) n k c.loop-t.con c.cuts_at-in-loop-t.new.self c.in_ok-wanted.wanted.items c.as_slice-in-loop-t-4.result.now
-    p.con c.loop-t-test.true (fixed_inside bits net.nets task.con c.requires.con) c.as_slice-in-loop-t-4.ensures.value c.in_ok-wanted.ensures in
-    let makes = step_makes net task bits f table is t u k below c.as_slice-in-loop-t-2.result.now held (Ok c.in-Ok.made) gu (g.met.N.Nodes.made_held c.advance.new.nodes) ant.by at c.in-Ok.ensures.built in
+    let gu = g.met.N.Nodes.diagram c.renew.new.nodes in
+    let con : IsNextLine t net (map (fixed_quint bits) task.con) n k c.cuts_at-in-loop-t.new.self c.as_slice-in-loop-t-2.result.now = next_line t net (map (fixed_quint bits) task.con) n k c.loop-t.con c.cuts_at-in-loop-t.new.self c.in_ok-wanted.wanted.items c.as_slice-in-loop-t-2.result.now
+    p.con c.loop-t-test.true (fixed_inside bits net.nets task.con c.requires.con) c.as_slice-in-loop-t-2.ensures.value c.in_ok-wanted.ensures in
+    let makes = step_makes net task bits f table is t u k below c.renew.new.frame c.as_slice-in-loop-t.result.now held (Ok c.in-Ok.field-0) gu (g.met.N.Nodes.made_held c.renew.new.nodes) ant.by at c.in-Ok.ensures.built in
     record {
       ant = Line-keeps t u (map (fixed_quint bits) task.ant) n (k + 1) c.cuts_at.new.self gt gu makes.keeps ant.is;
       con = Line-keeps t u (map (fixed_quint bits) task.con) n (k + 1) c.cuts_at-in-loop-t.new.self gt gu makes.keeps con.is;
       reached = λ table is.
-          let held : List Rails = c.as_slice-in-loop-t.result.now in
-          let at : IsPlaceAt net task bits f table t k held = subst (λ (xs : List Rails). IsPlaceAt net task bits f table t k xs) (sym c.as_slice-in-loop-t.ensures) (p.reached table is) in
-          let ant : IsNextLine t net (map (fixed_quint bits) task.ant) n k c.cuts_at.new.self c.as_slice-in-loop-t-2.result.now = next_line t net (map (fixed_quint bits) task.ant) n k c.loop-t.ant c.cuts_at.new.self c.in_ok-asked.asked.items c.as_slice-in-loop-t-2.result.now
-          p.ant c.loop-t-test.true (fixed_inside bits net.nets task.ant c.requires.ant) c.as_slice-in-loop-t-2.ensures.value c.in_ok-asked.ensures in
-          let con : IsNextLine t net (map (fixed_quint bits) task.con) n k c.cuts_at-in-loop-t.new.self c.as_slice-in-loop-t-4.result.now = next_line t net (map (fixed_quint bits) task.con) n k c.loop-t.con c.cuts_at-in-loop-t.new.self c.in_ok-wanted.wanted.items c.as_slice-in-loop-t-4.result.now
-          p.con c.loop-t-test.true (fixed_inside bits net.nets task.con c.requires.con) c.as_slice-in-loop-t-4.ensures.value c.in_ok-wanted.ensures in
-          let makes = step_makes net task bits f table is t u k below c.as_slice-in-loop-t-2.result.now held (Ok c.in-Ok.made) gu (g.met.N.Nodes.made_held c.advance.new.nodes) ant.by at c.in-Ok.ensures.built in
-          let made : Step = c.in-Ok.made in
-          let step : IsStep net (constant_table table k) u made = (step_built net task bits f table is t u k below c.as_slice-in-loop-t-2.result.now held (Ok made) ant.by at c.in-Ok.ensures.built).ok in
-          let nets : List Rails = c.as_slice-in-loop-t-3.result.now in
-          let long : length nets ≡ net.nets = ap (λ (xs : List Rails). length xs) c.as_slice-in-loop-t-3.ensures ∙ step.long in
-          let have : (id : ℕ) → id < length nets → AreRails u (constant_set (table k id)) (rails_at nets id) = λ id lt. subst (λ (xs : List Rails). AreRails u (constant_set (table k id)) (rails_at xs id)) (sym c.as_slice-in-loop-t-3.ensures) (step.nets id (omega (arith, long, lt))) in
-          let wanted : AllZip (IsCutBy u) (symbolic_cuts_at (map (fixed_quint bits) task.con) k) c.as_slice-in-loop-t-4.result.now = Demands-keep t u (symbolic_cuts_at (map (fixed_quint bits) task.con) k) c.as_slice-in-loop-t-4.result.now gt gu makes.keeps con.by in
+          let held : List Rails = next_of net c.loop-t.frame in
+          let at : IsPlaceAt net task bits f table t k held = p.reached table is in
+          let ant : IsNextLine t net (map (fixed_quint bits) task.ant) n k c.cuts_at.new.self c.as_slice-in-loop-t.result.now = next_line t net (map (fixed_quint bits) task.ant) n k c.loop-t.ant c.cuts_at.new.self c.in_ok-asked.asked.items c.as_slice-in-loop-t.result.now
+          p.ant c.loop-t-test.true (fixed_inside bits net.nets task.ant c.requires.ant) c.as_slice-in-loop-t.ensures.value c.in_ok-asked.ensures in
+          let con : IsNextLine t net (map (fixed_quint bits) task.con) n k c.cuts_at-in-loop-t.new.self c.as_slice-in-loop-t-2.result.now = next_line t net (map (fixed_quint bits) task.con) n k c.loop-t.con c.cuts_at-in-loop-t.new.self c.in_ok-wanted.wanted.items c.as_slice-in-loop-t-2.result.now
+          p.con c.loop-t-test.true (fixed_inside bits net.nets task.con c.requires.con) c.as_slice-in-loop-t-2.ensures.value c.in_ok-wanted.ensures in
+          let makes = step_makes net task bits f table is t u k below c.renew.new.frame c.as_slice-in-loop-t.result.now held (Ok c.in-Ok.field-0) gu (g.met.N.Nodes.made_held c.renew.new.nodes) ant.by at c.in-Ok.ensures.built in
+          let made : Step = step_of net c.renew.new.frame c.in-Ok.field-0 in
+          let step : IsStep net (constant_table table k) u made = (step_built net task bits f table is t u k below c.renew.new.frame c.as_slice-in-loop-t.result.now held (Ok c.in-Ok.field-0) ant.by at c.in-Ok.ensures.built).ok in
+          let nets : List Rails = nets_of c.renew.new.frame in
+          let long : length nets ≡ net.nets = step.long in
+          let have : (id : ℕ) → id < length nets → AreRails u (constant_set (table k id)) (rails_at nets id) = λ id lt. step.nets id (omega (arith, long, lt)) in
+          let wanted : AllZip (IsCutBy u) (symbolic_cuts_at (map (fixed_quint bits) task.con) k) c.as_slice-in-loop-t-2.result.now = Demands-keep t u (symbolic_cuts_at (map (fixed_quint bits) task.con) k) c.as_slice-in-loop-t-2.result.now gt gu makes.keeps con.by in
           let inside : All (λ quint. quint.node.0 < length nets) task.con = λ j d lt. let within = c.requires.con j d lt in omega (arith, long, within) in
-          let told = first_is f u (table k) nets bits k gu have task.con c.as_slice-in-loop-t-4.result.now inside wanted in
-          place_next net task bits f table is t u k below held made at step (subst (λ (o : Option NodeId). IsTold f (table k) (cuts_at task.con bits k) o) (sym c.first_failing.ensures ∙ not_some c.first_failing.result c.in_default.not-Some) told);
+          let told = first_is f u (table k) nets bits k gu have task.con c.as_slice-in-loop-t-2.result.now inside wanted in
+          place_next net task bits f table is t u k below c.renew.new.frame held made at step (subst (λ (o : Option NodeId). IsTold f (table k) (cuts_at task.con bits k) o) (sym c.first_failing.ensures ∙ not_some c.first_failing.result c.in_default.not-Some) told);
       frame = c.in-Ok.ensures.frame;
       same = nothing_more s t u p.same makes;
     }
@@ -290,4 +259,4 @@ unreachable-requires-2 g c =
     let table : ℕ → ℕ → BitSet = c.requires.found.0 in
     let is : IsTableOf net task bits table = c.requires.found.1 in
     let end : k ≡ depth task = (let le = c.loop-t-test.false in let most = c.loop-t.auto.t-end in omega (arith, le, most)) ∙ c.depth-depth.ensures in
-    place_ends net task bits f table t k c.loop-t.latches (p.reached table is) end c.requires.found.3
+    place_ends net task bits f table t k (next_of net c.loop-t.frame) (p.reached table is) end c.requires.found.3

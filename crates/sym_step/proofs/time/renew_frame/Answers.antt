@@ -17,7 +17,7 @@ use Rattle.net_core.specs.declared.raw.Latch.{Latch}
 use Rattle.std.proofs.Common.{◌<◌, get_or, map}
 use Rattle.sym_step.specs.private.NetSets.{AreNetRefs, net_at}
 use Rattle.sym_step.specs.private.Parts.{HaveNets}
-use Rattle.sym_step.proofs.Framing.{given_here, written}
+use Rattle.sym_step.proofs.Framing.{given_here, not_first, written}
 use Rattle.sym_step.proofs.Whole as whole
 use Rattle.sym_step.proofs.time.renew_frame.Goals as goal
 
@@ -105,6 +105,7 @@ returns-clause-frame g c =
       refs = subst (All (AreNetRefs u)) (sym back) p.refs;
       room = subst (λ (xs : List Ref). All (λ gate. length gate.inputs < length xs) net.raw.gates) (sym back_room) (subst (λ n. All (λ gate. length gate.inputs < n) net.raw.gates) (sym same_room) c.requires.frame.room);
       inside = subst (All (λ (node : NodeId). node.0 < net.raw.nets)) (sym c.in_ok-asked.ensures) (nodes_inside net.raw.nets cuts (λ k d l. (c.requires.cuts k d l).node));
+      first = not_first u net.raw c.args.frame.now.first c.requires.first;
       undriven = subst (AreOpen u net.raw c.in_ok-asked.asked.items) (sym back)
           (undriven_here net.raw net.in_range net.one_driver ls asked.cuts exist.0 (length-map latches (set_where s) ∙ c.requires.long) s u cuts c.in_ok-asked.asked.items nets keeps exist.1 zipc c.in_ok-asked.ensures (p.have ls asked exist.0 zip zipc exist.1));
       kept = subst Kept (sym back) (given_here net.raw net.settled net.in_range net.one_driver net.in_order ls asked.cuts exist.0 (length-map latches (set_where s) ∙ c.requires.long) s u cuts marks nets keeps exist.1 zipc c.in_ok-marks.ensures.marks (p.have ls asked exist.0 zip zipc exist.1));

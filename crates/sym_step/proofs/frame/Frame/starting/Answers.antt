@@ -1,0 +1,12 @@
+use Rattle.std.proofs.Common.{◌≡◌, List, Some, subst}
+use Rattle.dual_rail.specs.declared.rails.Rails.{Rails}
+use Rattle.sym_step.specs.private.Frames.{AreFirst}
+use Rattle.sym_step.proofs.Framing.{with_first}
+use Rattle.sym_step.proofs.frame.Frame.starting.Goals as goal
+
+pub returns-clause-frame : goal.returns-clause-frame
+returns-clause-frame c = λ s d refs.
+    let net = c.args.net.now.raw in
+    let first : List Rails = c.args.first in
+    with_first s net c.in_ok-frame.frame (Some first) (c.in_ok-frame.ensures s d)
+    (λ sets is. let same : first ≡ sets = cc is in subst (AreFirst s net) same (record { long = c.requires; refs = refs }))
