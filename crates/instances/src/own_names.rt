@@ -45,6 +45,9 @@ fn add_path(alloc: Global, rows: &[Row], place: usize, text: &mut Vec<u8>) -> Re
 fn joined(alloc: Global, path: &[u8], signal: &Name) -> Result<Name, AllocError>
     ensures { IfOk result (λ name. name ≡ path.now ++ signal.now) }
 {
+    if path.is_empty() {
+        return signal.clone();
+    }
     let mut text = path.to_vec(alloc)?;
     text.extend_from_slice(signal.bytes())?;
     Name::from_bytes(alloc, &text)
