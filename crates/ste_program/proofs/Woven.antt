@@ -17,7 +17,8 @@ use Rattle.dual_rail.proofs.Turns.{zip_at}
 use Rattle.net_core.specs.declared.raw.RawNet.{RawNet}
 use Rattle.ste_model.specs.declared.report.Report.{Report}
 use Rattle.ste_model.specs.declared.task.Task.{Task}
-use Rattle.work_pool.specs.Told.{IsToldOf, IsToldOfNumber}
+use Rattle.work_pool.specs.Pool.{IsToldOfNumber}
+use Rattle.work_pool.specs.Told.{IsToldOf}
 use Rattle.ste_program.specs.private.Tries.{budget_numbers, is_budget, is_budget_report, says_budget, woven}
 use Rattle.ste_program.proofs.FewSteps.{one_told, some_budget}
 use Rattle.work_pool.proofs.Gathering.{zip_of}

@@ -294,9 +294,8 @@ fn large_tasks_alone_are_tried_again(rt: HostRuntime) -> Result<(), Fail> {
         passes.push_str(&format!(in alloc; "t{i}: pass\n")?)?;
     }
     for (words, begun) in [
-        ("--workers 1 --steps 300000", 43),
-        ("--workers 3 --steps 300000", 43),
-        ("--workers 2 --steps 300000 --nodes", 80),
+        ("--workers 3 --steps 50000", 43),
+        ("--workers 2 --steps 50000 --nodes", 80),
     ] {
         let gate = Begun {
             count: AtomicU64::new(0),

@@ -9,7 +9,8 @@ use Rattle.dual_rail.proofs.Turns.{zip_at}
 use Rattle.net_core.specs.declared.raw.RawNet.{RawNet}
 use Rattle.ste_model.specs.declared.report.Report.{Report}
 use Rattle.ste_model.specs.declared.task.Task.{Task}
-use Rattle.work_pool.specs.Told.{IsToldOf, IsToldOfNumber}
+use Rattle.work_pool.specs.Pool.{IsToldOfNumber}
+use Rattle.work_pool.specs.Told.{IsToldOf}
 use Rattle.work_pool.specs.private.Jobs.{tasks_at}
 use Rattle.work_pool.proofs.Gathering.{first_of, zip_of}
 

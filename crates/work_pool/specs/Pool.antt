@@ -36,6 +36,11 @@ pub record IsPooled (net : RawNet) (steps cubes : ℕ) (tasks : List Task) (repo
   pub kept : (i : ℕ) (task : Task) (report : Report) → slice_get tasks i ≡ Some task → slice_get reports i ≡ Some report →
       report.verdict ≢ Budget → IsTaskKept net task t
 
+-- what may be told of the task of this number
+abbrev pub IsToldOfNumber : RawNet → ℕ → ℕ → ℕ → List Task → ℕ → Report → Type 0
+IsToldOfNumber net vars steps cubes tasks number report =
+    (task : Task) → slice_get tasks number ≡ Some task → IsToldOf net vars steps cubes task report
+
 -- Law: what is told of tasks twice, over the same variables and with the same number of cubes, whatever the steps and the schedules, agrees
 -- on each task.
 abbrev pub PoolsAgree : Type 0

@@ -31,11 +31,6 @@ IsToldOf net vars steps cubes (Ste task) report =
 IsToldOf net vars steps cubes (Gste graph) report =
     IsGraphReportOf net vars cubes graph report ⊎ ((report ≡ budget_report graph.name) × AreTooFew net vars steps (Gste graph))
 
--- what may be told of the task of this number
-abbrev pub IsToldOfNumber : RawNet → ℕ → ℕ → ℕ → List Task → ℕ → Report → Type 0
-IsToldOfNumber net vars steps cubes tasks number report =
-    (task : Task) → slice_get tasks number ≡ Some task → IsToldOf net vars steps cubes task report
-
 -- how many of the reports say budget
 abbrev pub counts_budget : Verdict → ℕ
 counts_budget Budget = 1

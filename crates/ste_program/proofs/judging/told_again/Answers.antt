@@ -2,7 +2,8 @@ use Rattle.std.proofs.Common.{◌∙◌, ◌<◌, ◌≤◌, ◌*◌, ℕ, List,
 use Rattle.std.specs.List.{AllZip}
 use Rattle.std.proofs.lemmas.Slice.Zip.{AllZip-long}
 use Rattle.command_line.specs.Command.{Command}
-use Rattle.work_pool.specs.Told.{IsToldOf, IsToldOfNumber}
+use Rattle.work_pool.specs.Pool.{IsToldOfNumber}
+use Rattle.work_pool.specs.Told.{IsToldOf}
 use Rattle.ste_program.specs.private.Tries.{woven}
 use Rattle.ste_program.proofs.TaskLists.{over_all}
 use Rattle.ste_program.proofs.Woven.{again_told, budgets_inside, budgets_steps}
