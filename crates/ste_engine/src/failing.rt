@@ -37,8 +37,21 @@ fn fails(failure: Failure, r: Rails, c: Cut) -> bool
     }
 }
 
+/// The net of the first consequent that fails so, on the sets of all nets.
+pub fn first_failing(failure: Failure, nets: &[Rails], cuts: &[Cut]) -> Option<NodeId>
+    requires { All (λ c. c.node.0 < length nets.now) cuts.now }
+    ensures { result ≡ first_failing failure nets.now cuts.now }
+{
+    for c in cuts {
+        if fails(failure, nets[c.node.0 as usize], *c) {
+            return Some(c.node);
+        }
+    }
+    None
+}
+
 /// The net of the first consequent that fails so, on the sets of a frame.
-pub fn first_failing(failure: Failure, frame: &Frame, cuts: &[Cut]) -> Option<NodeId>
+pub fn first_failing_in(failure: Failure, frame: &Frame, cuts: &[Cut]) -> Option<NodeId>
     requires { All (λ c. c.node.0 < length (nets_of frame.now)) cuts.now }
     ensures { result ≡ first_failing failure (nets_of frame.now) cuts.now }
 {

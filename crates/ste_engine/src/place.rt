@@ -8,7 +8,7 @@ ghost use Rattle.ste_engine.specs.private.Places.{FailsBy, MakesNothing, constan
 ghost use Rattle.ste_engine.specs.private.Times.{IsTimeline};
 
 use crate::asks::Ask;
-use crate::failing::{Failure, first_failing};
+use crate::failing::{Failure, first_failing_in};
 use crate::timeline::Timeline;
 use crate::turn::first_frame;
 use bool_expr::value;
@@ -101,7 +101,7 @@ pub fn failing_place<N: Nodes>(
             // Nothing has to be made, so no step is wanted.
             Err(OpFault::StepsOut) => unreachable!(),
         }
-        if let Some(node) = first_failing(failure, &frame, wanted.as_slice()) {
+        if let Some(node) = first_failing_in(failure, &frame, wanted.as_slice()) {
             return Ok((node, t));
         }
     }

@@ -113,8 +113,8 @@ unreachable-requires g c =
     let gu = g.met.N.Nodes.diagram c.renew.new.nodes in
     step_goes net task bits f table is t u k below c.renew.new.frame c.as_slice-in-loop-t.result.now held (Err c.in-Err-StepsOut.field-0) gu (g.met.N.Nodes.made_held c.renew.new.nodes) ant.by at c.in-Err-StepsOut.ensures.built (ap Err c.in-Err-StepsOut.field-0-is)
 
-pub first_failing-requires : goal.first_failing-requires
-first_failing-requires g c =
+pub first_failing_in-requires : goal.first_failing_in-requires
+first_failing_in-requires g c =
     let net : RawNet = c.args.net.now.raw in
     let task : Assertion = c.args.task.now in
     let bits : List Bool = c.args.bits.now in
@@ -241,7 +241,7 @@ loop-t-preserved g c =
           let wanted : AllZip (IsCutBy u) (symbolic_cuts_at (map (fixed_quint bits) task.con) k) c.as_slice-in-loop-t-2.result.now = Demands-keep t u (symbolic_cuts_at (map (fixed_quint bits) task.con) k) c.as_slice-in-loop-t-2.result.now gt gu makes.keeps con.by in
           let inside : All (λ quint. quint.node.0 < length nets) task.con = λ j d lt. let within = c.requires.con j d lt in omega (arith, long, within) in
           let told = first_is f u (table k) nets bits k gu have task.con c.as_slice-in-loop-t-2.result.now inside wanted in
-          place_next net task bits f table is t u k below c.renew.new.frame held made at step (subst (λ (o : Option NodeId). IsTold f (table k) (cuts_at task.con bits k) o) (sym c.first_failing.ensures ∙ not_some c.first_failing.result c.in_default.not-Some) told);
+          place_next net task bits f table is t u k below c.renew.new.frame held made at step (subst (λ (o : Option NodeId). IsTold f (table k) (cuts_at task.con bits k) o) (sym c.first_failing_in.ensures ∙ not_some c.first_failing_in.result c.in_default.not-Some) told);
       frame = c.in-Ok.ensures.frame;
       same = nothing_more s t u p.same makes;
     }
