@@ -58,13 +58,13 @@ fn first_steps(nets: u32, tasks: u32, steps: u32) -> u32
 }
 
 /// The node steps of each of so many tasks that are tried next: four times those that were tried, and at least an equal
-/// share of 2,097,152, which is a table of 32 MB.
+/// share of 524,288, which is a table of 8 MB.
 fn next_steps(tried: u32, tasks: u32, steps: u32) -> u32
     requires { (1 ≤ tasks) × (1 ≤ tried) }
     ensures exact { result ≡ next_steps tried tasks steps }
     ensures more { tried < steps → (tried < result) × (result ≤ steps) }
 {
-    tried.saturating_mul(4).max(2097152 / tasks).min(steps)
+    tried.saturating_mul(4).max(524288 / tasks).min(steps)
 }
 
 /// Whether the report of this number says budget.

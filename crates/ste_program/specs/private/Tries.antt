@@ -16,7 +16,7 @@ first_steps nets tasks steps = min (max (min (max (8 * nets * tasks) 131072) 209
 
 -- the node steps of each of so many tasks that are tried behind so many, where so many are granted
 abbrev pub next_steps : ℕ → ℕ → ℕ → ℕ
-next_steps tried tasks steps = min (max (4 * tried) (2097152 / tasks)) steps
+next_steps tried tasks steps = min (max (4 * tried) (524288 / tasks)) steps
 
 -- there is a report, and it says budget
 abbrev pub is_budget_report : Option Report → Bool
