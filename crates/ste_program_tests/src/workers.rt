@@ -187,9 +187,8 @@ fn shared_nodes(rt: HostRuntime) -> Result<(), Fail> {
     Ok(())
 }
 
-/// Small tasks, so many, over the inverter, and behind them one that takes some 10,000 nodes: sums of products of variables
-/// that stand far apart in the order.
-fn one_large_task(alloc: Global, count: u32) -> Result<String, AllocError> {
+/// The line of the variables of the tasks of this file.
+fn variables(alloc: Global) -> Result<String, AllocError> {
     let mut text = String::from_str(alloc, ".vars")?;
     for name in ["p", "q"] {
         for i in 0..11 {
@@ -197,20 +196,48 @@ fn one_large_task(alloc: Global, count: u32) -> Result<String, AllocError> {
         }
     }
     text.push_str("\n")?;
-    for i in 0..count {
-        let task = format!(in alloc;
-            ".ste t{i}\n.ant a = p0 from 0 to 1\n.con y = !p0 from 0 to 1\n.end\n"
-        )?;
-        text.push_str(&task)?;
-    }
+    Ok(text)
+}
+
+/// A small task over the inverter.
+fn small_task(alloc: Global, name: &str) -> Result<String, AllocError> {
+    format!(in alloc; ".ste {name}\n.ant a = p0 from 0 to 1\n.con y = !p0 from 0 to 1\n.end\n")
+}
+
+/// A task over the inverter that takes some 10,000 nodes: sums of products of variables that stand far apart in the order.
+fn large_task(alloc: Global, name: &str) -> Result<String, AllocError> {
     let mut sum = String::from_str(alloc, "p0 & q0")?;
     for i in 1..11 {
         sum.push_str(&format!(in alloc; " | p{i} & q{i}")?)?;
     }
-    let large = format!(in alloc;
-        ".ste large\n.ant a = {sum} from 0 to 1\n.con y = !({sum}) from 0 to 1\n.end\n"
-    )?;
-    text.push_str(&large)?;
+    format!(in alloc;
+        ".ste {name}\n.ant a = {sum} from 0 to 1\n.con y = !({sum}) from 0 to 1\n.end\n"
+    )
+}
+
+/// Small tasks, so many, and behind them a large one.
+fn one_large_task(alloc: Global, count: u32) -> Result<String, AllocError> {
+    let mut text = variables(alloc)?;
+    for i in 0..count {
+        let name = format!(in alloc; "t{i}")?;
+        text.push_str(&small_task(alloc, &name)?)?;
+    }
+    text.push_str(&large_task(alloc, "large")?)?;
+    Ok(text)
+}
+
+/// 40 tasks, of which those of the numbers 5, 18 and 31 are large.
+fn three_large_tasks(alloc: Global) -> Result<String, AllocError> {
+    let mut text = variables(alloc)?;
+    for i in 0..40 {
+        let name = format!(in alloc; "t{i}")?;
+        let task = if i % 13 == 5 {
+            large_task(alloc, &name)?
+        } else {
+            small_task(alloc, &name)?
+        };
+        text.push_str(&task)?;
+    }
     Ok(text)
 }
 
@@ -241,5 +268,42 @@ fn few_steps_first(rt: HostRuntime) -> Result<(), Fail> {
         &NoGate,
     )?;
     assert!(&rt; text.ends_with(b"t39: pass\nlarge: budget\n"), "{words}");
+    Ok(())
+}
+
+/// Counts the tasks that are begun.
+#[derive(Drop)]
+struct Begun {
+    count: AtomicU64,
+}
+
+impl Gate for Begun {
+    fn at_task(&self, _task: u32) {
+        self.count.fetch_add(1, Ordering::SeqCst);
+    }
+}
+
+/// Only the large tasks are begun twice, and what is told stands in order; where the shared nodes are counted, all tasks
+/// are begun twice, and the same is told of them.
+#[test]
+fn large_tasks_alone_are_tried_again(rt: HostRuntime) -> Result<(), Fail> {
+    let alloc = rt.alloc();
+    let tasks = three_large_tasks(alloc)?;
+    let mut passes = String::new(alloc);
+    for i in 0..40 {
+        passes.push_str(&format!(in alloc; "t{i}: pass\n")?)?;
+    }
+    for (words, begun) in [
+        ("--workers 3 --steps 50000", 43),
+        ("--workers 2 --steps 50000 --nodes", 80),
+    ] {
+        let gate = Begun {
+            count: AtomicU64::new(0),
+        };
+        let text = report(&rt, alloc, words, INVERTER, &tasks, Status::Passed, &gate)?;
+        assert!(&rt; text.starts_with(passes.as_bytes()), "{words}");
+        assert_eq!(rt; text.len() == passes.len(), begun == 43, "{words}");
+        assert_eq!(rt; gate.count.load(Ordering::SeqCst), begun, "{words}");
+    }
     Ok(())
 }
