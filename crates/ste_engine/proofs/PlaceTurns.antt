@@ -1,5 +1,5 @@
 -- One time more under one assignment, and the place where it fails.
-use Rattle.std.proofs.Common.{◌≡◌, ◌≢◌, ℕ, suc, ◌+◌, ◌<◌, Bool, List, length, Option, None, Some, refl, sym, ◌∙◌, subst, arith, All, Result, Err, inl, inr}
+use Rattle.std.proofs.Common.{◌≡◌, ◌≢◌, ℕ, suc, ◌+◌, ◌<◌, Bool, List, Option, None, Some, refl, sym, ◌∙◌, subst, arith, All, Result, Err, inl, inr}
 use Rattle.std.specs.Prelude.{Any, IsSome}
 use Rattle.std.specs.List.{AllZip}
 use Rattle.std.proofs.lemmas.Bool.{cases_lt}

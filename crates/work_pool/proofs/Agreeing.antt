@@ -1,7 +1,6 @@
 -- What is told of tasks twice agrees on each task.
-use Rattle.std.proofs.Common.{◌≡◌, ℕ, List, [], ◌∷◌, ap, inl, inr, subst}
+use Rattle.std.proofs.Common.{ℕ, List, [], ◌∷◌, ap, inl, inr, subst}
 use Rattle.std.specs.List.{AllZip}
-use Rattle.dd_nodes.specs.Stores.{Store}
 use Rattle.net_core.specs.declared.raw.RawNet.{RawNet}
 use Rattle.net_core.specs.Flat.{IsInRange}
 use Rattle.net_core.specs.Run.{IsSettled}

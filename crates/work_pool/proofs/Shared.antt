@@ -1,8 +1,7 @@
 -- The number of taken slots of the table of a pool is one that may be told.
-use Rattle.std.proofs.Common.{◌≡◌, ℕ, ◌+◌, ◌*◌, ◌/◌, ◌≤◌, List, length, ap, arith, subst, sym}
-use Rattle.std.specs.Prelude.{◌≢◌, Contains, slice_get, Some}
+use Rattle.std.proofs.Common.{◌≡◌, ℕ, ◌*◌, ◌/◌, ◌≤◌, List, length, arith, subst}
 use Rattle.dd_nodes.specs.Diagram.{Function, IsCofactor}
-use Rattle.dd_nodes.specs.Functions.{IsCofactorOf, node_count}
+use Rattle.dd_nodes.specs.Functions.{node_count}
 use Rattle.dd_nodes.specs.Stores.{Means, Store}
 use Rattle.dd_nodes.specs.declared.node.Ref.{Ref}
 use Rattle.dd_table.specs.Sessions.{AreHeld, SessionValue, store_of}

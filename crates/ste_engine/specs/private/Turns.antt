@@ -1,5 +1,5 @@
 -- For private functions. What one time leaves, and what all times leave.
-use Rattle.std.specs.Prelude.{◌≡◌, ◌<◌, ℕ, Bool, List, ◌∷◌, ◌++◌, map, Contains, if◌then◌else◌}
+use Rattle.std.specs.Prelude.{◌<◌, ℕ, Bool, List, ◌∷◌, ◌++◌, map, Contains, if◌then◌else◌}
 use Rattle.std.specs.List.{AllZip}
 use Rattle.dd_nodes.specs.declared.node.Ref.{Ref}
 use Rattle.dd_nodes.specs.Diagram.{Function}
