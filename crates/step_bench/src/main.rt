@@ -17,7 +17,7 @@ use std::alloc::Global;
 use std::time::Instant;
 use std::{env, io};
 use ste_base::NodeId;
-use sym_step::{Cut, Frame, GateRows, advance, step};
+use sym_step::{Cut, Frame, GateRows, renew, step};
 
 /// What is asked: a variable on each of the first nets.
 fn cuts<N: Nodes>(
@@ -88,7 +88,7 @@ fn kept_steps<N: Nodes>(
 {
     let mut frame = Frame::blank(alloc, net)?;
     for _ in 0..count {
-        advance(alloc, ops, nodes, net, rows, &[], cuts, &mut frame)?;
+        renew(alloc, ops, nodes, net, rows, cuts, &mut frame)?;
     }
     Ok(())
 }

@@ -1,16 +1,19 @@
 -- One more net in the sum of where nets are empty.
 use Rattle.std.specs.Prelude.{◌||◌}
-use Rattle.std.proofs.Common.{◌≡◌, ℕ, zero, suc, ◌+◌, ◌<◌, List, [], ◌∷◌, ◌++◌, length, take, get_or, refl, sym, ◌∙◌, ap, subst, arith, Contains, map, Result, true, false, not, Bool}
+use Rattle.std.proofs.Common.{◌≡◌, ℕ, zero, suc, ◌+◌, ◌<◌, List, [], ◌∷◌, ◌++◌, length, take, get_or, refl, sym, ◌∙◌, ap, subst, arith, Contains, map, Result, true, false, not, Bool, All}
 use Rattle.std.specs.List.{AllZip}
 use Rattle.std.proofs.lemmas.List.{length-map, get_or-map}
-use Rattle.std.proofs.lemmas.List.Elements.{Contains-append_left, Contains-append_right}
+use Rattle.std.proofs.lemmas.List.Elements.{All-cons, All-head, All-nil, All-tail, Contains-append_left, Contains-append_right}
 use Rattle.dd_nodes.specs.declared.node.Ref.{Ref}
 use Rattle.dd_nodes.specs.Diagram.{Function}
 use Rattle.dd_nodes.specs.Stores.{Store, Means}
+use Rattle.dd_nodes.proofs.Spending.{zero_means}
+use Rattle.dd_ops.proofs.Terminal.{one_bit}
 use Rattle.dd_nodes.proofs.Stores.{IsGood}
 use Rattle.dd_ops.specs.declared.fault.OpFault.{OpFault}
-use Rattle.net_core.specs.Work.{SymbolicSet, everything, never, disjunction, no_bit, some_bit, sums, whole}
+use Rattle.net_core.specs.Work.{SymbolicSet, everything, never, disjunction, no_bit, some_bit, sum, sums, whole}
 use Rattle.sym_step.specs.declared.net_rails.NetRails.{NetRails}
+use Rattle.sym_step.specs.private.Boards.{AreFull}
 use Rattle.sym_step.specs.private.NetSets.{AreNetRails}
 use Rattle.sym_step.proofs.NetRefs.{Net-keeps}
 use Rattle.dual_rail.specs.Rail.{Built, HasFunction}
@@ -51,3 +54,24 @@ pub nowhere : (a b : Bool) → b ≡ true → a ≡ (a || not b)
 nowhere true b e = refl
 nowhere false true e = refl
 nowhere false false e = e
+
+-- ---- where all have a bit everywhere
+
+sum_never : (fs : List Function) (f : Function) (bits : List Bool) → f bits ≡ false → All (λ g. g bits ≡ false) fs → whole disjunction f fs bits ≡ false
+sum_never [] f bits e h = e
+sum_never (g ∷ gs) f bits e h = sum_never gs (disjunction f g) bits (ap (λ (x : Bool). x || g bits) e ∙ All-head (λ (k : Function). k bits ≡ false) g gs h) (All-tail (λ (k : Function). k bits ≡ false) g gs h)
+
+all_never : (t : Store) (bits : List Bool) → IsGood t → length bits ≡ t.vars → (ws : List SymbolicSet) (nets : List NetRails) → AllZip (AreNetRails t) ws nets → AreFull nets → All (λ g. g bits ≡ false) (map no_bit ws)
+all_never t bits gt l [] nets zip full = All-nil (λ (k : Function). k bits ≡ false)
+all_never t bits gt l (w ∷ ws) [] zip full = absurd zip
+all_never t bits gt l (w ∷ ws) (r ∷ rs) zip full =
+    let one : r.some ≡ record { 0 = 1 } = All-head (λ (x : NetRails). x.some ≡ record { 0 = 1 }) r rs full in
+    All-cons (λ (k : Function). k bits ≡ false) (no_bit w) (map no_bit ws)
+    (ap not (sym (zip.0.some.value bits l) ∙ one_bit t r.some bits gt (ap (λ (x : Ref). x.0) one)))
+    (all_never t bits gt l ws rs zip.1 (All-tail (λ (x : NetRails). x.some ≡ record { 0 = 1 }) r rs full))
+
+-- no net is empty anywhere
+pub none_empty : (t : Store) (ws : List SymbolicSet) (nets : List NetRails) → IsGood t → AllZip (AreNetRails t) ws nets → AreFull nets → Means t (sum (map no_bit ws)) (record { 0 = 0 })
+none_empty t ws nets gt zip full =
+    let zero = zero_means t gt in
+    record { ref = zero.ref; value = λ bits l. zero.value bits l ∙ sym (sum_never (map no_bit ws) never bits refl (all_never t bits gt l ws nets zip full)) }

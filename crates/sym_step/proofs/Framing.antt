@@ -1,10 +1,13 @@
 -- What is kept of the time before, while nets get their sets.
-use Rattle.std.proofs.Common.{◌≡◌, ℕ, ◌<◌, Bool, false, List, Option, None, Some, [], ◌∷◌, ◌++◌, length, take, map, get_or, set, refl, sym, ◌∙◌, ap, subst, arith, inl, inr, All, get_or-set_same, get_or-set_other}
+use Rattle.std.proofs.Common.{◌≡◌, ◌≢◌, ℕ, ◌<◌, Bool, true, false, List, Option, None, Some, [], ◌∷◌, ◌++◌, length, take, map, get_or, refl, sym, ◌∙◌, ap, subst, arith, All, ne_eqb, eq-eqb, eqb-true}
+use Rattle.std.specs.Prelude.{IsTrue, ◌==◌, ◌||◌, if◌then◌else◌}
+use Rattle.std.specs.Global.{Vec}
 use Rattle.std.specs.List.{AllZip}
-use Rattle.std.proofs.lemmas.Bool.{cases_eq}
+use Rattle.std.proofs.lemmas.Bool.{false≢true}
 use Rattle.std.proofs.lemmas.List.{get_or_default, length-map}
 use Rattle.std.proofs.Math.Seq.{take-append_seam}
 use Rattle.std.proofs.lemmas.List.Elements.{All-cons, All-head, All-nil, All-tail}
+use Rattle.std.proofs.lemmas.List.Folds.{Any-from_list_any}
 use Rattle.ste_base.specs.declared.id.NodeId.{NodeId}
 use Rattle.dd_nodes.specs.declared.node.Ref.{Ref}
 use Rattle.dd_nodes.specs.Diagram.{Function}
@@ -19,47 +22,49 @@ use Rattle.net_core.specs.declared.raw.Gate.{Gate}
 use Rattle.net_core.specs.declared.raw.RawNet.{RawNet}
 use Rattle.net_core.specs.Flat.{IsInRange, HasOneDriver, IsSettledOrder}
 use Rattle.net_core.specs.Possible.{MayGive}
+use Rattle.net_core.specs.Source.{source_of}
+use Rattle.net_core.specs.declared.source.Source.TheVariants.{Gate as OfGate}
 use Rattle.net_core.specs.Run.{gate_bit}
-use Rattle.net_core.specs.Work.{ArePossibleEach, SymbolicCut, SymbolicSet, everything, output_set, set_at, some_empty, uncut}
-use Rattle.net_core.proofs.OneTime.{fixed, gate_in}
+use Rattle.net_core.specs.Work.{ArePossibleEach, SymbolicCut, SymbolicSet, after_cut, after_cuts, cut_set, everything, output_set, set_at, some_empty, uncut}
+use Rattle.net_core.proofs.OneTime.{fixed, gate_in, gate_source}
 use Rattle.net_core.proofs.Possible.{same_fields, same_set}
+use Rattle.sym_step.specs.declared.board.Board.{Board}
 use Rattle.sym_step.specs.declared.cut.Cut.{Cut}
 use Rattle.sym_step.specs.declared.frame.Frame.{Frame}
 use Rattle.sym_step.specs.declared.made.Step.{Step}
 use Rattle.sym_step.specs.declared.net_rails.NetRails.{NetRails}
 use Rattle.sym_step.specs.Step.{HaveSets, IsCutBy, IsStep}
-use Rattle.sym_step.specs.private.Frames.{AreFirst, AreKept, AreNoted, IsFrame, IsGiven, bare, first_or, flag_at, input_rails, nets_of, next_of, step_of}
+use Rattle.sym_step.specs.private.Boards.{AreFull, Follows}
+use Rattle.sym_step.specs.private.Frames.{AreFirst, AreReady, AreSpared, IsFrame, IsGiven, bare, first_or, input_rails, is_listed, nets_of, next_of, step_of}
+use Rattle.sym_step.specs.private.Readers.{AreMarked, ReadsAs, flag_at}
 use Rattle.sym_step.specs.private.NetSets.{AreNetRails, AreNetRefs, net_at, own_where}
-use Rattle.sym_step.specs.private.Parts.{AreMarks, HaveNets, asks}
-use Rattle.sym_step.proofs.Cutting.{unmarked}
+use Rattle.sym_step.specs.private.Parts.{HaveNets, asks}
 use Rattle.sym_step.proofs.NetRefs.{All-net-refs-keep, Net-keeps, own_net}
 use Rattle.sym_step.proofs.Sourced.{unknown}
 use Rattle.sym_step.proofs.Turning.{Net-same, before_is}
 
--- ---- nets that have not changed
+-- ---- nets that are cut
 
-pub noted_start : (flags : List Bool) (nets : List NetRails) → AreNoted flags nets flags nets
-noted_start flags nets id h = (h, refl)
+-- nothing is asked of a net that is not listed
+pub unlisted : (s : Store) (ds : List SymbolicCut) (cuts : List Cut) (id : ℕ) (f : ℕ → SymbolicSet) → AllZip (IsCutBy s) ds cuts → is_listed (map (λ (c : Cut). c.node) cuts) id ≡ false → after_cuts ds f id ≡ f id
+unlisted s [] cuts id f zip none = refl
+unlisted s (d ∷ ds) [] id f zip none = absurd zip
+unlisted s (d ∷ ds) (c ∷ cuts) id f zip none = by (c.node.0 == id) refl none (λ h. unlisted s ds cuts id (after_cut d f) zip.1 h)
+  where
+    by : (b : Bool) → (c.node.0 == id) ≡ b → (b || is_listed (map (λ (x : Cut). x.node) cuts) id) ≡ false → (is_listed (map (λ (x : Cut). x.node) cuts) id ≡ false → after_cuts ds (after_cut d f) id ≡ after_cut d f id)
+        → after_cuts ds (after_cut d f) id ≡ f id
+    by true e h rest = absurd (false≢true (sym h))
+    by false e h rest =
+        let ne : (d.node ≡ id) → ⊥ = λ same. false≢true (sym e ∙ eq-eqb c.node.0 id (sym zip.0.node ∙ same)) in
+        rest h ∙ ap (λ (x : Bool). if x then cut_set (f id) d.guard d.value else f id) (ne_eqb d.node id ne)
 
-pub noted_then : (a b c : List Bool) (xs ys zs : List NetRails) → AreNoted a xs b ys → AreNoted b ys c zs → AreNoted a xs c zs
-noted_then a b c xs ys zs early late id h = let q = late id h in let p = early id q.0 in (p.0, q.1 ∙ p.1)
+-- a net that is listed has a place
+pub listed_at : (ids : List NodeId) (id : ℕ) → is_listed ids id ≡ true → (k : ℕ) × (k < length ids) × ((d : NodeId) → (get_or ids k d).0 ≡ id)
+listed_at ids id h =
+    let any = Any-from_list_any (λ (node : NodeId). node.0 == id) ids h in
+    (any.0, any.2, λ d. ap (λ (x : NodeId). x.0) (get_or_default ids any.0 d any.1 any.2 ∙ any.3) ∙ eqb-true any.1.0 id any.4)
 
-pub noted_put : (nets : List NetRails) (changed : List Bool) (id : ℕ) (r : NetRails) (differs : Bool) → id < length nets → length changed ≡ length nets
-    → (differs ≡ false → (flag_at changed id ≡ false) × (r ≡ net_at nets id)) → AreNoted changed nets (set changed id differs) (set nets id r)
-noted_put nets changed id r differs lt long same k h = elim (cases_eq k id) [
-  | inl here ↦
-      let none : differs ≡ false = sym (get_or-set_same changed id differs false (omega (arith, lt, long))) ∙ ap (λ (i : ℕ). flag_at (set changed id differs) i) (sym here) ∙ h in
-      let p = same none in
-      (ap (λ (i : ℕ). flag_at changed i) here ∙ p.0, ap (λ (i : ℕ). net_at (set nets id r) i) here ∙ get_or-set_same nets id r unknown lt ∙ p.1 ∙ ap (λ (i : ℕ). net_at nets i) (sym here))
-  | inr other ↦ (sym (get_or-set_other changed id k differs false other) ∙ h, get_or-set_other nets id k r unknown other)
-]
-
--- the same with the lists that a write left
-pub noted_by : (nets new : List NetRails) (changed after : List Bool) (id : ℕ) (r : NetRails) (differs : Bool) → new ≡ set nets id r → after ≡ set changed id differs → id < length nets → length changed ≡ length nets
-    → (differs ≡ false → (flag_at changed id ≡ false) × (r ≡ net_at nets id)) → AreNoted changed nets after new
-noted_by nets new changed after id r differs is flags lt long same =
-    subst (λ (xs : List NetRails). AreNoted changed nets after xs) (sym is)
-    (subst (λ (bs : List Bool). AreNoted changed nets bs (set nets id r)) (sym flags) (noted_put nets changed id r differs lt long same))
+-- ---- gates that are not due
 
 given_same : (s : Store) (net : RawNet) (old new : List NetRails) (gate : Gate) → net_at new gate.output.0 ≡ net_at old gate.output.0 → All (λ input. net_at new input.0 ≡ net_at old input.0) gate.inputs
     → IsGiven s net old gate → IsGiven s net new gate
@@ -67,11 +72,17 @@ given_same s net old new gate out ins given sets have =
     subst (AreNetRails s (output_set net sets gate)) (sym out)
     (given sets (λ i d l. subst (AreNetRails s (sets (get_or gate.inputs i d).0)) (ins i d l) (have i d l)))
 
-pub kept_noted : (s : Store) (net : RawNet) (cut before after : List Bool) (old new : List NetRails) → AreNoted before old after new → AreKept s net cut before old → AreKept s net cut after new
-kept_noted s net cut before after old new noted kept k d lt uncut out ins =
+-- a gate that is not due after writes was not before, and has given its output its set still
+pub spared_follows : (s : Store) (net : RawNet) (asked : List NodeId) (old new : Board) → length old.due.items ≡ length net.gates → Follows old new → AreSpared s net asked old → AreSpared s net asked new
+spared_follows s net asked old new due f spared k d lt none =
     let gate : Gate = get_or net.gates k d in
-    let p = noted gate.output.0 out in
-    given_same s net old new gate p.1 (λ i e l. (noted (get_or gate.inputs i e).0 (ins i e l)).1) (kept k d lt uncut p.0 (λ i e l. (noted (get_or gate.inputs i e).0 (ins i e l)).0))
+    let q = f.noted k (omega (arith, due, lt)) none in
+    let p = spared k d lt q.0 in
+    record {
+      uncut = p.uncut;
+      given = given_same s net old.nets.items new.nets.items gate (q.1 gate.output.0 p.reads.output) (λ i e l. q.1 (get_or gate.inputs i e).0 (p.reads.inputs i e l)) p.given;
+      reads = subst (λ r. ReadsAs r k gate) (sym f.readers) p.reads;
+    }
 
 -- a list that was written through a slice of the whole
 pub written : {X : Type 0} (n : ℕ) (xs ys : List X) → n ≡ length xs → take n (xs ++ ys) ≡ xs
@@ -103,10 +114,11 @@ given_keeps s t net nets gate ds dt k refs inside given sets have =
 inside_by : (net : RawNet) (nets : List NetRails) → IsInRange net → length nets ≡ net.nets → All (λ gate. All (λ input. input.0 < length nets) gate.inputs) net.gates
 inside_by net nets range long k d lt i e l = subst (λ (n : ℕ). (get_or (get_or net.gates k d).inputs i e).0 < n) (sym long) (range.gate_inputs k d lt i e l)
 
-pub kept_keeps : (s t : Store) (net : RawNet) (cut changed : List Bool) (nets : List NetRails) → IsInRange net → length nets ≡ net.nets → IsGood s → IsGood t → Keeps s t → All (AreNetRefs s) nets
-    → AreKept s net cut changed nets → AreKept t net cut changed nets
-kept_keeps s t net cut changed nets range long ds dt k refs kept n d lt uncut out ins =
-    given_keeps s t net nets (get_or net.gates n d) ds dt k refs (inside_by net nets range long n d lt) (kept n d lt uncut out ins)
+pub spared_keeps : (s t : Store) (net : RawNet) (asked : List NodeId) (board : Board) → IsInRange net → length board.nets.items ≡ net.nets → IsGood s → IsGood t → Keeps s t → All (AreNetRefs s) board.nets.items
+    → AreSpared s net asked board → AreSpared t net asked board
+spared_keeps s t net asked board range long ds dt k refs spared n d lt none =
+    let p = spared n d lt none in
+    record { uncut = p.uncut; given = given_keeps s t net board.nets.items (get_or net.gates n d) ds dt k refs (inside_by net board.nets.items range long n d lt) p.given; reads = p.reads }
 
 -- nets have their own sets
 pub own_nets : (s : Store) (nets : List NetRails) → All (AreNetRefs s) nets → AllZip (AreNetRails s) (map (own_where s) nets) nets
@@ -115,16 +127,21 @@ own_nets s (r ∷ rs) h = (own_net s r (All-head (AreNetRefs s) r rs h), own_net
 
 -- a frame stays one
 pub frame_keeps : (s t : Store) (net : RawNet) (frame : Frame) → IsInRange net → IsGood s → IsGood t → Keeps s t → IsFrame s net frame → IsFrame t net frame
-frame_keeps s t net frame range ds dt k f = record {
-  long = f.long;
-  marked = f.marked;
-  refs = All-net-refs-keep s t frame.nets.items ds dt k f.refs;
-  room = f.room;
-  inside = f.inside;
-  undriven = λ id lt is none. Net-keeps s t everything (net_at frame.nets.items id) ds dt k (f.undriven id lt is none);
-  first = λ sets is. let h = f.first sets is in record { long = h.long; refs = All-refs-keep s t sets k h.refs };
-  kept = λ n d lt uncut. given_keeps s t net frame.nets.items (get_or net.gates n d) ds dt k f.refs (inside_by net frame.nets.items range f.long n d lt) (f.kept n d lt uncut);
-}
+frame_keeps s t net frame range ds dt k f =
+    let nets : List NetRails = frame.board.nets.items in
+    record {
+      long = f.long;
+      refs = All-net-refs-keep s t nets ds dt k f.refs;
+      full = f.full;
+      due = f.due;
+      room = f.room;
+      inside = f.inside;
+      undriven = λ id lt is none. Net-keeps s t everything (net_at nets id) ds dt k (f.undriven id lt is none);
+      first = λ sets is. let h = f.first sets is in record { long = h.long; refs = All-refs-keep s t sets k h.refs };
+      blank = f.blank;
+      lists = f.lists;
+      kept = λ n d lt none uncut. given_keeps s t net nets (get_or net.gates n d) ds dt k f.refs (inside_by net nets range f.long n d lt) (f.kept n d lt none uncut);
+    }
 
 -- ---- the latches' next sets
 
@@ -140,7 +157,7 @@ inputs_refs s nets (x ∷ xs) refs inside = All-cons (AreRefs s) (input_rails ne
 
 -- the latches' inputs are nets of a frame
 pub inputs_inside : (s : Store) (net : RawNet) (frame : Frame) → IsInRange net → IsFrame s net frame → All (λ latch. latch.input.0 < length (nets_of frame)) net.latches
-inputs_inside s net frame range f k d lt = subst (λ (n : ℕ). (get_or net.latches k d).input.0 < n) (sym (length-map frame.nets.items bare ∙ f.long)) (range.latch_inputs k d lt)
+inputs_inside s net frame range f k d lt = subst (λ (n : ℕ). (get_or net.latches k d).input.0 < n) (sym (length-map frame.board.nets.items bare ∙ f.long)) (range.latch_inputs k d lt)
 
 -- the sets that the latches have at the time behind a frame are held, one for each
 pub next_first : (s : Store) (net : RawNet) (frame : Frame) → IsInRange net → IsFrame s net frame → AreFirst s net (next_of net frame)
@@ -149,7 +166,7 @@ next_first s net frame range f = by frame.first refl
     by : (o : Option (List Rails)) → frame.first ≡ o → AreFirst s net (first_or o (map (input_rails (nets_of frame)) net.latches))
     by None e = record {
       long = length-map net.latches (input_rails (nets_of frame));
-      refs = inputs_refs s (nets_of frame) net.latches (rails_refs s frame.nets.items f.refs) (inputs_inside s net frame range f);
+      refs = inputs_refs s (nets_of frame) net.latches (rails_refs s frame.board.nets.items f.refs) (inputs_inside s net frame range f);
     }
     by (Some sets) e = f.first sets e
 
@@ -157,14 +174,85 @@ next_first s net frame range f = by frame.first refl
 pub with_first : (s : Store) (net : RawNet) (frame : Frame) (first : Option (List Rails)) → IsFrame s net frame → ((sets : List Rails) → first ≡ Some sets → AreFirst s net sets) → IsFrame s net (record frame { first = first })
 with_first s net frame first f h = record {
   long = f.long;
-  marked = f.marked;
   refs = f.refs;
+  full = f.full;
+  due = f.due;
   room = f.room;
   inside = f.inside;
   undriven = f.undriven;
   first = h;
+  blank = f.blank;
+  lists = f.lists;
   kept = f.kept;
 }
+
+-- a frame of which it is clear, or not, whether all nets have a bit everywhere
+pub with_full : (s : Store) (net : RawNet) (frame : Frame) (full : Bool) → IsFrame s net frame → (IsTrue full → AreFull frame.board.nets.items) → IsFrame s net (record frame { board = record frame.board { full = full } })
+with_full s net frame full f h = record {
+  long = f.long;
+  refs = f.refs;
+  full = h;
+  due = f.due;
+  room = f.room;
+  inside = f.inside;
+  undriven = f.undriven;
+  first = f.first;
+  blank = f.blank;
+  lists = f.lists;
+  kept = f.kept;
+}
+
+-- the lists are there where they are made
+pub listed_ready : (s : Store) (net : RawNet) (frame : Frame) → IsFrame s net frame → IsTrue frame.listed → AreReady net frame
+listed_ready s net frame f told k lt none = f.lists told
+
+-- a frame with more marks
+pub with_due : (s : Store) (net : RawNet) (frame : Frame) (due : Vec Bool) → length due.items ≡ length frame.board.due.items → ((k : ℕ) → k < length frame.board.due.items → flag_at due.items k ≡ false → flag_at frame.board.due.items k ≡ false)
+    → IsFrame s net frame → IsFrame s net (record frame { board = record frame.board { due = due } })
+with_due s net frame due long fewer f = record {
+  long = f.long;
+  refs = f.refs;
+  full = f.full;
+  due = long ∙ f.due;
+  room = f.room;
+  inside = f.inside;
+  undriven = f.undriven;
+  first = f.first;
+  blank = λ none k lt. by k (omega (arith, f.due, lt)) (f.blank none k lt) (flag_at due.items k) refl;
+  lists = f.lists;
+  kept = λ k d lt none uncut. f.kept k d lt (fewer k (omega (arith, f.due, lt)) none) uncut;
+}
+  where
+    by : (k : ℕ) → k < length frame.board.due.items → flag_at frame.board.due.items k ≡ true → (b : Bool) → flag_at due.items k ≡ b → flag_at due.items k ≡ true
+    by k lt was true e = e
+    by k lt was false e = absurd (false≢true (sym (fewer k lt e) ∙ was))
+
+-- no gate that drives a net of a list is left out where those that drive one have marks
+unlisted_by : (net : RawNet) (ids : List NodeId) (id k : ℕ) → source_of net id ≡ OfGate k → All (λ node. source_of net node.0 ≢ OfGate k) ids → is_listed ids id ≡ false
+unlisted_by net ids id k drives none = by (is_listed ids id) refl
+  where
+    by : (b : Bool) → is_listed ids id ≡ b → is_listed ids id ≡ false
+    by false e = e
+    by true e =
+        let at = listed_at ids id e in
+        let z : NodeId = record { 0 = 0 } in
+        absurd (none at.0 z at.1 (ap (source_of net) (at.2 z) ∙ drives))
+
+-- where the gates that drive cut nets are due, the others are spared
+pub all_spared : (s : Store) (net : RawNet) (frame : Frame) (asked : List NodeId) (mid due : Vec Bool) → HasOneDriver net → IsFrame s net frame → AreReady net frame → length mid.items ≡ length frame.board.due.items
+    → AreMarked (λ k. All (λ node. source_of net node.0 ≢ OfGate k) frame.asked.items) frame.board.due.items mid.items
+    → AreMarked (λ k. All (λ node. source_of net node.0 ≢ OfGate k) asked) mid.items due.items
+    → AreSpared s net asked (record frame.board { due = due })
+all_spared s net frame asked mid due one f ready long before now k d lt none =
+    let late = now k (omega (arith, long, f.due, lt)) none in
+    let early = before k (omega (arith, f.due, lt)) late.0 in
+    let out : ℕ = (get_or net.gates k d).output.0 in
+    let drives : source_of net out ≡ OfGate k = gate_source net one k d lt in
+    record {
+      uncut = unlisted_by net asked out k drives late.1;
+      given = f.kept k d lt early.0 (unlisted_by net frame.asked.items out k drives early.1);
+      reads = ready k lt early.0 k d lt;
+    }
 
 pub not_first : (s : Store) (net : RawNet) (first : Option (List Rails)) → first ≡ None → (sets : List Rails) → first ≡ Some sets → AreFirst s net sets
 not_first s net first none sets some = absurd (cc (sym none ∙ some))
@@ -191,9 +279,9 @@ one_set u v w r bits l a b = same_fields _ _ _ _ (sym (a.zero.value bits l) ∙ 
 module _ (net : RawNet) (order : List ℕ) (range : IsInRange net) (one : HasOneDriver net) (is_order : IsSettledOrder net order)
     (ls : List SymbolicSet) (ds : List SymbolicCut) (family : ℕ → SymbolicSet) (long : length ls ≡ length net.latches) where
   -- where each net has its set, a gate whose output is not cut has given it its set
-  pub given_here : (s u : Store) (cuts : List Cut) (marks : List Bool) (nets : List NetRails) → Keeps s u → ArePossibleEach s.vars net ls (asks ds) family → AllZip (IsCutBy s) ds cuts → AreMarks cuts marks
-      → HaveNets net family u nets → All (λ gate. flag_at marks gate.output.0 ≡ false → IsGiven u net nets gate) net.gates
-  given_here s u cuts marks nets k possible zip marked have n d lt none sets ins =
+  pub given_here : (s u : Store) (cuts : List Cut) (nets : List NetRails) → Keeps s u → ArePossibleEach s.vars net ls (asks ds) family → AllZip (IsCutBy s) ds cuts
+      → HaveNets net family u nets → All (λ gate. is_listed (map (λ (c : Cut). c.node) cuts) gate.output.0 ≡ false → IsGiven u net nets gate) net.gates
+  given_here s u cuts nets k possible zip have n d lt none sets ins =
       let gate : Gate = get_or net.gates n d in
       let out : ℕ = gate.output.0 in
       Net-same u (family out) (output_set net sets gate) (net_at nets out)
@@ -203,7 +291,7 @@ module _ (net : RawNet) (order : List ℕ) (range : IsInRange net) (one : HasOne
       map_same (λ input. set_at bits (family input.0)) (λ input. set_at bits (sets input.0)) gate.inputs
       (λ i e li. let id : ℕ = (get_or gate.inputs i e).0 in one_set u (family id) (sets id) (net_at nets id) bits l (have id (range.gate_inputs n d lt i e li)) (ins i e li)) in
       sym (fixed net s.vars ls (asks ds) family bits range one long possible l' out)
-      ∙ ap (set_at bits) (unmarked s ds cuts marks out (uncut net ls family) zip marked none ∙ before_is net order range one is_order ls ds family long n gate lt (given_by n d lt))
+      ∙ ap (set_at bits) (unlisted s ds cuts out (uncut net ls family) zip none ∙ before_is net order range one is_order ls ds family long n gate lt (given_by n d lt))
       ∙ same_set (set_at bits (output_set net family gate)) (set_at bits (output_set net sets gate))
       (λ bit h. (gate_in net range one ls long sets bits n d bit lt).1 (subst (λ (xs : List BitSet). MayGive (gate_bit net gate) xs bit) inputs_same ((gate_in net range one ls long family bits n d bit lt).0 h)))
       (λ bit h. (gate_in net range one ls long family bits n d bit lt).1 (subst (λ (xs : List BitSet). MayGive (gate_bit net gate) xs bit) (sym inputs_same) ((gate_in net range one ls long sets bits n d bit lt).0 h))))

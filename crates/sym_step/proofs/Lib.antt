@@ -13,5 +13,7 @@ pub mod Pairs
 pub mod Summing
 pub mod RowSums
 pub mod Whole
+pub mod Chains
+pub mod Reading
 pub mod Framing
 pub mod Opened

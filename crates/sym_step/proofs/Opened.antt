@@ -1,12 +1,11 @@
 -- The nets that latches drive, and those that nothing drives, get their sets.
-use Rattle.std.proofs.Common.{◌≡◌, ◌≢◌, ℕ, zero, suc, ◌+◌, ◌<◌, Bool, true, false, List, [], ◌∷◌, length, map, get_or, set, replicate, None, refl, sym, ◌∙◌, ap, subst, arith, inl, inr, All, get_or-set_same, get_or-set_other, ne_eqb, eq-eqb, eqb-true, Ok, Err, Result}
+use Rattle.std.proofs.Common.{◌≡◌, ◌≢◌, ℕ, zero, suc, ◌+◌, ◌<◌, Bool, true, false, List, [], ◌∷◌, length, map, get_or, set, replicate, None, refl, sym, ◌∙◌, ap, subst, arith, inl, inr, All, get_or-set_same, get_or-set_other, Ok, Err, Result}
 use Rattle.dd_ops.specs.declared.fault.OpFault.{OpFault}
-use Rattle.std.specs.Prelude.{OnOk, ◌||◌, ◌==◌, AllPairs, if◌then◌else◌}
+use Rattle.std.specs.Prelude.{OnOk, AllPairs}
 use Rattle.std.specs.List.{AllZip}
 use Rattle.std.proofs.lemmas.Bool.{cases_eq, cases_lt, false≢true}
 use Rattle.std.proofs.lemmas.List.{get_or_default, length-replicate}
 use Rattle.std.proofs.lemmas.List.Elements.{All-nil, All-cons, All-head, All-tail}
-use Rattle.std.proofs.lemmas.List.Folds.{Any-from_list_any}
 use Rattle.ste_base.specs.declared.id.NodeId.{NodeId}
 use Rattle.dd_nodes.specs.Stores.{Store, Keeps}
 use Rattle.dd_nodes.proofs.Stores.{IsGood, Keeps-refl}
@@ -17,16 +16,17 @@ use Rattle.net_core.specs.declared.source.Source.{Source}
 use Rattle.net_core.specs.declared.source.Source.TheVariants.{Input, Free, Gate as OfGate, Latch as OfLatch}
 use Rattle.net_core.specs.Flat.{IsInRange, HasOneDriver}
 use Rattle.net_core.specs.Source.{source_of}
-use Rattle.net_core.specs.Work.{ArePossibleEach, SymbolicCut, SymbolicSet, after_cut, after_cuts, cut_set, everything, uncut}
+use Rattle.net_core.specs.Work.{ArePossibleEach, SymbolicCut, SymbolicSet, after_cuts, everything, uncut}
 use Rattle.net_core.proofs.OneTime.{Facts, fixed}
 use Rattle.sym_step.specs.declared.cut.Cut.{Cut}
 use Rattle.sym_step.specs.declared.net_rails.NetRails.{NetRails}
 use Rattle.sym_step.specs.Step.{IsCutBy}
 use Rattle.sym_step.specs.declared.frame.Frame.{Frame}
-use Rattle.sym_step.specs.private.Frames.{AreOpen, HaveLatches, HaveOpen, IsFrame, IsOpen, StayRight, flag_at, is_listed}
+use Rattle.sym_step.specs.private.Frames.{AreOpen, HaveLatches, HaveOpen, IsFrame, IsOpen, StayRight, is_listed}
+use Rattle.sym_step.specs.private.Readers.{flag_at}
 use Rattle.sym_step.specs.private.NetSets.{AreNetRails, AreNetRefs, net_at}
 use Rattle.sym_step.specs.private.Parts.{HaveNets, HaveSources, asks}
-use Rattle.sym_step.proofs.Framing.{not_first}
+use Rattle.sym_step.proofs.Framing.{listed_at, not_first, unlisted}
 use Rattle.sym_step.proofs.NetRefs.{Net-keeps}
 use Rattle.sym_step.proofs.Sourced.{all_unknown, before_by, known, unknown, unknown_net}
 use Rattle.sym_step.proofs.Turning.{Net-same}
@@ -36,29 +36,10 @@ pub ok_then : {A P Q : Type 0} (r : Result A OpFault) → (P → Q) → OnOk r P
 ok_then (Ok a) f h = f h
 ok_then (Err e) f h = tt
 
--- nothing is asked of a net that is not listed
-pub unlisted : (s : Store) (ds : List SymbolicCut) (cuts : List Cut) (id : ℕ) (f : ℕ → SymbolicSet) → AllZip (IsCutBy s) ds cuts → is_listed (map (λ (c : Cut). c.node) cuts) id ≡ false → after_cuts ds f id ≡ f id
-unlisted s [] cuts id f zip none = refl
-unlisted s (d ∷ ds) [] id f zip none = absurd zip
-unlisted s (d ∷ ds) (c ∷ cuts) id f zip none = by (c.node.0 == id) refl none (λ h. unlisted s ds cuts id (after_cut d f) zip.1 h)
-  where
-    by : (b : Bool) → (c.node.0 == id) ≡ b → (b || is_listed (map (λ (x : Cut). x.node) cuts) id) ≡ false → (is_listed (map (λ (x : Cut). x.node) cuts) id ≡ false → after_cuts ds (after_cut d f) id ≡ after_cut d f id)
-        → after_cuts ds (after_cut d f) id ≡ f id
-    by true e h rest = absurd (false≢true (sym h))
-    by false e h rest =
-        let ne : (d.node ≡ id) → ⊥ = λ same. false≢true (sym e ∙ eq-eqb c.node.0 id (sym zip.0.node ∙ same)) in
-        rest h ∙ ap (λ (x : Bool). if x then cut_set (f id) d.guard d.value else f id) (ne_eqb d.node id ne)
-
 -- the nets of cuts are nets
 pub nodes_inside : (n : ℕ) (cuts : List Cut) → All (λ c. c.node.0 < n) cuts → All (λ node. node.0 < n) (map (λ (c : Cut). c.node) cuts)
 nodes_inside n [] h = All-nil (λ (node : NodeId). node.0 < n)
 nodes_inside n (c ∷ cs) h = All-cons (λ (node : NodeId). node.0 < n) c.node (map (λ (x : Cut). x.node) cs) (All-head (λ (x : Cut). x.node.0 < n) c cs h) (nodes_inside n cs (All-tail (λ (x : Cut). x.node.0 < n) c cs h))
-
--- a net that is listed has a place
-listed_at : (ids : List NodeId) (id : ℕ) → is_listed ids id ≡ true → (k : ℕ) × (k < length ids) × ((d : NodeId) → (get_or ids k d).0 ≡ id)
-listed_at ids id h =
-    let any = Any-from_list_any (λ (node : NodeId). node.0 == id) ids h in
-    (any.0, any.2, λ d. ap (λ (x : NodeId). x.0) (get_or_default ids any.0 d any.1 any.2 ∙ any.3) ∙ eqb-true any.1.0 id any.4)
 
 at_replicate : {X : Type 0} (n k : ℕ) (x d : X) → k < n → get_or (replicate n x) k d ≡ x
 at_replicate zero k x d lt = absurd (omega (arith, lt))
@@ -66,18 +47,24 @@ at_replicate (suc n) zero x d lt = refl
 at_replicate (suc n) (suc k) x d lt = at_replicate n k x d (omega (arith, lt))
 
 -- a frame of no time is one
-pub blank_is : (s : Store) (net : RawNet) (frame : Frame) → IsGood s → IsInRange net → frame.nets.items ≡ replicate net.nets unknown → frame.cut.items ≡ replicate net.nets true → frame.asked.items ≡ [] → frame.first ≡ None → All (λ gate. length gate.inputs < length frame.products.items) net.gates → IsFrame s net frame
-blank_is s net frame gs range nets cut asked none room = record {
+pub blank_is : (s : Store) (net : RawNet) (frame : Frame) → IsGood s → frame.board.nets.items ≡ replicate net.nets unknown → frame.board.due.items ≡ replicate (length net.gates) true → frame.board.full ≡ false → frame.asked.items ≡ [] → frame.first ≡ None → frame.listed ≡ false
+    → All (λ gate. length gate.inputs < length frame.products.items) net.gates → IsFrame s net frame
+blank_is s net frame gs nets due full asked none listed room = record {
   room = room;
   long = ap length nets ∙ length-replicate net.nets unknown;
-  marked = ap length cut ∙ length-replicate net.nets true;
   refs = subst (All (AreNetRefs s)) (sym nets) (all_unknown s net.nets gs);
+  full = λ yes. absurd (false≢true (sym full ∙ yes));
+  due = ap length due ∙ length-replicate (length net.gates) true;
   inside = subst (All (λ (node : NodeId). node.0 < net.nets)) (sym asked) (All-nil (λ (node : NodeId). node.0 < net.nets));
   first = not_first s net frame.first none;
-  undriven = λ id lt is none. subst (AreNetRails s everything) (sym (ap (λ (xs : List NetRails). net_at xs id) nets ∙ at_replicate net.nets id unknown unknown lt)) (unknown_net s gs);
-  kept = λ k d lt uncut. let id : ℕ = (get_or net.gates k d).output.0 in
-      absurd (false≢true (sym uncut ∙ ap (λ (xs : List Bool). flag_at xs id) cut ∙ at_replicate net.nets id true false (range.gate_outputs k d lt)));
+  undriven = λ id lt is listed. subst (AreNetRails s everything) (sym (ap (λ (xs : List NetRails). net_at xs id) nets ∙ at_replicate net.nets id unknown unknown lt)) (unknown_net s gs);
+  blank = λ begun k lt. marked k lt;
+  lists = λ yes. absurd (false≢true (sym listed ∙ yes));
+  kept = λ k d lt flag uncut. absurd (false≢true (sym flag ∙ marked k lt));
 }
+  where
+    marked : (k : ℕ) → k < length net.gates → flag_at frame.board.due.items k ≡ true
+    marked k lt = ap (λ (xs : List Bool). flag_at xs k) due ∙ at_replicate (length net.gates) k true false lt
 
 -- the references of the latches' inputs are held
 pub given_refs : (s : Store) (nets : List NetRails) (latches : List Latch) → All (AreNetRefs s) nets → All (λ latch. latch.input.0 < length nets) latches → All (AreNetRefs s) (map (λ latch. net_at nets latch.input.0) latches)

@@ -1,32 +1,37 @@
 //! What is kept of one time for the next; begin with `Frame`.
 
-ghost use Rattle.std.specs.Prelude.{◌≡◌, ◌<◌, ◌≤◌, IfOk, IsTrue, None, OnOk, All, false, length, map, set};
+ghost use Rattle.std.specs.Prelude.{◌≡◌, ◌<◌, ◌≤◌, IfOk, IsTrue, None, OnOk, All, length, map};
 ghost use Rattle.dd_nodes.specs.Diagram.{IsDiagram};
 ghost use Rattle.dd_nodes.specs.Stores.{Store};
 ghost use Rattle.sym_step.specs.private.NetSets.{net_at};
 ghost use Rattle.dual_rail.specs.Rail.{AreRefs};
 ghost use Rattle.sym_step.specs.Step.{rails_at};
-ghost use Rattle.sym_step.specs.private.Frames.{IsFrame, flag_at, input_rails, nets_of, next_of};
+ghost use Rattle.sym_step.specs.private.Boards.{AreFull};
+ghost use Rattle.sym_step.specs.private.Frames.{AreReady, AreSpared, IsFrame, input_rails, nets_of, next_of};
 
+use crate::board::Board;
 use crate::cut::Cut;
 use crate::net_rails::NetRails;
+use crate::readers::{Readers, mark_drivers};
 use dd_nodes::Ref;
 use dual_rail::Rails;
 use net_core::{Gate, Latch, Net};
 use std::alloc::{AllocError, Global};
 use ste_base::{Items, NodeId};
 
-/// What is kept of one time for the next: the set of each net, a mark for each net of which there was a cut, and the list
-/// of these nets; beside them room for the products of a row, and before a first time the sets of the latches there. In a
-/// blank frame all nets have marks and both bits, and none is listed. A gate of which no input has another set than before,
-/// and whose output is not cut now and was not before, keeps its output's set.
+/// What is kept of one time for the next: the set of each net, the list of the nets of which there was a cut, and marks for
+/// gates that are due; beside them room for the products of a row, and before a first time the sets of the latches there.
+/// In a blank frame all nets have both bits, and all gates are due. Once times go on from one another it is listed which
+/// gates read a net or drive it, and a gate is due only where an input or its output has another set than before, or its
+/// output is cut now or was before; any other keeps its output's set.
 #[derive(Debug, Drop)]
 pub struct Frame {
-    pub(crate) nets: Vec<NetRails>,
-    pub(crate) cut: Vec<bool>,
+    pub(crate) board: Board,
     pub(crate) asked: Vec<NodeId>,
     pub(crate) products: Vec<Ref>,
     pub(crate) first: Option<Items<Rails>>,
+    pub(crate) begun: bool,
+    pub(crate) listed: bool,
 }
 
 impl Frame {
@@ -36,15 +41,21 @@ impl Frame {
             → IsDiagram s.held s.vars → IsFrame s net.now.raw frame) }
     {
         let nets = vec![in alloc; NetRails::free(); net.nets() as usize]?;
-        let cut = vec![in alloc; true; net.nets() as usize]?;
-        let asked = Vec::new(alloc);
+        let due = vec![in alloc; true; net.gates().len()]?;
         let products = room(alloc, net.gates())?;
-        Ok(Frame {
+        let board = Board {
             nets,
-            cut,
-            asked,
+            due,
+            readers: Readers::none(alloc),
+            full: false,
+        };
+        Ok(Frame {
+            board,
+            asked: Vec::new(alloc),
             products,
             first: None,
+            begun: false,
+            listed: false,
         })
     }
 
@@ -65,7 +76,7 @@ impl Frame {
         requires { node.0 < length (nets_of self.now) }
         ensures { result ≡ rails_at (nets_of self.now) node.0 }
     {
-        self.nets[node.0 as usize].rails()
+        self.board.nets[node.0 as usize].rails()
     }
 }
 
@@ -138,38 +149,65 @@ pub fn next_sets(alloc: Global, net: &Net, frame: &mut Frame) -> Result<Items<Ra
     }
 }
 
-/// Whether both are the same references.
-fn are_same(a: NetRails, b: NetRails) -> bool
-    ensures { IsTrue result → a ≡ b }
+/// Lists which gates read a net or drive it, where times go on from one another. In a blank frame all gates are due, and
+/// none is looked for.
+fn with_lists(alloc: Global, net: &Net, frame: &mut Frame) -> Result<(), AllocError>
+    ensures frame { OnOk result ((s : Store) → IsFrame s net.now.raw frame.old
+        → IsFrame s net.now.raw frame.new × AreReady net.now.raw frame.new) }
+    ensures asked { OnOk result (frame.new.asked ≡ frame.old.asked) }
+    ensures first { OnOk result (frame.new.first ≡ frame.old.first) }
 {
-    a.can0 == b.can0 && a.can1 == b.can1 && a.some == b.some && a.known == b.known
-}
-
-/// Gives a net its set; the result is whether that is another than before, or was so already.
-pub fn put(nets: &mut [NetRails], changed: &mut [bool], id: u32, r: NetRails) -> bool
-    requires id { id < length nets.old }
-    requires long { length changed.old ≡ length nets.old }
-    ensures nets { nets.new ≡ set nets.old id r }
-    ensures changed { changed.new ≡ set changed.old id result }
-    ensures same { result ≡ false
-        → (flag_at changed.old id ≡ false) × (r ≡ net_at nets.old id) }
-{
-    let at = id as usize;
-    let differs = changed[at] || !are_same(r, nets[at]);
-    nets[at] = r;
-    changed[at] = differs;
-    differs
-}
-
-/// Whether none of these nets has changed.
-pub fn are_unchanged(changed: &[bool], inputs: &[NodeId]) -> bool
-    requires { All (λ input. input.0 < length changed.now) inputs.now }
-    ensures { IsTrue result → All (λ input. flag_at changed.now input.0 ≡ false) inputs.now }
-{
-    for input in inputs {
-        if changed[input.0 as usize] {
-            return false;
-        }
+    if frame.listed {
+        return Ok(());
     }
-    true
+    if !frame.begun {
+        return Ok(());
+    }
+    frame.board.readers = Readers::of_gates(alloc, net)?;
+    frame.listed = true;
+    Ok(())
+}
+
+/// Makes the gates due that drive nets which are cut now, or were at the time before.
+pub fn make_due(
+    alloc: Global,
+    net: &Net,
+    asked: &[NodeId],
+    frame: &mut Frame,
+) -> Result<(), AllocError>
+    requires asked { All (λ node. node.0 < net.now.raw.nets) asked.now }
+    requires before { All (λ node. node.0 < net.now.raw.nets) frame.old.asked.items }
+    ensures frame { OnOk result ((s : Store) → IsFrame s net.now.raw frame.old
+        → IsFrame s net.now.raw frame.new × AreSpared s net.now.raw asked.now frame.new.board) }
+    ensures first { OnOk result (frame.new.first ≡ frame.old.first) }
+{
+    with_lists(alloc, net, frame)?;
+    let before = frame.asked.as_slice();
+    mark_drivers(net, before, &mut frame.board.due);
+    mark_drivers(net, asked, &mut frame.board.due);
+    Ok(())
+}
+
+/// Takes all marks away.
+pub fn clear(flags: &mut Vec<bool>)
+    ensures { length flags.new.items ≡ length flags.old.items }
+{
+    for at in 0..flags.len() {
+        flags[at] = false;
+    }
+}
+
+/// Whether each set has a bit everywhere, by its references.
+fn are_full(nets: &[NetRails]) -> bool
+    ensures { IsTrue result → AreFull nets.now }
+{
+    nets.iter().all(|r| r.some == Ref::TRUE)
+}
+
+/// Whether all nets have a bit everywhere; they are looked at only where it is not clear.
+pub fn knows_full(full: bool, nets: &[NetRails]) -> bool
+    requires { IsTrue full → AreFull nets.now }
+    ensures { IsTrue result → AreFull nets.now }
+{
+    full || are_full(nets)
 }

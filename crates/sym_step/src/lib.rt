@@ -2,6 +2,7 @@
 //! (`Cut`), and one step of the whole net. Begin with `step`.
 #![tactic(auto)]
 
+mod board;
 pub mod cut;
 mod cuts;
 mod flagged;
@@ -13,6 +14,7 @@ mod net_rails;
 mod one_row;
 pub mod piece;
 mod place;
+mod readers;
 pub mod row_list;
 pub mod rows;
 mod source;

@@ -9,14 +9,16 @@ ghost use Rattle.net_core.specs.Cover.{IsCover};
 ghost use Rattle.net_core.specs.Work.{ArePossibleEach, SymbolicSet, SymbolicCut, after_cuts, cover_work, cuts_work, gate_set, gate_work, output_set, input_sets, some_bit, time_work};
 ghost use Rattle.dual_rail.specs.Rail.{Built, HasSet, Whatever};
 ghost use Rattle.sym_step.specs.Step.{IsCutBy, rows_of};
-ghost use Rattle.sym_step.specs.private.Frames.{AreKept, AreNoted, IsKept, flag_at};
+ghost use Rattle.sym_step.specs.private.Boards.{Follows};
+ghost use Rattle.sym_step.specs.private.Frames.{AreSpared, IsSpared};
+ghost use Rattle.sym_step.specs.private.Readers.{flag_at};
 ghost use Rattle.sym_step.specs.private.NetSets.{AreNetRails, AreNetRefs, HasNetSet, HaveInputs, net_at, sets_at};
 ghost use Rattle.sym_step.specs.private.Parts.{AreMarks, HaveGates, asks};
 ghost use Rattle.sym_step.specs.private.Refused.{is_rising};
 
+use crate::board::Board;
 use crate::cut::Cut;
 use crate::cuts::cut_full;
-use crate::frame::{are_unchanged, put};
 use crate::gates::{Filling, filling_of, gate_at};
 use crate::net_rails::NetRails;
 use crate::one_row::{by_row, only_rising};
@@ -146,27 +148,8 @@ fn place<N: Nodes>(
     cut_full(ops, nodes, cuts, marks, g.output.0, given, full, known)
 }
 
-/// Whether a gate's output keeps the set of the time before: neither it nor an input has another, and it is not cut now
-/// and was not then.
-fn is_kept(marks: &[bool], cut: &[bool], changed: &[bool], g: &Gate) -> bool
-    requires output { g.now.output.0 < length marks.now }
-    requires marked { length cut.now ≡ length marks.now }
-    requires changed { length changed.now ≡ length marks.now }
-    requires inputs { All (λ input. input.0 < length changed.now) g.now.inputs }
-    ensures mark { IsTrue result → flag_at marks.now g.now.output.0 ≡ false }
-    ensures cut { IsTrue result → flag_at cut.now g.now.output.0 ≡ false }
-    ensures output { IsTrue result → flag_at changed.now g.now.output.0 ≡ false }
-    ensures inputs { IsTrue result
-        → All (λ input. flag_at changed.now input.0 ≡ false) g.now.inputs }
-{
-    let out = g.output.0 as usize;
-    if marks[out] || cut[out] || changed[out] {
-        return false;
-    }
-    are_unchanged(changed, g.inputs.as_slice())
-}
-
-/// Gives a gate's output its set, where its inputs have these sets; nothing is called where it keeps that of before.
+/// Gives a gate's output its set, where its inputs have these sets; a gate that is not due keeps that of before, and nothing
+/// is called. `number` is the gate's.
 fn renew<N: Nodes>(
     ops: &Ops,
     nodes: &mut N,
@@ -175,34 +158,32 @@ fn renew<N: Nodes>(
     cuts: &[Cut],
     marks: &[bool],
     products: &mut [Ref],
-    cut: &[bool],
-    nets: &mut [NetRails],
-    changed: &mut [bool],
+    board: &mut Board,
+    number: usize,
     g: &Gate,
 ) -> Result<(), OpFault>
     requires width { (cover : Cover) → slice_get net.now.raw.covers g.now.cover ≡ Some cover
         → cover.inputs ≡ length g.now.inputs }
     requires cover { g.now.cover < length net.now.raw.covers }
-    requires output { g.now.output.0 < length nets.old }
+    requires number { number < length board.old.due.items }
+    requires output { g.now.output.0 < length board.old.nets.items }
     requires room { length g.now.inputs < length products.old }
-    requires inside { All (λ input. input.0 < length nets.old) g.now.inputs }
-    requires refs { All (AreNetRefs (N.store nodes.old)) nets.old }
+    requires inside { All (λ input. input.0 < length board.old.nets.items) g.now.inputs }
+    requires refs { All (AreNetRefs (N.store nodes.old)) board.old.nets.items }
     requires rows { rows.now.covers ≡ map rows_of net.now.raw.covers }
     requires guards { All (λ c. IsRef (N.store nodes.old) c.guard) cuts.now }
     requires values { All (λ c. IsRef (N.store nodes.old) c.value) cuts.now }
     requires marks { AreMarks cuts.now marks.now }
-    requires marked { length marks.now ≡ length nets.old }
-    requires cut { length cut.now ≡ length nets.old }
-    requires changed { length changed.old ≡ length nets.old }
-    requires kept { IsKept (N.store nodes.old) net.now.raw cut.now changed.old nets.old g.now }
+    requires marked { length marks.now ≡ length board.old.nets.items }
+    requires spared { flag_at board.old.due.items number ≡ false
+        → IsSpared (N.store nodes.old) net.now.raw (map (λ c. c.node) cuts.now) board.old number g.now }
     ensures room { length products.new ≡ length products.old }
-    ensures nets { OnOk result (nets.new
-        ≡ set nets.old g.now.output.0 (net_at nets.new g.now.output.0)) }
-    ensures changed { OnOk result (length changed.new ≡ length changed.old) }
-    ensures noted { OnOk result (AreNoted changed.old nets.old changed.new nets.new) }
+    ensures nets { OnOk result (board.new.nets.items
+        ≡ set board.old.nets.items g.now.output.0 (net_at board.new.nets.items g.now.output.0)) }
+    ensures follows { OnOk result (Follows board.old board.new) }
     ensures built { (ds : List SymbolicCut) (before sets : ℕ → SymbolicSet)
         → AllZip (IsCutBy (N.store nodes.old)) ds cuts.now
-        → HaveInputs (N.store nodes.old) sets nets.old g.now.inputs
+        → HaveInputs (N.store nodes.old) sets board.old.nets.items g.now.inputs
         → before g.now.output.0 ≡ output_set net.now.raw sets g.now
         → Built (some_bit (after_cuts ds before g.now.output.0)
         ∷ (cover_work (slice_get net.now.raw.covers g.now.cover) (input_sets sets g.now)
@@ -211,21 +192,21 @@ fn renew<N: Nodes>(
     ensures have { OnOk result (
         (ds : List SymbolicCut) (before sets : ℕ → SymbolicSet)
         → AllZip (IsCutBy (N.store nodes.old)) ds cuts.now
-        → HaveInputs (N.store nodes.old) sets nets.old g.now.inputs
+        → HaveInputs (N.store nodes.old) sets board.old.nets.items g.now.inputs
         → before g.now.output.0 ≡ output_set net.now.raw sets g.now
         → AreNetRails (N.store nodes.new) (after_cuts ds before g.now.output.0)
-        (net_at nets.new g.now.output.0)) }
+        (net_at board.new.nets.items g.now.output.0)) }
 {
-    if is_kept(marks, cut, changed, g) {
+    if !board.due[number] {
         return Ok(());
     }
+    let nets = board.nets.as_slice();
     let r = place(ops, nodes, net, rows, cuts, marks, products, nets, g)?;
-    put(nets, changed, g.output.0, r);
+    board.put(g.output.0, r);
     Ok(())
 }
 
-/// Gives the gates' outputs their sets, one after another. `cut` has a mark at each net that was cut at the time before,
-/// and `changed` at each that has another set than then.
+/// Gives the gates' outputs their sets, one after another; those that are not due keep them.
 pub fn place_gates<N: Nodes>(
     ops: &Ops,
     nodes: &mut N,
@@ -234,29 +215,27 @@ pub fn place_gates<N: Nodes>(
     cuts: &[Cut],
     marks: &[bool],
     products: &mut [Ref],
-    cut: &[bool],
-    nets: &mut [NetRails],
-    changed: &mut [bool],
+    board: &mut Board,
 ) -> Result<(), OpFault>
-    requires long { length nets.old ≡ net.now.raw.nets }
+    requires long { length board.old.nets.items ≡ net.now.raw.nets }
+    requires due { length board.old.due.items ≡ length net.now.raw.gates }
     requires room { All (λ gate. length gate.inputs < length products.old) net.now.raw.gates }
-    requires refs { All (AreNetRefs (N.store nodes.old)) nets.old }
+    requires refs { All (AreNetRefs (N.store nodes.old)) board.old.nets.items }
     requires rows { rows.now.covers ≡ map rows_of net.now.raw.covers }
     requires guards { All (λ c. IsRef (N.store nodes.old) c.guard) cuts.now }
     requires values { All (λ c. IsRef (N.store nodes.old) c.value) cuts.now }
     requires marked { length marks.now ≡ net.now.raw.nets }
     requires marks { AreMarks cuts.now marks.now }
-    requires cut { length cut.now ≡ net.now.raw.nets }
-    requires changed { length changed.old ≡ net.now.raw.nets }
-    requires kept { AreKept (N.store nodes.old) net.now.raw cut.now changed.old nets.old }
+    requires spared { AreSpared (N.store nodes.old) net.now.raw (map (λ c. c.node) cuts.now)
+        board.old }
     ensures room { OnOk result (length products.new ≡ length products.old) }
-    ensures long { OnOk result (length nets.new ≡ net.now.raw.nets) }
-    ensures refs { OnOk result (All (AreNetRefs (N.store nodes.new)) nets.new) }
+    ensures refs { OnOk result (All (AreNetRefs (N.store nodes.new)) board.new.nets.items) }
+    ensures follows { OnOk result (Follows board.old board.new) }
     ensures built { (ls : List SymbolicSet) (ds : List SymbolicCut) (sets : ℕ → SymbolicSet)
         → length ls ≡ length net.now.raw.latches
         → ArePossibleEach (N.store nodes.old).vars net.now.raw ls (asks ds) sets
         → AllZip (IsCutBy (N.store nodes.old)) ds cuts.now
-        → HaveGates net.now.raw net.now.settled sets (N.store nodes.old) 0 nets.old
+        → HaveGates net.now.raw net.now.settled sets (N.store nodes.old) 0 board.old.nets.items
         → Built (time_work net.now.raw ls (asks ds) sets) Whatever
         (N.store nodes.old) (N.store nodes.new) result }
     ensures have { OnOk result (
@@ -264,14 +243,23 @@ pub fn place_gates<N: Nodes>(
         → length ls ≡ length net.now.raw.latches
         → ArePossibleEach (N.store nodes.old).vars net.now.raw ls (asks ds) sets
         → AllZip (IsCutBy (N.store nodes.old)) ds cuts.now
-        → HaveGates net.now.raw net.now.settled sets (N.store nodes.old) 0 nets.old
+        → HaveGates net.now.raw net.now.settled sets (N.store nodes.old) 0 board.old.nets.items
         → HaveGates net.now.raw net.now.settled sets (N.store nodes.new)
-        (length net.now.settled) nets.new) }
+        (length net.now.settled) board.new.nets.items) }
 {
     for number in net.settled() {
         let g = &net.gates()[*number as usize];
         renew(
-            ops, nodes, net, rows, cuts, marks, products, cut, nets, changed, g,
+            ops,
+            nodes,
+            net,
+            rows,
+            cuts,
+            marks,
+            products,
+            board,
+            *number as usize,
+            g,
         )?;
     }
     Ok(())

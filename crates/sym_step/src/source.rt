@@ -6,13 +6,14 @@ ghost use Rattle.dd_nodes.specs.Stores.{IsRef, Keeps};
 ghost use Rattle.net_core.specs.Work.{ArePossibleEach, SymbolicSet, SymbolicCut, after_cuts, cuts_work, some_bit, time_work, uncut};
 ghost use Rattle.dual_rail.specs.Rail.{AreRefs, AreRails, Built, Whatever};
 ghost use Rattle.sym_step.specs.Step.{IsCutBy};
-ghost use Rattle.sym_step.specs.private.Frames.{AreNoted, AreOpen, HaveLatches, HaveOpen, IsOpened, StayRight};
+ghost use Rattle.sym_step.specs.private.Boards.{Follows};
+ghost use Rattle.sym_step.specs.private.Frames.{AreOpen, HaveLatches, HaveOpen, IsOpened, StayRight};
 ghost use Rattle.sym_step.specs.private.NetSets.{AreNetRefs, HasNetSet};
 ghost use Rattle.sym_step.specs.private.Parts.{AreMarks, HaveSources, asks};
 
+use crate::board::Board;
 use crate::cut::Cut;
 use crate::cuts::cut_net;
-use crate::frame::put;
 use crate::net_rails::NetRails;
 use dd_nodes::Nodes;
 use dd_ops::{OpFault, Ops};
@@ -59,8 +60,7 @@ fn latch_sources<N: Nodes>(
     given: &[NetRails],
     cuts: &[Cut],
     marks: &[bool],
-    nets: &mut [NetRails],
-    changed: &mut [bool],
+    board: &mut Board,
 ) -> Result<(), OpFault>
     requires long { length latches.now ≡ length net.now.raw.latches }
     requires latches { All (AreRefs (N.store nodes.old)) latches.now }
@@ -70,14 +70,11 @@ fn latch_sources<N: Nodes>(
     requires values { All (λ c. IsRef (N.store nodes.old) c.value) cuts.now }
     requires marked { length marks.now ≡ net.now.raw.nets }
     requires marks { AreMarks cuts.now marks.now }
-    requires nets { length nets.old ≡ net.now.raw.nets }
-    requires refs { All (AreNetRefs (N.store nodes.old)) nets.old }
-    requires changed { length changed.old ≡ net.now.raw.nets }
+    requires nets { length board.old.nets.items ≡ net.now.raw.nets }
+    requires refs { All (AreNetRefs (N.store nodes.old)) board.old.nets.items }
     ensures keeps { OnOk result (Keeps (N.store nodes.old) (N.store nodes.new)) }
-    ensures long { OnOk result (length nets.new ≡ net.now.raw.nets) }
-    ensures refs { OnOk result (All (AreNetRefs (N.store nodes.new)) nets.new) }
-    ensures changed { OnOk result (length changed.new ≡ net.now.raw.nets) }
-    ensures noted { OnOk result (AreNoted changed.old nets.old changed.new nets.new) }
+    ensures refs { OnOk result (All (AreNetRefs (N.store nodes.new)) board.new.nets.items) }
+    ensures follows { OnOk result (Follows board.old board.new) }
     ensures built { (ls : List SymbolicSet) (ds : List SymbolicCut) (sets : ℕ → SymbolicSet)
         → AllZip (AreRails (N.store nodes.old)) ls latches.now
         → ArePossibleEach (N.store nodes.old).vars net.now.raw ls (asks ds) sets
@@ -90,13 +87,14 @@ fn latch_sources<N: Nodes>(
         → ArePossibleEach (N.store nodes.old).vars net.now.raw ls (asks ds) sets
         → AllZip (IsCutBy (N.store nodes.old)) ds cuts.now
         → HaveLatches net.now.raw sets (N.store nodes.new)
-        (length net.now.raw.latches) nets.new
-        × StayRight sets (N.store nodes.old) nets.old (N.store nodes.new) nets.new) }
+        (length net.now.raw.latches) board.new.nets.items
+        × StayRight sets (N.store nodes.old) board.old.nets.items
+        (N.store nodes.new) board.new.nets.items) }
 {
     for l in 0..latches.len() {
         let id = net.latches()[l].output.0;
         let r = latch_source(ops, nodes, cuts, marks, id, latches[l], given[l])?;
-        put(nets, changed, id, r);
+        board.put(id, r);
     }
     Ok(())
 }
@@ -141,22 +139,18 @@ fn open_sources<N: Nodes>(
     cuts: &[Cut],
     marks: &[bool],
     ids: &[NodeId],
-    nets: &mut [NetRails],
-    changed: &mut [bool],
+    board: &mut Board,
 ) -> Result<(), OpFault>
     requires guards { All (λ c. IsRef (N.store nodes.old) c.guard) cuts.now }
     requires values { All (λ c. IsRef (N.store nodes.old) c.value) cuts.now }
     requires marked { length marks.now ≡ net.now.raw.nets }
     requires marks { AreMarks cuts.now marks.now }
     requires ids { All (λ node. node.0 < net.now.raw.nets) ids.now }
-    requires nets { length nets.old ≡ net.now.raw.nets }
-    requires refs { All (AreNetRefs (N.store nodes.old)) nets.old }
-    requires changed { length changed.old ≡ net.now.raw.nets }
+    requires nets { length board.old.nets.items ≡ net.now.raw.nets }
+    requires refs { All (AreNetRefs (N.store nodes.old)) board.old.nets.items }
     ensures keeps { OnOk result (Keeps (N.store nodes.old) (N.store nodes.new)) }
-    ensures long { OnOk result (length nets.new ≡ net.now.raw.nets) }
-    ensures refs { OnOk result (All (AreNetRefs (N.store nodes.new)) nets.new) }
-    ensures changed { OnOk result (length changed.new ≡ net.now.raw.nets) }
-    ensures noted { OnOk result (AreNoted changed.old nets.old changed.new nets.new) }
+    ensures refs { OnOk result (All (AreNetRefs (N.store nodes.new)) board.new.nets.items) }
+    ensures follows { OnOk result (Follows board.old board.new) }
     ensures built { (ls : List SymbolicSet) (ds : List SymbolicCut) (sets : ℕ → SymbolicSet)
         → length ls ≡ length net.now.raw.latches
         → ArePossibleEach (N.store nodes.old).vars net.now.raw ls (asks ds) sets
@@ -168,14 +162,16 @@ fn open_sources<N: Nodes>(
         → length ls ≡ length net.now.raw.latches
         → ArePossibleEach (N.store nodes.old).vars net.now.raw ls (asks ds) sets
         → AllZip (IsCutBy (N.store nodes.old)) ds cuts.now
-        → HaveOpen net.now.raw sets (N.store nodes.new) ids.now (length ids.now) nets.new
-        × StayRight sets (N.store nodes.old) nets.old (N.store nodes.new) nets.new) }
+        → HaveOpen net.now.raw sets (N.store nodes.new) ids.now (length ids.now)
+        board.new.nets.items
+        × StayRight sets (N.store nodes.old) board.old.nets.items
+        (N.store nodes.new) board.new.nets.items) }
 {
     for node in ids {
         let id = node.0;
-        let now = nets[id as usize];
+        let now = board.nets[id as usize];
         let r = open_source(ops, nodes, net, cuts, marks, id, now)?;
-        put(nets, changed, id, r);
+        board.put(id, r);
     }
     Ok(())
 }
@@ -193,8 +189,7 @@ pub fn sources<N: Nodes>(
     marks: &[bool],
     asked: &[NodeId],
     before: &[NodeId],
-    nets: &mut [NetRails],
-    changed: &mut [bool],
+    board: &mut Board,
 ) -> Result<(), OpFault>
     requires long { length latches.now ≡ length net.now.raw.latches }
     requires latches { All (AreRefs (N.store nodes.old)) latches.now }
@@ -207,15 +202,12 @@ pub fn sources<N: Nodes>(
     requires asked { asked.now ≡ map (λ c. c.node) cuts.now }
     requires inside { All (λ c. c.node.0 < net.now.raw.nets) cuts.now }
     requires before { All (λ node. node.0 < net.now.raw.nets) before.now }
-    requires nets { length nets.old ≡ net.now.raw.nets }
-    requires refs { All (AreNetRefs (N.store nodes.old)) nets.old }
-    requires undriven { AreOpen (N.store nodes.old) net.now.raw before.now nets.old }
-    requires changed { length changed.old ≡ net.now.raw.nets }
+    requires nets { length board.old.nets.items ≡ net.now.raw.nets }
+    requires refs { All (AreNetRefs (N.store nodes.old)) board.old.nets.items }
+    requires undriven { AreOpen (N.store nodes.old) net.now.raw before.now board.old.nets.items }
     ensures keeps { OnOk result (Keeps (N.store nodes.old) (N.store nodes.new)) }
-    ensures long { OnOk result (length nets.new ≡ net.now.raw.nets) }
-    ensures refs { OnOk result (All (AreNetRefs (N.store nodes.new)) nets.new) }
-    ensures changed { OnOk result (length changed.new ≡ net.now.raw.nets) }
-    ensures noted { OnOk result (AreNoted changed.old nets.old changed.new nets.new) }
+    ensures refs { OnOk result (All (AreNetRefs (N.store nodes.new)) board.new.nets.items) }
+    ensures follows { OnOk result (Follows board.old board.new) }
     ensures built { (ls : List SymbolicSet) (ds : List SymbolicCut) (sets : ℕ → SymbolicSet)
         → AllZip (AreRails (N.store nodes.old)) ls latches.now
         → ArePossibleEach (N.store nodes.old).vars net.now.raw ls (asks ds) sets
@@ -227,9 +219,9 @@ pub fn sources<N: Nodes>(
         → AllZip (AreRails (N.store nodes.old)) ls latches.now
         → ArePossibleEach (N.store nodes.old).vars net.now.raw ls (asks ds) sets
         → AllZip (IsCutBy (N.store nodes.old)) ds cuts.now
-        → HaveSources net.now.raw sets (N.store nodes.new) net.now.raw.nets nets.new) }
+        → HaveSources net.now.raw sets (N.store nodes.new) net.now.raw.nets board.new.nets.items) }
 {
-    latch_sources(ops, nodes, net, latches, given, cuts, marks, nets, changed)?;
-    open_sources(ops, nodes, net, cuts, marks, before, nets, changed)?;
-    open_sources(ops, nodes, net, cuts, marks, asked, nets, changed)
+    latch_sources(ops, nodes, net, latches, given, cuts, marks, board)?;
+    open_sources(ops, nodes, net, cuts, marks, before, board)?;
+    open_sources(ops, nodes, net, cuts, marks, asked, board)
 }

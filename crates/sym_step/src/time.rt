@@ -7,13 +7,17 @@ ghost use Rattle.dd_nodes.specs.Stores.{IsRef, Keeps, Means};
 ghost use Rattle.net_core.specs.Work.{ArePossibleEach, SymbolicSet, SymbolicAsked, disjunction, no_bit, some_bit, sum, sums, time_work};
 ghost use Rattle.dual_rail.specs.Rail.{AreRefs, AreRails, Built, HasFunction, Whatever};
 ghost use Rattle.sym_step.specs.Step.{IsCutOf, IsCutBy, IsPossibleStep, IsStep, rows_of};
-ghost use Rattle.sym_step.specs.private.Frames.{AreKept, AreOpen, IsFrame, input_rails, next_of, nets_of, step_of};
+ghost use Rattle.sym_step.specs.private.Boards.{Follows};
+ghost use Rattle.sym_step.specs.private.Frames.{AreOpen, AreSpared, IsFrame, input_rails, next_of, nets_of, step_of};
 ghost use Rattle.sym_step.specs.private.NetSets.{AreNetRails, AreNetRefs};
 ghost use Rattle.sym_step.specs.private.Parts.{AreMarks, HaveNets};
 
+use crate::board::Board;
 use crate::cut::Cut;
 use crate::cuts::marked;
-use crate::frame::{Frame, asked_nets, latch_inputs, next_sets, own_sets};
+use crate::frame::{
+    Frame, asked_nets, clear, knows_full, latch_inputs, make_due, next_sets, own_sets,
+};
 use crate::made::Step;
 use crate::net_rails::NetRails;
 use crate::place::place_gates;
@@ -73,13 +77,13 @@ fn rails_of(alloc: Global, nets: &[NetRails]) -> Result<Items<Rails>, AllocError
 
 /// What a frame has of its time, as a step.
 fn finished(alloc: Global, net: &Net, frame: &Frame, contradictory: Ref) -> Result<Step, AllocError>
-    requires { length frame.now.nets.items ≡ net.now.raw.nets }
+    requires { length frame.now.board.nets.items ≡ net.now.raw.nets }
     ensures nets { IfOk result (λ r. r.nets ≡ nets_of frame.now) }
     ensures contradictory { IfOk result (λ r. r.contradictory ≡ contradictory) }
     ensures next { IfOk result (λ r. r.next
         ≡ map (input_rails (nets_of frame.now)) net.now.raw.latches) }
 {
-    let nets = rails_of(alloc, &frame.nets)?;
+    let nets = rails_of(alloc, &frame.board.nets)?;
     let next = own_sets(alloc, frame, net.latches())?;
     Ok(Step {
         nets,
@@ -89,8 +93,7 @@ fn finished(alloc: Global, net: &Net, frame: &Frame, contradictory: Ref) -> Resu
 }
 
 /// Gives all nets their sets: first those that no gate drives, and then the gates' outputs. `given` are the sets of the
-/// latches' inputs at the time before, `before` are the nets that were cut then, at which `cut` has marks; `changed` has a
-/// mark at each net that has another set than then.
+/// latches' inputs at the time before, `asked` are the nets that are cut, and `before` those that were cut then.
 fn set_nets<N: Nodes>(
     ops: &Ops,
     nodes: &mut N,
@@ -103,9 +106,7 @@ fn set_nets<N: Nodes>(
     asked: &[NodeId],
     before: &[NodeId],
     products: &mut [Ref],
-    cut: &[bool],
-    nets: &mut [NetRails],
-    changed: &mut [bool],
+    board: &mut Board,
 ) -> Result<(), OpFault>
     requires rows { rows.now.covers ≡ map rows_of net.now.raw.covers }
     requires long { length latches.now ≡ length net.now.raw.latches }
@@ -119,16 +120,15 @@ fn set_nets<N: Nodes>(
     requires asked { asked.now ≡ map (λ c. c.node) cuts.now }
     requires inside { All (λ c. c.node.0 < net.now.raw.nets) cuts.now }
     requires before { All (λ node. node.0 < net.now.raw.nets) before.now }
-    requires undriven { AreOpen (N.store nodes.old) net.now.raw before.now nets.old }
+    requires undriven { AreOpen (N.store nodes.old) net.now.raw before.now board.old.nets.items }
     requires room { All (λ gate. length gate.inputs < length products.old) net.now.raw.gates }
-    requires cut { length cut.now ≡ net.now.raw.nets }
-    requires nets { length nets.old ≡ net.now.raw.nets }
-    requires refs { All (AreNetRefs (N.store nodes.old)) nets.old }
-    requires changed { length changed.old ≡ net.now.raw.nets }
-    requires kept { AreKept (N.store nodes.old) net.now.raw cut.now changed.old nets.old }
+    requires nets { length board.old.nets.items ≡ net.now.raw.nets }
+    requires refs { All (AreNetRefs (N.store nodes.old)) board.old.nets.items }
+    requires due { length board.old.due.items ≡ length net.now.raw.gates }
+    requires spared { AreSpared (N.store nodes.old) net.now.raw asked.now board.old }
     ensures room { OnOk result (length products.new ≡ length products.old) }
-    ensures long { OnOk result (length nets.new ≡ net.now.raw.nets) }
-    ensures refs { OnOk result (All (AreNetRefs (N.store nodes.new)) nets.new) }
+    ensures refs { OnOk result (All (AreNetRefs (N.store nodes.new)) board.new.nets.items) }
+    ensures follows { OnOk result (Follows board.old board.new) }
     ensures built { (ls : List SymbolicSet) (asked : SymbolicAsked) (sets : ℕ → SymbolicSet)
         → AllZip (AreRails (N.store nodes.old)) ls latches.now
         → AllZip (IsCutBy (N.store nodes.old)) asked.cuts cuts.now
@@ -140,14 +140,12 @@ fn set_nets<N: Nodes>(
         → AllZip (AreRails (N.store nodes.old)) ls latches.now
         → AllZip (IsCutBy (N.store nodes.old)) asked.cuts cuts.now
         → ArePossibleEach (N.store nodes.old).vars net.now.raw ls asked sets
-        → HaveNets net.now.raw sets (N.store nodes.new) nets.new) }
+        → HaveNets net.now.raw sets (N.store nodes.new) board.new.nets.items) }
 {
     sources(
-        ops, nodes, net, latches, given, cuts, marks, asked, before, nets, changed,
+        ops, nodes, net, latches, given, cuts, marks, asked, before, board,
     )?;
-    place_gates(
-        ops, nodes, net, rows, cuts, marks, products, cut, nets, changed,
-    )
+    place_gates(ops, nodes, net, rows, cuts, marks, products, board)
 }
 
 /// Gives all nets of a frame their sets.
@@ -180,12 +178,12 @@ fn renew_frame<N: Nodes>(
         → AllZip (AreRails (N.store nodes.old)) ls latches.now
         → AllZip (IsCutBy (N.store nodes.old)) asked.cuts cuts.now
         → ArePossibleEach (N.store nodes.old).vars net.now.raw ls asked sets
-        → HaveNets net.now.raw sets (N.store nodes.new) frame.new.nets.items) }
+        → HaveNets net.now.raw sets (N.store nodes.new) frame.new.board.nets.items) }
 {
     let marks = marked(alloc, cuts, net.nets())?;
-    let mut changed = vec![in alloc; false; net.nets() as usize]?;
     let asked = asked_nets(alloc, cuts)?;
-    let given = latch_inputs(alloc, &frame.nets, net.latches())?;
+    make_due(alloc, net, &asked, frame)?;
+    let given = latch_inputs(alloc, &frame.board.nets, net.latches())?;
     set_nets(
         ops,
         nodes,
@@ -198,12 +196,11 @@ fn renew_frame<N: Nodes>(
         &asked,
         &frame.asked,
         &mut frame.products,
-        &frame.cut,
-        &mut frame.nets,
-        &mut changed,
+        &mut frame.board,
     )?;
-    frame.cut = marks;
+    clear(&mut frame.board.due);
     frame.asked = asked;
+    frame.begun = true;
     Ok(())
 }
 
@@ -235,7 +232,11 @@ fn time_at<N: Nodes>(
         (N.store nodes.old) (N.store nodes.new) result }
 {
     renew_frame(alloc, ops, nodes, net, rows, latches, cuts, frame)?;
-    let contradictory = some_empty(ops, nodes, frame.nets.as_slice())?;
+    frame.board.full = knows_full(frame.board.full, &frame.board.nets);
+    if frame.board.full {
+        return Ok(Ref::FALSE);
+    }
+    let contradictory = some_empty(ops, nodes, frame.board.nets.as_slice())?;
     Ok(contradictory)
 }
 

@@ -418,6 +418,10 @@ const BOTH: &str =
 const TOGGLE: &str =
     ".model toggle\n.inputs a\n.outputs q y\n.names q n\n0 1\n.names q a y\n11 1\n.latch n q\n.end\n";
 
+// each gate has another set at each time at which nothing is asked
+const FLIP: &str =
+    ".model flip\n.outputs c\n.names q a\n0 1\n.names a b\n0 1\n.names b c\n0 1\n.latch a q\n.end\n";
+
 const SHIFT: &str =
     ".model shift\n.inputs d e\n.outputs c\n.names d e n\n1- 1\n-1 1\n.latch n a\n.latch a b\n.latch b c\n.end\n";
 
@@ -529,6 +533,8 @@ const CASES: &[(&str, &[(&str, Bit, Bit)])] = &[
     (BOTH, &[]),
     (TOGGLE, &[("q", Bit::One, Bit::P), ("a", Bit::P, Bit::Q)]),
     (TOGGLE, &[("q", Bit::Q, Bit::P), ("a", Bit::One, Bit::Q)]),
+    (FLIP, &[("q", Bit::One, Bit::P)]),
+    (FLIP, &[("q", Bit::Q, Bit::P), ("b", Bit::P, Bit::Q)]),
     (
         SHIFT,
         &[

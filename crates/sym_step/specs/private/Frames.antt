@@ -1,5 +1,5 @@
 -- For private functions. What is kept of one time for the next.
-use Rattle.std.specs.Prelude.{◌≡◌, ◌⊎◌, ◌<◌, ◌==◌, All, Bool, false, ℕ, List, Option, None, Some, length, map, slice_index_or}
+use Rattle.std.specs.Prelude.{◌≡◌, ◌⊎◌, ◌<◌, ◌==◌, All, Bool, true, false, IsTrue, ℕ, List, Option, None, Some, length, map, slice_index_or}
 use Rattle.std.specs.List.{list_any}
 use Rattle.ste_base.specs.declared.id.NodeId.{NodeId}
 use Rattle.dd_nodes.specs.declared.node.Ref.{Ref}
@@ -16,31 +16,16 @@ use Rattle.sym_step.specs.Step.{rails_at}
 use Rattle.sym_step.specs.declared.frame.Frame.{Frame}
 use Rattle.sym_step.specs.declared.made.Step.{Step}
 use Rattle.sym_step.specs.declared.net_rails.NetRails.{NetRails}
+use Rattle.sym_step.specs.declared.board.Board.{Board}
+use Rattle.sym_step.specs.private.Boards.{AreFull}
+use Rattle.sym_step.specs.private.Readers.{AreReaders, ReadsAs, flag_at}
 use Rattle.sym_step.specs.private.NetSets.{AreNetRails, AreNetRefs, HaveInputs, net_at}
-
--- the flag of a net in a list; none for a number that is no net
-abbrev pub flag_at : List Bool → ℕ → Bool
-flag_at flags id = slice_index_or flags id false
 
 -- the gate's output has the set that the gate gives, whatever sets its inputs have
 abbrev pub IsGiven : Store → RawNet → List NetRails → Gate → Type 0
 IsGiven s net nets gate =
     (sets : ℕ → SymbolicSet) → HaveInputs s sets nets gate.inputs →
     AreNetRails s (output_set net sets gate) (net_at nets gate.output.0)
-
--- the same, where neither its inputs nor its output have changed, and the output was not cut
-abbrev pub IsKept : Store → RawNet → List Bool → List Bool → List NetRails → Gate → Type 0
-IsKept s net cut changed nets gate =
-    flag_at cut gate.output.0 ≡ false → flag_at changed gate.output.0 ≡ false →
-    All (λ input. flag_at changed input.0 ≡ false) gate.inputs → IsGiven s net nets gate
-
-abbrev pub AreKept : Store → RawNet → List Bool → List Bool → List NetRails → Type 0
-AreKept s net cut changed nets = All (IsKept s net cut changed nets) net.gates
-
--- a net that has not changed had not before, and has the references of before
-abbrev pub AreNoted : List Bool → List NetRails → List Bool → List NetRails → Type 0
-AreNoted before old after new =
-    (id : ℕ) → flag_at after id ≡ false → (flag_at before id ≡ false) × (net_at new id ≡ net_at old id)
 
 -- nothing drives the net
 abbrev pub IsOpen : RawNet → ℕ → Type 0
@@ -82,7 +67,7 @@ bare r = record { can0 = r.can0; can1 = r.can1 }
 
 -- the sets of the nets at the time of a frame
 abbrev pub nets_of : Frame → List Rails
-nets_of frame = map bare frame.nets.items
+nets_of frame = map bare frame.board.nets.items
 
 -- the set of a latch's input
 abbrev pub input_rails : List Rails → Latch → Rails
@@ -105,13 +90,33 @@ pub record AreFirst (s : Store) (net : RawNet) (sets : List Rails) : Type 0 wher
   pub long : length sets ≡ length net.latches
   pub refs : All (AreRefs s) sets
 
--- A frame of a time: each net has references that are held, and a gate whose output was not cut has given it its set.
+-- a gate that is not due: its output is not cut, and has the set that it gives, and it stands in its lists
+pub record IsSpared (s : Store) (net : RawNet) (asked : List NodeId) (board : Board) (k : ℕ) (gate : Gate) : Type 0 where
+  pub uncut : is_listed asked gate.output.0 ≡ false
+  pub given : IsGiven s net board.nets.items gate
+  pub reads : ReadsAs board.readers k gate
+
+abbrev pub AreSpared : Store → RawNet → List NodeId → Board → Type 0
+AreSpared s net asked board =
+    (k : ℕ) (d : Gate) → k < length net.gates → flag_at board.due.items k ≡ false → IsSpared s net asked board k (slice_index_or net.gates k d)
+
+-- the lists of a frame are made, where some gate is not due
+abbrev pub AreReady : RawNet → Frame → Type 0
+AreReady net frame =
+    (k : ℕ) → k < length net.gates → flag_at frame.board.due.items k ≡ false → AreReaders net frame.board.readers
+
+-- A frame of a time: each net has references that are held, and a gate that is not due and whose output was not cut has
+-- given it its set. Before any time all gates are due.
 pub record IsFrame (s : Store) (net : RawNet) (frame : Frame) : Type 0 where
-  pub long : length frame.nets.items ≡ net.nets
-  pub marked : length frame.cut.items ≡ net.nets
-  pub refs : All (AreNetRefs s) frame.nets.items
+  pub long : length frame.board.nets.items ≡ net.nets
+  pub refs : All (AreNetRefs s) frame.board.nets.items
+  pub full : IsTrue frame.board.full → AreFull frame.board.nets.items
+  pub due : length frame.board.due.items ≡ length net.gates
   pub room : All (λ gate. length gate.inputs < length frame.products.items) net.gates
   pub inside : All (λ node. node.0 < net.nets) frame.asked.items
-  pub undriven : AreOpen s net frame.asked.items frame.nets.items
+  pub undriven : AreOpen s net frame.asked.items frame.board.nets.items
   pub first : (sets : List Rails) → frame.first ≡ Some sets → AreFirst s net sets
-  pub kept : All (λ gate. flag_at frame.cut.items gate.output.0 ≡ false → IsGiven s net frame.nets.items gate) net.gates
+  pub blank : frame.begun ≡ false → (k : ℕ) → k < length net.gates → flag_at frame.board.due.items k ≡ true
+  pub lists : IsTrue frame.listed → AreReaders net frame.board.readers
+  pub kept : (k : ℕ) (d : Gate) → k < length net.gates → flag_at frame.board.due.items k ≡ false → is_listed frame.asked.items (slice_index_or net.gates k d).output.0 ≡ false
+      → IsGiven s net frame.board.nets.items (slice_index_or net.gates k d)

@@ -138,12 +138,12 @@ find_all-requires-clause-nets g c =
     let t : Store = g.N.Nodes.store c.renew.new.nodes in
     let u : Store = g.N.Nodes.store c.either.new.nodes in
     let frame : Frame = c.renew.new.frame in
-    All-refs-keep t u (nets_of frame) c.in_ok-contradictory.ensures.keeps (rails_refs t frame.nets.items c.in_ok-empty.ensures.frame.refs)
+    All-refs-keep t u (nets_of frame) c.in_ok-contradictory.ensures.keeps (rails_refs t frame.board.nets.items c.in_ok-empty.ensures.frame.refs)
 
 pub find_all-requires-clause-inside : goal.find_all-requires-clause-inside
 find_all-requires-clause-inside g c =
     let frame : Frame = c.renew.new.frame in
-    let nets : length (nets_of frame) ≡ c.args.net.now.raw.nets = length-map frame.nets.items bare ∙ c.in_ok-empty.ensures.frame.long in
+    let nets : length (nets_of frame) ≡ c.args.net.now.raw.nets = length-map frame.board.nets.items bare ∙ c.in_ok-empty.ensures.frame.long in
     λ k d lt. let inside = (c.requires.con k d lt).node in omega (arith, nets, inside)
 
 pub returns-clause-frame : goal.returns-clause-frame
@@ -161,7 +161,7 @@ returns-clause-frame g c =
     let nets : List Rails = nets_of frame in
     let stu = c.in_ok-contradictory.ensures.keeps in
     let ksu = Keeps-trans s t u c.in_ok-empty.ensures.keeps stu in
-    let refs : All (AreRefs u) nets = All-refs-keep t u nets stu (rails_refs t frame.nets.items c.in_ok-empty.ensures.frame.refs) in
+    let refs : All (AreRefs u) nets = All-refs-keep t u nets stu (rails_refs t frame.board.nets.items c.in_ok-empty.ensures.frame.refs) in
     let sets : ℕ → SymbolicSet = λ id. set_where u (rails_at nets id) in
     let have : (id : ℕ) → id < length nets → AreRails u (sets id) (rails_at nets id) = λ id lt. own_set u (rails_at nets id) (refs id _ lt) in
     let asked : List SymbolicCut = map (λ (x : Cut). record { node = x.node.0; guard = function u x.guard; value = function u x.value }) con in

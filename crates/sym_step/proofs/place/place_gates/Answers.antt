@@ -1,4 +1,4 @@
-use Rattle.std.proofs.Common.{◌≡◌, ◌+◌, ◌<◌, List, length, map, All, ℕ, ◌++◌, refl, sym, ◌∙◌, ap, subst, arith, get_or, Ok, Err, Result}
+use Rattle.std.proofs.Common.{◌≡◌, ◌+◌, ◌<◌, List, length, map, All, ℕ, ◌++◌, refl, sym, ◌∙◌, ap, subst, arith, get_or, Ok, Err, Result, false}
 use Rattle.sym_step.specs.private.Parts.{asks}
 use Rattle.std.specs.List.{AllZip}
 use Rattle.dd_nodes.specs.Diagram.{Function}
@@ -17,12 +17,14 @@ use Rattle.net_core.specs.declared.raw.RawNet.{RawNet}
 use Rattle.std.specs.Prelude.{slice_get}
 use Rattle.net_core.specs.Work.{time_work, uncut, cover_work, output_set, input_sets}
 use Rattle.sym_step.specs.Step.{IsCutBy}
-use Rattle.std.proofs.lemmas.List.{length-set}
 use Rattle.sym_step.proofs.Turning.{before_is, place_turn, placed, ready, set_refs}
-use Rattle.sym_step.proofs.Framing.{kept_keeps, kept_noted}
+use Rattle.sym_step.proofs.Framing.{spared_follows, spared_keeps}
+use Rattle.sym_step.proofs.Reading.{follows_then}
+use Rattle.ste_base.specs.declared.id.NodeId.{NodeId}
 use Rattle.sym_step.proofs.Cutting.{own_demands}
 use Rattle.sym_step.specs.declared.net_rails.NetRails.{NetRails}
-use Rattle.sym_step.specs.private.Frames.{IsKept}
+use Rattle.sym_step.specs.private.Frames.{IsSpared}
+use Rattle.sym_step.specs.private.Readers.{flag_at}
 use Rattle.sym_step.specs.private.Parts.{HaveGates}
 use Rattle.sym_step.specs.private.NetSets.{AreNetRails, AreNetRefs, net_at, own_where}
 use Rattle.sym_step.proofs.NetRefs.{own_inputs, refs_of_net, All-net-refs-keep}
@@ -36,8 +38,8 @@ Says net cuts gate t u result nets =
     (bs : List SymbolicCut) (b ws : ℕ → SymbolicSet) → AllZip (IsCutBy t) bs cuts → All (λ input. AreNetRails t (ws input.0) (net_at nets input.0)) gate.inputs → b gate.output.0 ≡ output_set net ws gate
     → Built (some_bit (after_cuts bs b gate.output.0) ∷ (cover_work (slice_get net.covers gate.cover) (input_sets ws gate) ++ cuts_work bs b)) Whatever t u result
 
-pub renew-requires-clause-kept : goal.renew-requires-clause-kept
-renew-requires-clause-kept g c =
+pub renew-requires-clause-spared : goal.renew-requires-clause-spared
+renew-requires-clause-spared g c =
     let t : Store = g.N.Nodes.store c.loop-number.nodes in
     let net = c.args.net.now in
     let gate : Gate = c.index-gates-number.result in
@@ -46,8 +48,22 @@ renew-requires-clause-kept g c =
     let is : gate ≡ get_or net.raw.gates (get_or net.settled n 0) gate =
     c.index-gates-number.is ∙ ap (λ (xs : List Gate). get_or xs (get_or c.settled-number-items.result.now n 0) gate) c.gates.ensures
     ∙ ap (λ (xs : List ℕ). get_or net.raw.gates (get_or xs n 0) gate) c.settled-number-items.ensures.same in
-    subst (IsKept t net.raw c.args.cut.now c.loop-number.changed c.loop-number.nets) (sym is)
-    (c.loop-number.invariant.kept (get_or net.settled n 0) gate (net.in_order.gates n 0 within))
+    let nodes : List NodeId = map (λ (x : Cut). x.node) c.args.cuts.now in
+    let number = get_or net.settled n 0 in
+    let same_number : number ≡ get_or c.settled-number-items.result.now n 0 = ap (λ (xs : List ℕ). get_or xs n 0) (sym c.settled-number-items.ensures.same) in
+    subst (λ (k : ℕ). flag_at c.loop-number.board.due.items k ≡ false → IsSpared t net.raw nodes c.loop-number.board k gate) same_number
+    (subst (λ (x : Gate). flag_at c.loop-number.board.due.items number ≡ false → IsSpared t net.raw nodes c.loop-number.board number x) (sym is)
+    (c.loop-number.invariant.spared number gate (net.in_order.gates n 0 within)))
+
+pub renew-requires-clause-number : goal.renew-requires-clause-number
+renew-requires-clause-number g c =
+    let net = c.args.net.now in
+    let n = c.loop-number.number-index in
+    let within : n < length net.settled = let same = ap length c.settled-number-items.ensures.same in omega (arith, same, c.loop-number-test.true) in
+    let known = net.in_order.gates n 0 within in
+    let due : length c.loop-number.board.due.items ≡ length net.raw.gates = c.loop-number.invariant.follows.marks ∙ c.requires.due in
+    let same_number : get_or net.settled n 0 ≡ get_or c.settled-number-items.result.now n 0 = ap (λ (xs : List ℕ). get_or xs n 0) (sym c.settled-number-items.ensures.same) in
+    subst (λ (k : ℕ). k < length c.loop-number.board.due.items) same_number (subst (λ (m : ℕ). get_or net.settled n 0 < m) (sym due) known)
 
 pub loop-number-preserved : goal.loop-number-preserved
 loop-number-preserved g c =
@@ -59,8 +75,8 @@ loop-number-preserved g c =
     let gu = g.met.N.Nodes.diagram c.renew.new.nodes in
     let net = c.args.net.now in
     let cuts : List Cut = c.args.cuts.now in
-    let nets : List NetRails = c.loop-number.nets in
-    let new : List NetRails = c.renew.new.nets in
+    let nets : List NetRails = c.loop-number.board.nets.items in
+    let new : List NetRails = c.renew.new.board.nets.items in
     let gate : Gate = c.index-gates-number.result in
     let out : ℕ = gate.output.0 in
     let n = c.loop-number.number-index in
@@ -69,7 +85,7 @@ loop-number-preserved g c =
     c.index-gates-number.is ∙ ap (λ (xs : List Gate). get_or xs (get_or c.settled-number-items.result.now n 0) gate) c.gates.ensures
     ∙ ap (λ (xs : List ℕ). get_or net.raw.gates (get_or xs n 0) gate) c.settled-number-items.ensures.same in
     let inv = c.loop-number.invariant in
-    let size = inv.long in
+    let size = inv.follows.long ∙ c.requires.long in
     let p = c.in_ok-renew.ensures in
     let r : NetRails = net_at new out in
     let known : get_or net.settled n 0 < length net.raw.gates = net.in_order.gates n 0 within in
@@ -84,14 +100,14 @@ loop-number-preserved g c =
     let own_call = p.built asked mine_out mine (own_demands t cuts hg hv) (own_inputs t nets gate.inputs inside inv.refs) refl in
     let own_set = p.have asked mine_out mine (own_demands t cuts hg hv) (own_inputs t nets gate.inputs inside inv.refs) refl in
     let ktu = own_call.spends.keeps in
+    let nodes : List NodeId = map (λ (x : Cut). x.node) cuts in
     let ksu = Keeps-trans s t u inv.keeps ktu in
     record {
       room = p.room ∙ inv.room;
-      long = ap length p.nets ∙ length-set nets out r ∙ size;
-      changed = p.changed ∙ inv.changed;
       keeps = ksu;
       refs = subst (All (AreNetRefs u)) (sym p.nets) (set_refs u nets out r at (All-net-refs-keep t u nets gt gu ktu inv.refs) (refs_of_net u _ r own_set));
-      kept = kept_noted u net.raw c.args.cut.now c.loop-number.changed c.renew.new.changed nets new p.noted (kept_keeps t u net.raw c.args.cut.now c.loop-number.changed nets net.in_range size gt gu ktu inv.refs inv.kept);
+      follows = follows_then c.args.board.now c.loop-number.board c.renew.new.board inv.follows p.follows;
+      spared = spared_follows u net.raw nodes c.loop-number.board c.renew.new.board (inv.follows.marks ∙ c.requires.due) p.follows (spared_keeps t u net.raw nodes c.loop-number.board net.in_range size gt gu ktu inv.refs inv.spared);
       so = λ ls ds sets long family zip have.
           let q = inv.so ls ds sets long family zip have in
           let b = place_turn net.raw net.settled net.in_range net.one_driver net.in_order ls ds sets long s t u cuts nets n (get_or net.settled n 0) gate (Ok c.in_ok-renew.field-0) gs gt gu family zip q.0 q.1 within refl is p.built in
@@ -113,7 +129,7 @@ returns-in_err-renew-clause-built g c = λ ls ds sets long family zip have.
     let gu = g.met.N.Nodes.diagram c.renew.new.nodes in
     let net = c.args.net.now in
     let cuts : List Cut = c.args.cuts.now in
-    let nets : List NetRails = c.loop-number.nets in
+    let nets : List NetRails = c.loop-number.board.nets.items in
     let gate : Gate = c.index-gates-number.result in
     let n = c.loop-number.number-index in
     let within : n < length net.settled = let same = ap length c.settled-number-items.ensures.same in omega (arith, same, c.loop-number-test.true) in

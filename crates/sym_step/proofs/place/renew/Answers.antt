@@ -1,5 +1,6 @@
-use Rattle.std.proofs.Common.{◌∷◌, ◌++◌, List, get_or-set_same, refl, sym, ◌∙◌, ap, subst, Ok}
+use Rattle.std.proofs.Common.{◌≡◌, ◌<◌, ◌∷◌, ◌++◌, ℕ, List, All, false, length, get_or-set_same, sym, ◌∙◌, ap, subst, Ok}
 use Rattle.std.specs.Prelude.{slice_get}
+use Rattle.std.proofs.lemmas.List.{get_or_default}
 use Rattle.dd_nodes.specs.Diagram.{Function}
 use Rattle.dd_nodes.specs.Stores.{Store}
 use Rattle.net_core.specs.declared.raw.Gate.{Gate}
@@ -7,19 +8,29 @@ use Rattle.net_core.specs.Work.{SymbolicSet, after_cuts, cover_work, cuts_work, 
 use Rattle.dual_rail.specs.Rail.{Whatever}
 use Rattle.dual_rail.proofs.Works.{Built-made, So-start, first, pass}
 use Rattle.sym_step.specs.declared.net_rails.NetRails.{NetRails}
-use Rattle.sym_step.specs.private.NetSets.{AreNetRails, HasNetSet, net_at}
-use Rattle.sym_step.proofs.Cutting.{unmarked}
+use Rattle.sym_step.specs.private.NetSets.{AreNetRails, AreNetRefs, HasNetSet, HaveInputs, net_at}
+use Rattle.sym_step.proofs.Framing.{unlisted}
 use Rattle.sym_step.proofs.Sourced.{unknown}
 use Rattle.sym_step.proofs.place.renew.Goals as goal
 
-pub returns-then-is_kept-clause-have : goal.returns-then-is_kept-clause-have
-returns-then-is_kept-clause-have g c = λ ds before sets zip have is.
+moved : (s : Store) (sets : ℕ → SymbolicSet) (nets read : List NetRails) (gate : Gate) → read ≡ nets → HaveInputs s sets nets gate.inputs → HaveInputs s sets read gate.inputs
+moved s sets nets read gate e h = subst (λ (xs : List NetRails). HaveInputs s sets xs gate.inputs) (sym e) h
+
+pub returns-then-not-index-clause-have : goal.returns-then-not-index-clause-have
+returns-then-not-index-clause-have g c = λ ds before sets zip have is.
     let s : Store = g.N.Nodes.store c.args.nodes.now in
     let gate : Gate = c.args.g.now in
-    let p = c.if-is_kept.ensures in
-    let r : NetRails = net_at c.args.nets.now gate.output.0 in
-    subst (λ (w : SymbolicSet). AreNetRails s w r) (sym (unmarked s ds c.args.cuts.now c.args.marks.now gate.output.0 before zip c.requires.marks (p.mark refl) ∙ is))
-    (c.requires.kept (p.cut refl) (p.output refl) (p.inputs refl) sets have)
+    let p = c.requires.spared (get_or_default c.args.board.now.due.items c.args.number false c.index.result.now c.requires.number ∙ sym c.index.ensures ∙ c.if-not-index.true) in
+    let r : NetRails = net_at c.args.board.now.nets.items gate.output.0 in
+    subst (λ (w : SymbolicSet). AreNetRails s w r) (sym (unlisted s ds c.args.cuts.now gate.output.0 before zip p.uncut ∙ is)) (p.given sets have)
+
+pub place-requires-clause-inside : goal.place-requires-clause-inside
+place-requires-clause-inside g c = subst (λ (xs : List NetRails). All (λ input. input.0 < length xs) c.args.g.now.inputs) (sym c.as_slice-nets.ensures.value) c.requires.inside
+
+pub place-requires-clause-refs : goal.place-requires-clause-refs
+place-requires-clause-refs g c =
+    let s : Store = g.N.Nodes.store c.args.nodes.now in
+    subst (λ (xs : List NetRails). All (AreNetRefs s) xs) (sym c.as_slice-nets.ensures.value) c.requires.refs
 
 pub returns-in_err-r-clause-built : goal.returns-in_err-r-clause-built
 returns-in_err-r-clause-built g c = λ ds before sets zip have is.
@@ -29,7 +40,7 @@ returns-in_err-r-clause-built g c = λ ds before sets zip have is.
     let w : SymbolicSet = after_cuts ds before gate.output.0 in
     let work : List Function = some_bit w ∷ (cover_work (slice_get c.args.net.now.raw.covers gate.cover) (input_sets sets gate) ++ cuts_work ds before) in
     pass work (HasNetSet w) Whatever s s t c.in_err-r.field-0.0 c.from_residual.result (g.met.N.Nodes.diagram c.args.nodes.now) (g.met.N.Nodes.diagram c.place.new.nodes) (So-start work s)
-    (c.in_err-r.ensures.built ds before sets zip have is) c.from_residual.ensures.1
+    (c.in_err-r.ensures.built ds before sets zip (moved s sets c.args.board.now.nets.items c.as_slice-nets.result.now gate c.as_slice-nets.ensures.value have) is) c.from_residual.ensures.1
 
 pub returns-clause-built : goal.returns-clause-built
 returns-clause-built g c = λ ds before sets zip have is.
@@ -38,15 +49,16 @@ returns-clause-built g c = λ ds before sets zip have is.
     let gate : Gate = c.args.g.now in
     let w : SymbolicSet = after_cuts ds before gate.output.0 in
     let work : List Function = some_bit w ∷ (cover_work (slice_get c.args.net.now.raw.covers gate.cover) (input_sets sets gate) ++ cuts_work ds before) in
-    let b = c.in_ok-r.ensures.built ds before sets zip have is in
+    let b = c.in_ok-r.ensures.built ds before sets zip (moved s sets c.args.board.now.nets.items c.as_slice-nets.result.now gate c.as_slice-nets.ensures.value have) is in
     Built-made work Whatever s t tt (first work (HasNetSet w) s t (Ok c.in_ok-r.r) b) tt
 
 pub returns-clause-have : goal.returns-clause-have
 returns-clause-have g c = λ ds before sets zip have is.
+    let s : Store = g.N.Nodes.store c.args.nodes.now in
     let t : Store = g.N.Nodes.store c.place.new.nodes in
     let gate : Gate = c.args.g.now in
     let out = gate.output.0 in
     let w : SymbolicSet = after_cuts ds before out in
     let r : NetRails = c.in_ok-r.r in
-    subst (AreNetRails t w) (sym (ap (λ (xs : List NetRails). net_at xs out) c.put.ensures.nets ∙ get_or-set_same c.args.nets.now out r unknown c.requires.output))
-    (c.in_ok-r.ensures.built ds before sets zip have is).ok
+    subst (AreNetRails t w) (sym (ap (λ (xs : List NetRails). net_at xs out) c.put.ensures.nets ∙ get_or-set_same c.args.board.now.nets.items out r unknown c.requires.output))
+    (c.in_ok-r.ensures.built ds before sets zip (moved s sets c.args.board.now.nets.items c.as_slice-nets.result.now gate c.as_slice-nets.ensures.value have) is).ok

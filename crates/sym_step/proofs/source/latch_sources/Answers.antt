@@ -1,4 +1,4 @@
-use Rattle.std.proofs.Common.{Bool, ◌<◌, List, map, length, All, ℕ, ◌∙◌, ap, arith, Ok, Err, subst, sym}
+use Rattle.std.proofs.Common.{◌<◌, List, map, length, All, ℕ, ◌∙◌, ap, arith, Ok, Err, subst, sym}
 use Rattle.sym_step.specs.private.Parts.{asks}
 use Rattle.sym_step.specs.private.Frames.{StayRight}
 use Rattle.sym_step.specs.private.NetSets.{AreNetRails, AreNetRefs, HasNetSet, net_at}
@@ -11,7 +11,6 @@ use Rattle.dual_rail.specs.Rail.{Built, Whatever}
 use Rattle.dual_rail.proofs.Works.{Built-made, So-start, set_where, more, pass}
 use Rattle.dd_nodes.proofs.Stores.{Keeps-refl, Keeps-trans}
 use Rattle.sym_step.specs.declared.cut.Cut.{Cut}
-use Rattle.std.proofs.lemmas.List.{length-set}
 use Rattle.net_core.specs.Work.{everything, uncut, time_work}
 use Rattle.net_core.specs.declared.raw.Latch.{Latch}
 use Rattle.net_core.specs.declared.raw.Init.TheVariants.{Zero}
@@ -21,7 +20,7 @@ use Rattle.std.proofs.Common.{◌≡◌, get_or, false}
 use Rattle.sym_step.proofs.NetRefs.{Net-refs-keep, refs_of_net}
 use Rattle.dual_rail.proofs.Turns.{zip_at, zip_long, Refs-keep, Zip-keep}
 use Rattle.sym_step.proofs.Cutting.{Demands-keep}
-use Rattle.sym_step.proofs.Framing.{noted_by, noted_start, noted_then}
+use Rattle.sym_step.proofs.Reading.{follows_start, follows_then}
 use Rattle.sym_step.proofs.Opened.{here_put, latch_before, latches_next, set_is, stay_put, stay_start, stay_then}
 use Rattle.sym_step.proofs.Sourced.{cuts_within}
 use Rattle.sym_step.specs.declared.net_rails.NetRails.{NetRails}
@@ -55,7 +54,7 @@ loop-l-preserved g c =
     let net = c.args.net.now in
     let cuts : List Cut = c.args.cuts.now in
     let latches : List Rails = c.args.latches.now in
-    let nets : List NetRails = c.loop-l.nets in
+    let nets : List NetRails = c.loop-l.board.nets.items in
     let l = c.loop-l.l in
     let inv = c.loop-l.invariant in
     let kst = inv.keeps in
@@ -67,9 +66,8 @@ loop-l-preserved g c =
     let id : ℕ = latch.output.0 in
     let rails : Rails = get_or latches l (record { can0 = record { 0 = 0 }; can1 = record { 0 = 0 } }) in
     let out : id < net.raw.nets = subst (λ (x : Latch). x.output.0 < net.raw.nets) (sym is) (net.in_range.latch_outputs l latch inside) in
-    let changed : List Bool = c.loop-l.changed in
     let r = c.in_ok-r.r in
-    let size = inv.long in
+    let size = inv.follows.long ∙ c.requires.nets in
     let at : id < length nets = subst (λ n. id < n) (sym size) out in
     let hg : All (λ c. IsRef t c.guard) cuts = λ i d l. IsFrom-grows s.held t.held 0 _ kst.grows (c.requires.guards i d l) in
     let hv : All (λ c. IsRef t c.value) cuts = λ i d l. IsFrom-grows s.held t.held 0 _ kst.grows (c.requires.values i d l) in
@@ -78,12 +76,9 @@ loop-l-preserved g c =
     let ksu = Keeps-trans s t u kst ktu in
     let p = c.put.ensures in
     record {
-      long = ap length p.nets ∙ length-set nets id r ∙ size;
-      changed = ap length p.changed ∙ length-set changed id c.put.result ∙ inv.changed;
       keeps = ksu;
       refs = subst (All (AreNetRefs u)) (sym p.nets) (set_refs u nets id r at (All-net-refs-keep t u nets gt gu ktu inv.refs) (refs_of_net u _ r own_call.ok));
-      noted = noted_then c.args.changed.now changed c.put.new.changed c.args.nets.now nets c.put.new.nets inv.noted
-          (noted_by nets c.put.new.nets changed c.put.new.changed id r c.put.result p.nets p.changed at (inv.changed ∙ sym size) p.same);
+      follows = follows_then c.args.board.now c.loop-l.board c.put.new.self inv.follows p.follows;
       so = λ ls ds sets zip family asked.
           let q = inv.so ls ds sets zip family asked in
           let work : List Function = time_work net.raw ls (asks ds) sets in
@@ -96,11 +91,11 @@ loop-l-preserved g c =
           let good : Store → NetRails → Type 0 = HasNetSet w in
           let b : Built work good t u (Ok r) = Built-covers work (some_bit w ∷ cuts_work ds before) good t u (Ok r) covers (c.in_ok-r.ensures ds before (Demands-keep s t ds cuts gs gt kst asked) held) in
           let right : AreNetRails u (sets id) r = set_is net.raw net.in_range net.one_driver ls ds sets long s u id r ksu family b.ok in
-          let stay : StayRight sets t nets u c.put.new.nets = subst (StayRight sets t nets u) (sym p.nets) (stay_put sets t u nets id r gt gu ktu at (λ h. right)) in
-          let here : AreNetRails u (sets id) (net_at c.put.new.nets id) = subst (λ (xs : List NetRails). AreNetRails u (sets id) (net_at xs id)) (sym p.nets) (here_put sets u nets id r at right) in (
+          let stay : StayRight sets t nets u c.put.new.self.nets.items = subst (StayRight sets t nets u) (sym p.nets) (stay_put sets t u nets id r gt gu ktu at (λ h. right)) in
+          let here : AreNetRails u (sets id) (net_at c.put.new.self.nets.items id) = subst (λ (xs : List NetRails). AreNetRails u (sets id) (net_at xs id)) (sym p.nets) (here_put sets u nets id r at right) in (
             more work good s t u (Ok r) gt gu q.0 b,
-            latches_next net.raw sets t u nets c.put.new.nets l latch is q.1 stay here,
-            stay_then sets s t u c.args.nets.now nets c.put.new.nets q.2 stay,
+            latches_next net.raw sets t u nets c.put.new.self.nets.items l latch is q.1 stay here,
+            stay_then sets s t u c.args.board.now.nets.items nets c.put.new.self.nets.items q.2 stay,
           );
     }
 
@@ -115,7 +110,7 @@ returns-in_err-r-clause-built g c = λ ls ds sets zip family asked.
     let net = c.args.net.now in
     let cuts : List Cut = c.args.cuts.now in
     let latches : List Rails = c.args.latches.now in
-    let nets : List NetRails = c.loop-l.nets in
+    let nets : List NetRails = c.loop-l.board.nets.items in
     let l = c.loop-l.l in
     let inv = c.loop-l.invariant in
     let kst = inv.keeps in
@@ -155,10 +150,8 @@ loop-l-init g c =
     let s : Store = g.N.Nodes.store c.args.nodes.now in
     let net = c.args.net.now in
     record {
-      long = c.requires.nets;
-      changed = c.requires.changed;
       keeps = Keeps-refl s;
       refs = c.requires.refs;
-      noted = noted_start c.args.changed.now c.args.nets.now;
-      so = λ ls ds sets zip family asked. (So-start (time_work net.raw ls (asks ds) sets) s, λ k d lt inside. absurd (omega (arith, lt)), stay_start sets s c.args.nets.now);
+      follows = follows_start c.args.board.now;
+      so = λ ls ds sets zip family asked. (So-start (time_work net.raw ls (asks ds) sets) s, λ k d lt inside. absurd (omega (arith, lt)), stay_start sets s c.args.board.now.nets.items);
     }

@@ -1,4 +1,4 @@
-use Rattle.std.proofs.Common.{Bool, ◌<◌, List, map, length, All, ℕ, ◌∙◌, ap, arith, Ok, Err, subst, sym}
+use Rattle.std.proofs.Common.{◌<◌, List, map, length, All, ℕ, ◌∙◌, arith, Ok, Err, subst, sym}
 use Rattle.sym_step.specs.private.Parts.{asks}
 use Rattle.sym_step.specs.private.Frames.{IsOpen, IsOpened, StayRight}
 use Rattle.ste_base.specs.declared.id.NodeId.{NodeId}
@@ -13,12 +13,11 @@ use Rattle.dual_rail.specs.Rail.{Built, Whatever}
 use Rattle.dual_rail.proofs.Works.{Built-made, So-start, more, pass}
 use Rattle.dd_nodes.proofs.Stores.{Keeps-refl, Keeps-trans}
 use Rattle.sym_step.specs.declared.cut.Cut.{Cut}
-use Rattle.std.proofs.lemmas.List.{length-set}
 use Rattle.net_core.specs.Work.{uncut, time_work}
 use Rattle.std.proofs.lemmas.List.{get_or_default}
-use Rattle.std.proofs.Common.{◌≡◌, get_or, false}
+use Rattle.std.proofs.Common.{◌≡◌, get_or}
 use Rattle.sym_step.proofs.Cutting.{Demands-keep}
-use Rattle.sym_step.proofs.Framing.{noted_by, noted_start, noted_then}
+use Rattle.sym_step.proofs.Reading.{follows_start, follows_then}
 use Rattle.sym_step.proofs.Opened.{here_put, open_next, set_is, set_was, stay_put, stay_start, stay_then}
 use Rattle.sym_step.proofs.Sourced.{cuts_within, unknown}
 use Rattle.sym_step.specs.declared.net_rails.NetRails.{NetRails}
@@ -40,7 +39,7 @@ loop-node-preserved g c =
     let gu = g.met.N.Nodes.diagram c.open_source.new.nodes in
     let net = c.args.net.now in
     let cuts : List Cut = c.args.cuts.now in
-    let nets : List NetRails = c.loop-node.nets in
+    let nets : List NetRails = c.loop-node.board.nets.items in
     let ids : List NodeId = c.args.ids.now in
     let n = c.loop-node.node-index in
     let inv = c.loop-node.invariant in
@@ -49,13 +48,12 @@ loop-node-preserved g c =
     let node : NodeId = get_or ids n (record { 0 = 0 }) in
     let is : node ≡ get_or ids n node = get_or_default ids n (record { 0 = 0 }) node within in
     let id : ℕ = node.0 in
-    let now : NetRails = get_or nets id (record { can0 = record { 0 = 0 }; can1 = record { 0 = 0 }; some = record { 0 = 0 }; known = false }) in
+    let now : NetRails = c.index-now.result.now in
     let out : id < net.raw.nets = c.requires.ids n (record { 0 = 0 }) within in
-    let changed : List Bool = c.loop-node.changed in
     let r = c.in_ok-r.r in
-    let size = inv.long in
+    let size = inv.follows.long ∙ c.requires.nets in
     let at : id < length nets = subst (λ n. id < n) (sym size) out in
-    let same_now : net_at nets id ≡ now = get_or_default nets id unknown _ at in
+    let same_now : net_at nets id ≡ now = get_or_default nets id unknown now at ∙ sym c.index-now.ensures in
     let hg : All (λ c. IsRef t c.guard) cuts = λ i d l. IsFrom-grows s.held t.held 0 _ kst.grows (c.requires.guards i d l) in
     let hv : All (λ c. IsRef t c.value) cuts = λ i d l. IsFrom-grows s.held t.held 0 _ kst.grows (c.requires.values i d l) in
     let own_call = c.in_ok-r.ensures [] (map (λ (x : Cut). record { node = x.node.0; guard = function t x.guard; value = function t x.value }) cuts) (λ k. own_where t now) (own_demands t cuts hg hv) in
@@ -63,12 +61,9 @@ loop-node-preserved g c =
     let ksu = Keeps-trans s t u kst ktu in
     let p = c.put.ensures in
     record {
-      long = ap length p.nets ∙ length-set nets id r ∙ size;
-      changed = ap length p.changed ∙ length-set changed id c.put.result ∙ inv.changed;
       keeps = ksu;
       refs = subst (All (AreNetRefs u)) (sym p.nets) (set_refs u nets id r at (All-net-refs-keep t u nets gt gu ktu inv.refs) own_call.ok.0);
-      noted = noted_then c.args.changed.now changed c.put.new.changed c.args.nets.now nets c.put.new.nets inv.noted
-          (noted_by nets c.put.new.nets changed c.put.new.changed id r c.put.result p.nets p.changed at (inv.changed ∙ sym size) p.same);
+      follows = follows_then c.args.board.now c.loop-node.board c.put.new.self inv.follows p.follows;
       so = λ ls ds sets long family asked.
           let q = inv.so ls ds sets long family asked in
           let work : List Function = time_work net.raw ls (asks ds) sets in
@@ -78,12 +73,12 @@ loop-node-preserved g c =
           let covers = with_some net.raw net.settled net.in_range net.one_driver net.in_order ls ds sets long t.vars id (cuts_work ds before) (subst (λ v. ArePossibleEach v net.raw ls (asks ds) sets) (sym kst.vars) family) out (cuts_within net.raw ls ds sets) in
           let b : Built work good t u (Ok r) = Built-covers work (some_bit w ∷ cuts_work ds before) good t u (Ok r) covers (c.in_ok-r.ensures ls ds sets (Demands-keep s t ds cuts gs gt kst asked)) in
           let right : (IsOpen net.raw id ⊎ AreNetRails t w now) → AreNetRails u (sets id) r = λ h. set_is net.raw net.in_range net.one_driver ls ds sets long s u id r ksu family (b.ok.1 h) in
-          let stay : StayRight sets t nets u c.put.new.nets = subst (StayRight sets t nets u) (sym p.nets)
+          let stay : StayRight sets t nets u c.put.new.self.nets.items = subst (StayRight sets t nets u) (sym p.nets)
           (stay_put sets t u nets id r gt gu ktu at (λ h. right (inr (subst (AreNetRails t w) same_now (set_was net.raw net.in_range net.one_driver ls ds sets long s t id (net_at nets id) kst family h))))) in
-          let here : IsOpen net.raw id → AreNetRails u (sets id) (net_at c.put.new.nets id) = λ open_. subst (λ (xs : List NetRails). AreNetRails u (sets id) (net_at xs id)) (sym p.nets) (here_put sets u nets id r at (right (inl open_))) in (
+          let here : IsOpen net.raw id → AreNetRails u (sets id) (net_at c.put.new.self.nets.items id) = λ open_. subst (λ (xs : List NetRails). AreNetRails u (sets id) (net_at xs id)) (sym p.nets) (here_put sets u nets id r at (right (inl open_))) in (
             more work good s t u (Ok r) gt gu q.0 b,
-            open_next net.raw sets t u ids nets c.put.new.nets n node is q.1 stay here,
-            stay_then sets s t u c.args.nets.now nets c.put.new.nets q.2 stay,
+            open_next net.raw sets t u ids nets c.put.new.self.nets.items n node is q.1 stay here,
+            stay_then sets s t u c.args.board.now.nets.items nets c.put.new.self.nets.items q.2 stay,
           );
     }
 
@@ -97,7 +92,7 @@ returns-in_err-r-clause-built g c = λ ls ds sets long family asked.
     let gu = g.met.N.Nodes.diagram c.open_source.new.nodes in
     let net = c.args.net.now in
     let cuts : List Cut = c.args.cuts.now in
-    let nets : List NetRails = c.loop-node.nets in
+    let nets : List NetRails = c.loop-node.board.nets.items in
     let ids : List NodeId = c.args.ids.now in
     let n = c.loop-node.node-index in
     let inv = c.loop-node.invariant in
@@ -106,7 +101,7 @@ returns-in_err-r-clause-built g c = λ ls ds sets long family asked.
     let node : NodeId = get_or ids n (record { 0 = 0 }) in
     let is : node ≡ get_or ids n node = get_or_default ids n (record { 0 = 0 }) node within in
     let id : ℕ = node.0 in
-    let now : NetRails = get_or nets id (record { can0 = record { 0 = 0 }; can1 = record { 0 = 0 }; some = record { 0 = 0 }; known = false }) in
+    let now : NetRails = c.index-now.result.now in
     let out : id < net.raw.nets = c.requires.ids n (record { 0 = 0 }) within in
     let fault = c.in_err-r.field-0.0 in
     let q = inv.so ls ds sets long family asked in
@@ -134,10 +129,8 @@ loop-node-init g c =
     let s : Store = g.N.Nodes.store c.args.nodes.now in
     let net = c.args.net.now in
     record {
-      long = c.requires.nets;
-      changed = c.requires.changed;
       keeps = Keeps-refl s;
       refs = c.requires.refs;
-      noted = noted_start c.args.changed.now c.args.nets.now;
-      so = λ ls ds sets long family asked. (So-start (time_work net.raw ls (asks ds) sets) s, λ k d lt inside. absurd (omega (arith, lt)), stay_start sets s c.args.nets.now);
+      follows = follows_start c.args.board.now;
+      so = λ ls ds sets long family asked. (So-start (time_work net.raw ls (asks ds) sets) s, λ k d lt inside. absurd (omega (arith, lt)), stay_start sets s c.args.board.now.nets.items);
     }

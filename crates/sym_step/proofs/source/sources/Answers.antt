@@ -11,7 +11,7 @@ use Rattle.sym_step.specs.declared.cut.Cut.{Cut}
 use Rattle.sym_step.specs.private.Frames.{HaveOpen}
 use Rattle.sym_step.specs.private.Parts.{asks}
 use Rattle.sym_step.proofs.Cutting.{Demands-keep}
-use Rattle.sym_step.proofs.Framing.{noted_then}
+use Rattle.sym_step.proofs.Reading.{follows_then}
 use Rattle.sym_step.proofs.Opened.{all_sources, nodes_inside, ok_then}
 use Rattle.sym_step.proofs.source.sources.Goals as goal
 
@@ -71,14 +71,18 @@ returns-clause-keeps g c =
     let v : Store = g.N.Nodes.store c.open_sources-2.new.nodes in
     ok_then c.open_sources-2.result (λ k. Keeps-trans s u v (Keeps-trans s t u c.in_ok-latch_sources.ensures.keeps c.in_ok-open_sources.ensures.keeps) k) c.open_sources-2.ensures.keeps
 
-pub returns-clause-noted : goal.returns-clause-noted
-returns-clause-noted g c =
-    let p = c.in_ok-latch_sources.ensures in
-    let q = c.in_ok-open_sources.ensures in
-    let a = c.latch_sources.new in
-    let b = c.open_sources.new in
-    let d = c.open_sources-2.new in
-    ok_then c.open_sources-2.result (λ k. noted_then c.args.changed.now b.changed d.changed c.args.nets.now b.nets d.nets (noted_then c.args.changed.now a.changed b.changed c.args.nets.now a.nets b.nets p.noted q.noted) k) c.open_sources-2.ensures.noted
+pub returns-clause-follows : goal.returns-clause-follows
+returns-clause-follows g c =
+    let a = c.latch_sources.new.board in
+    let b = c.open_sources.new.board in
+    let d = c.open_sources-2.new.board in
+    ok_then c.open_sources-2.result (λ k. follows_then c.args.board.now b d (follows_then c.args.board.now a b c.in_ok-latch_sources.ensures.follows c.in_ok-open_sources.ensures.follows) k) c.open_sources-2.ensures.follows
+
+pub open_sources-requires-clause-nets : goal.open_sources-requires-clause-nets
+open_sources-requires-clause-nets g c = c.in_ok-latch_sources.ensures.follows.long ∙ c.requires.nets
+
+pub open_sources-requires-2-clause-nets : goal.open_sources-requires-2-clause-nets
+open_sources-requires-2-clause-nets g c = c.in_ok-open_sources.ensures.follows.long ∙ c.in_ok-latch_sources.ensures.follows.long ∙ c.requires.nets
 
 pub returns-clause-have : goal.returns-clause-have
 returns-clause-have g c =
@@ -100,6 +104,6 @@ returns-clause-have g c =
     let h1 = p.have ls ds sets zip family asked in
     let h2 = q.have ls ds sets long (subst (λ n. ArePossibleEach n net.raw ls (asks ds) sets) (sym p.keeps.vars) family) (Demands-keep s t ds cuts gs gt p.keeps asked) in
     let h3 = k ls ds sets long (subst (λ n. ArePossibleEach n net.raw ls (asks ds) sets) (sym ksu.vars) family) (Demands-keep s u ds cuts gs gu ksu asked) in
-    all_sources net.raw net.in_range net.one_driver ls ds sets long s t u v cuts c.args.before.now c.args.nets.now c.latch_sources.new.nets c.open_sources.new.nets c.open_sources-2.new.nets
+    all_sources net.raw net.in_range net.one_driver ls ds sets long s t u v cuts c.args.before.now c.args.board.now.nets.items c.latch_sources.new.board.nets.items c.open_sources.new.board.nets.items c.open_sources-2.new.board.nets.items
     gs gv p.keeps family asked c.requires.undriven h1.0 h1.1 h2.0 h2.1
-    (subst (λ (ids : List NodeId). HaveOpen net.raw sets v ids (length ids) c.open_sources-2.new.nets) c.requires.asked h3.0) h3.1) c.open_sources-2.ensures.have
+    (subst (λ (ids : List NodeId). HaveOpen net.raw sets v ids (length ids) c.open_sources-2.new.board.nets.items) c.requires.asked h3.0) h3.1) c.open_sources-2.ensures.have

@@ -1,5 +1,4 @@
-use Rattle.std.proofs.Common.{ℕ, List, Option, None, map, refl, sym, ◌∙◌, ap, subst, Ok, Err}
-use Rattle.std.specs.List.{AllZip}
+use Rattle.std.proofs.Common.{ℕ, List, Option, None, map, refl, sym, ◌∙◌, ap, Ok}
 use Rattle.dd_nodes.specs.declared.node.Ref.{Ref}
 use Rattle.dd_nodes.specs.Diagram.{Function}
 use Rattle.dd_nodes.specs.Stores.{Store}

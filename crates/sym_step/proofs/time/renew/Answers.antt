@@ -1,20 +1,16 @@
-use Rattle.std.proofs.Common.{◌<◌, ℕ, List, Option, None, All, length, refl, sym, ◌∙◌, ap, subst, Ok, Err}
+use Rattle.std.proofs.Common.{ℕ, List, None, All, length, refl, sym, ◌∙◌, ap, subst}
 use Rattle.std.specs.List.{AllZip}
 use Rattle.dd_nodes.specs.declared.node.Ref.{Ref}
 use Rattle.dd_nodes.specs.Diagram.{Function}
 use Rattle.dd_nodes.specs.Stores.{Store}
-use Rattle.dd_nodes.proofs.Stores.{Keeps-refl}
-use Rattle.dd_ops.specs.declared.fault.OpFault.{OpFault}
 use Rattle.net_core.specs.Work.{SymbolicSet, time_work}
 use Rattle.net_core.proofs.Ordered.{settled_by_order}
 use Rattle.dual_rail.specs.declared.rails.Rails.{Rails}
 use Rattle.dual_rail.specs.Rail.{AreRails, AreRefs}
 use Rattle.dual_rail.proofs.Works.{So-start, lost}
-use Rattle.dual_rail.proofs.Turns.{own_zip}
 use Rattle.sym_step.specs.declared.frame.Frame.{Frame}
 use Rattle.sym_step.specs.Step.{IsStep}
 use Rattle.sym_step.specs.private.Frames.{AreFirst, IsFrame, step_of}
-use Rattle.sym_step.proofs.Cutting.{own_demands}
 use Rattle.sym_step.proofs.Framing.{inputs_inside, next_first, not_first, with_first}
 use Rattle.sym_step.proofs.Whole.{empty_ref, exist, own_call}
 use Rattle.net_core.specs.declared.raw.RawNet.{RawNet}

@@ -6,7 +6,10 @@ use Rattle.dual_rail.specs.Rail.{AreRails, Whatever}
 use Rattle.dual_rail.proofs.Works.{So-start, first, last, pass}
 use Rattle.dual_rail.proofs.Turns.{zip_long}
 use Rattle.sym_step.proofs.Cutting.{Demands-keep}
-use Rattle.sym_step.proofs.Framing.{kept_keeps, kept_noted}
+use Rattle.ste_base.specs.declared.id.NodeId.{NodeId}
+use Rattle.sym_step.specs.private.Frames.{AreSpared}
+use Rattle.sym_step.proofs.Framing.{spared_follows, spared_keeps}
+use Rattle.sym_step.proofs.Reading.{follows_then}
 use Rattle.sym_step.proofs.Opened.{ok_then}
 use Rattle.sym_step.proofs.Sourced.{to_gates, all_placed}
 use Rattle.sym_step.proofs.time.set_nets.Goals as goal
@@ -19,14 +22,24 @@ returns-in_err-sources-clause-built g c = λ ls asked sets zip zipc family.
     pass work Whatever Whatever s s t c.in_err-sources.field-0.0 c.from_residual.result (g.met.N.Nodes.diagram c.args.nodes.now) (g.met.N.Nodes.diagram c.sources.new.nodes) (So-start work s)
     (c.in_err-sources.ensures.built ls asked.cuts sets zip family zipc) c.from_residual.ensures.1
 
-pub place_gates-requires-clause-kept : goal.place_gates-requires-clause-kept
-place_gates-requires-clause-kept g c =
+pub place_gates-requires-clause-spared : goal.place_gates-requires-clause-spared
+place_gates-requires-clause-spared g c =
     let s : Store = g.N.Nodes.store c.args.nodes.now in
     let t : Store = g.N.Nodes.store c.sources.new.nodes in
     let net = c.args.net.now in
     let p = c.in_ok-sources.ensures in
-    kept_noted t net.raw c.args.cut.now c.args.changed.now c.sources.new.changed c.args.nets.now c.sources.new.nets p.noted
-    (kept_keeps s t net.raw c.args.cut.now c.args.changed.now c.args.nets.now net.in_range c.requires.nets (g.met.N.Nodes.diagram c.args.nodes.now) (g.met.N.Nodes.diagram c.sources.new.nodes) p.keeps c.requires.refs c.requires.kept)
+    subst (λ (ids : List NodeId). AreSpared t net.raw ids c.sources.new.board) c.requires.asked
+    (spared_follows t net.raw c.args.asked.now c.args.board.now c.sources.new.board c.requires.due p.follows
+    (spared_keeps s t net.raw c.args.asked.now c.args.board.now net.in_range c.requires.nets (g.met.N.Nodes.diagram c.args.nodes.now) (g.met.N.Nodes.diagram c.sources.new.nodes) p.keeps c.requires.refs c.requires.spared))
+
+pub place_gates-requires-clause-long : goal.place_gates-requires-clause-long
+place_gates-requires-clause-long g c = c.in_ok-sources.ensures.follows.long ∙ c.requires.nets
+
+pub place_gates-requires-clause-due : goal.place_gates-requires-clause-due
+place_gates-requires-clause-due g c = c.in_ok-sources.ensures.follows.marks ∙ c.requires.due
+
+pub returns-clause-follows : goal.returns-clause-follows
+returns-clause-follows g c = ok_then c.place_gates.result (λ k. follows_then c.args.board.now c.sources.new.board c.place_gates.new.board c.in_ok-sources.ensures.follows k) c.place_gates.ensures.follows
 
 pub returns-clause-built : goal.returns-clause-built
 returns-clause-built g c = λ ls asked sets zip zipc family.
@@ -42,7 +55,7 @@ returns-clause-built g c = λ ls asked sets zip zipc family.
     let long = zip_long (AreRails s) ls c.args.latches.now zip ∙ c.requires.long in
     let family' : ArePossibleEach t.vars net.raw ls asked sets = subst (λ v. ArePossibleEach v net.raw ls asked sets) (sym p.keeps.vars) family in
     let zipc' = Demands-keep s t asked.cuts c.args.cuts.now gs gt p.keeps zipc in
-    let have0 = to_gates net.raw net.settled sets t c.sources.new.nets net.one_driver net.in_order (p.have ls asked.cuts sets zip family zipc) in
+    let have0 = to_gates net.raw net.settled sets t c.sources.new.board.nets.items net.one_driver net.in_order (p.have ls asked.cuts sets zip family zipc) in
     last work Whatever s t u c.place_gates.result gt gu (first work Whatever s t (Ok c.in_ok-sources.field-0) (p.built ls asked.cuts sets zip family zipc))
     (c.place_gates.ensures.built ls asked.cuts sets long family' zipc' have0)
 
@@ -60,5 +73,5 @@ returns-clause-have g c =
     let long = zip_long (AreRails s) ls c.args.latches.now zip ∙ c.requires.long in
     let family' : ArePossibleEach t.vars net.raw ls asked sets = subst (λ v. ArePossibleEach v net.raw ls asked sets) (sym p.keeps.vars) family in
     let zipc' = Demands-keep s t asked.cuts c.args.cuts.now gs gt p.keeps zipc in
-    let have0 = to_gates net.raw net.settled sets t c.sources.new.nets net.one_driver net.in_order (p.have ls asked.cuts sets zip family zipc) in
-    all_placed net.raw net.settled sets u c.place_gates.new.nets (q ls asked.cuts sets long family' zipc' have0)) c.place_gates.ensures.have
+    let have0 = to_gates net.raw net.settled sets t c.sources.new.board.nets.items net.one_driver net.in_order (p.have ls asked.cuts sets zip family zipc) in
+    all_placed net.raw net.settled sets u c.place_gates.new.board.nets.items (q ls asked.cuts sets long family' zipc' have0)) c.place_gates.ensures.have

@@ -1,0 +1,30 @@
+use Rattle.std.proofs.Common.{◌≢◌, ◌<◌, ℕ, List, All, arith, length, subst, ◌∙◌}
+use Rattle.std.proofs.lemmas.List.{take_all}
+use Rattle.ste_base.specs.declared.id.NodeId.{NodeId}
+use Rattle.net_core.specs.Source.{source_of}
+use Rattle.net_core.specs.declared.raw.RawNet.{RawNet}
+use Rattle.net_core.specs.declared.source.Source.TheVariants.{Gate as OfGate}
+use Rattle.sym_step.specs.private.Readers.{AreMarked}
+use Rattle.sym_step.proofs.Reading.{marked_more}
+use Rattle.sym_step.proofs.readers.mark_drivers.Goals as goal
+
+abbrev IsOther : RawNet → ℕ → NodeId → Type 0
+IsOther net k node = source_of net node.0 ≢ OfGate k
+
+pub loop-node-preserved : goal.loop-node-preserved
+loop-node-preserved c =
+    let ids : List NodeId = c.args.ids.now in
+    let k = c.loop-node.node-index in
+    let inv = c.loop-node.invariant in
+    let lt : k < length ids = omega (arith, c.loop-node-test.true) in
+    let p = c.mark_driver.ensures in
+    record {
+      long = p.long ∙ inv.long;
+      marked = marked_more (IsOther c.args.net.now.raw) ids k (record { 0 = 0 }) c.args.due.now.items c.loop-node.due.items c.mark_driver.new.due.items lt inv.long inv.marked p.marked;
+    }
+
+pub returns-clause-marked : goal.returns-clause-marked
+returns-clause-marked c =
+    let ids : List NodeId = c.args.ids.now in
+    let k = c.loop-node.node-index in
+    subst (λ (xs : List NodeId). AreMarked (λ k. All (IsOther c.args.net.now.raw k) xs) c.args.due.now.items c.loop-node.due.items) (take_all k ids (omega (arith, c.loop-node-test.false))) c.loop-node.invariant.marked
