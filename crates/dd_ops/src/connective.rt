@@ -1,19 +1,24 @@
 //! How functions make one; begin with `Connective`.
 
 ghost use Rattle.std.specs.Prelude.{◌≡◌, Bool, IfSome, IfNone};
+ghost use Rattle.dd_nodes.specs.Operators.{operator_bit};
 ghost use Rattle.dd_ops.specs.declared.operands.Operands.{Operands};
 ghost use Rattle.dd_ops.specs.private.Recursion.{AreRefs, AreHalves, IsOpen, IsSettled, BitRule, and_rule, or_rule, xor_rule, choice_rule, IsPair};
 
 use crate::halves::{halves_of_pair, halves_of_three};
 use crate::operands::{Halves, Operands};
 use crate::settled::{settled_and, settled_choice, settled_or, settled_xor};
-use dd_nodes::{Nodes, Ref};
+use dd_nodes::{Nodes, Operator, Ref};
 
 /// How the functions of operands make one. The recursion takes a connective as a type, so that each has a body of its own.
 pub trait Connective {
     ghost rule: { BitRule };
 
     ghost takes: { Operands → Type 0 };
+
+    /// The operator that has this rule.
+    fn operator() -> Operator
+        ensures { (a b c : Bool) → rule a b c ≡ operator_bit result a b c };
 
     /// The result where the operands settle it without a look at their nodes.
     fn settled(x: Operands) -> Option<Ref>
@@ -49,6 +54,10 @@ impl Connective for And {
 
     ghost takes = { IsPair };
 
+    fn operator() -> Operator {
+        Operator::And
+    }
+
     fn settled(x: Operands) -> Option<Ref> {
         settled_and(x)
     }
@@ -62,6 +71,10 @@ impl Connective for Or {
     ghost rule = { or_rule };
 
     ghost takes = { IsPair };
+
+    fn operator() -> Operator {
+        Operator::Or
+    }
 
     fn settled(x: Operands) -> Option<Ref> {
         settled_or(x)
@@ -77,6 +90,10 @@ impl Connective for Xor {
 
     ghost takes = { IsPair };
 
+    fn operator() -> Operator {
+        Operator::Xor
+    }
+
     fn settled(x: Operands) -> Option<Ref> {
         settled_xor(x)
     }
@@ -90,6 +107,10 @@ impl Connective for Choice {
     ghost rule = { choice_rule };
 
     ghost takes = { λ x. Unit {0} };
+
+    fn operator() -> Operator {
+        Operator::Choice
+    }
 
     fn settled(x: Operands) -> Option<Ref> {
         settled_choice(x)

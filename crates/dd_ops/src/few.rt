@@ -21,10 +21,10 @@ pub const BLANK: Entry = Entry {
     result: Ref::FALSE,
 };
 
-/// At most twelve results, which contracts see as a list. They take no memory.
+/// At most sixteen results, which contracts see as a list. They take no memory.
 #[derive(Drop)]
 pub struct Few {
-    entries: [Entry; 12],
+    entries: [Entry; 16],
     count: usize,
 }
 
@@ -36,7 +36,7 @@ impl Model for Few {
 
     ghost view = { λ f. take f.count f.entries };
 
-    ghost invariant = { λ f. f.count ≤ 12 };
+    ghost invariant = { λ f. f.count ≤ 16 };
 }
 
 impl Few {
@@ -46,7 +46,7 @@ impl Few {
         ensures { result ≡ [] }
     {
         Few {
-            entries: [BLANK; 12],
+            entries: [BLANK; 16],
             count: 0,
         }
     }
@@ -60,9 +60,9 @@ impl Few {
     /// Whether there is a place for the entry, which is then put behind the others.
     pub fn push(&mut self, entry: Entry) -> bool
         ensures list { self.new ≡ (if result then self.old ++ entry ∷ [] else self.old) }
-        ensures room { IsTrue result ↔ (length self.old < 12) }
+        ensures room { IsTrue result ↔ (length self.old < 16) }
     {
-        if self.count == 12 {
+        if self.count == 16 {
             return false;
         }
         self.entries[self.count] = entry;

@@ -28,8 +28,9 @@ pub enum Op {
 
 /// The operations. They take references that are constant or held. Each node that a call makes has a cofactor of the
 /// call's result as its function, and what was held stays held with the same node, after an error too. `StepsOut` comes
-/// only where the store may make no more nodes and the result wants one that is not held. A call remembers results in
-/// memory of this allocator, and forgets them at its end.
+/// only where the store may make no more nodes and the result wants one that is not held. A call keeps what it
+/// has met in memory of this allocator until its end; its result alone is left with the store, which may remember it
+/// (`Nodes::remember`).
 #[derive(Drop)]
 pub struct Ops {
     alloc: Global,

@@ -83,7 +83,13 @@ fn put_into(table: &mut Vec<Entry>, entry: Entry)
 fn wider(places: usize) -> Result<usize, AllocError>
     ensures { IfOk result (λ size. places + 1 < size) }
 {
-    let times = if places < 16384 { 4 } else { 2 };
+    let times = if places < 64 {
+        16
+    } else if places < 16384 {
+        4
+    } else {
+        2
+    };
     match places.checked_mul(times) {
         Some(size) => match size.checked_add(16) {
             Some(size) => Ok(size),
@@ -109,7 +115,7 @@ fn table_of(alloc: Global, entries: &[Entry], size: usize) -> Result<Vec<Entry>,
 }
 
 impl Results {
-    /// A table with these entries, with room for more than three times as many.
+    /// A table with these entries, with room for as many again and more.
     pub fn of(alloc: Global, entries: &[Entry]) -> Result<Results, AllocError>
         ensures { IfOk result (λ results. HasEntries entries.now results.entries.items) }
     {

@@ -16,3 +16,4 @@ pub mod Stores
 pub mod Counts
 pub mod Closes
 pub mod HeldNodes
+pub mod Remembering

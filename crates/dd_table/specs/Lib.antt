@@ -5,5 +5,6 @@ pub mod Rules
 pub mod Tells
 pub mod Sessions
 pub mod Inside
+pub mod Recent
 pub mod StoreLaws
 pub mod Schedules

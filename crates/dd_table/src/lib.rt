@@ -5,6 +5,7 @@
 mod calls;
 pub mod laws;
 pub mod nodes;
+mod recent;
 mod rule;
 mod search;
 pub mod session;

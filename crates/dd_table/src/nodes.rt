@@ -2,21 +2,26 @@
 
 ghost use Rattle.std.specs.Prelude.{◌≡◌};
 ghost use Rattle.std.proofs.Props.{props};
+ghost use Rattle.dd_table.specs.Recent.{AreRight};
 ghost use Rattle.dd_table.specs.Sessions.{IsGoodSession};
 
 use crate::calls::{make_node, make_uncounted, read_node, split_off, take_in};
+use crate::recent::{Joined, Recent};
 use crate::session::Session;
 use crate::table::SharedTable;
-use dd_nodes::{MkFault, Node, Nodes, Ref, Split, Steps};
+use dd_nodes::{MkFault, Node, Nodes, Operator, Ref, Split, Steps};
+use std::alloc::Global;
 use std::sync::ledger::Ledger;
 
-/// A session on its table. Contracts see it as the session.
+/// A session on its table, and results of operations that it remembers. Contracts see it as the session.
 #[derive(Drop)]
 pub struct TableNodes<'a> {
     table: &'a SharedTable,
     session: Session,
+    recent: Recent,
     ghost same: { session.table ≡ table.now },
     ghost good: { IsGoodSession session } by { Prim.hlevel props },
+    ghost right: { AreRight session recent } by { Prim.hlevel props },
 }
 
 impl<'a> TableNodes<'a> {
@@ -31,14 +36,22 @@ impl<'a> TableNodes<'a> {
         ensures { result.session ≡ session }
     {
         session.shown();
-        TableNodes { table, session }
+        TableNodes {
+            table,
+            session,
+            recent: Recent::none(),
+        }
     }
 
     /// The session alone.
     pub fn into_session(self) -> Session
         ensures { result ≡ self.entry.session }
     {
-        let TableNodes { table: _, session } = self;
+        let TableNodes {
+            table: _,
+            session,
+            recent: _,
+        } = self;
         session
     }
 
@@ -132,6 +145,40 @@ impl<'a> Nodes for TableNodes<'a> {
         node
     }
 
+    fn recall(&self, operator: Operator, first: Ref, second: Ref, third: Ref) -> Option<Ref> {
+        self.recent.find(operator, first, second, third)
+    }
+
+    /// It takes the place of another result.
+    fn remember(
+        &mut self,
+        alloc: Global,
+        operator: Operator,
+        first: Ref,
+        second: Ref,
+        third: Ref,
+        r: Ref,
+    ) {
+        self.recent.put(
+            alloc,
+            Joined {
+                operator,
+                first,
+                second,
+                third,
+                result: r,
+            },
+        );
+    }
+
+    /// It holds all that the other holds then. It is three loads at most.
+    fn learn(&mut self, other: &mut Self) {
+        let same = self.session.vars() == other.session.vars();
+        let session = split_off(other.table, &mut other.session, 0);
+        take_in(self.table, &mut self.session, session);
+        self.recent.take_over(other.recent.take(), same);
+    }
+
     fn used(&self) -> u32 {
         self.session.used()
     }
@@ -169,6 +216,7 @@ impl<'a> Split for TableNodes<'a> {
         TableNodes {
             table: self.table,
             session,
+            recent: Recent::none(),
         }
     }
 
@@ -181,7 +229,11 @@ impl<'a> Split for TableNodes<'a> {
         ensures agree { SessionsAgree self.old.session other.entry.session }
         ensures slots { self.new.session.slots ≡ self.old.session.slots }
     {
-        let TableNodes { table: _, session } = other;
+        let TableNodes {
+            table: _,
+            session,
+            recent: _,
+        } = other;
         take_in(self.table, &mut self.session, session);
     }
 }

@@ -19,7 +19,7 @@ use Rattle.ste_model.specs.declared.verdict.Verdict.TheVariants.{Pass, Weak, Str
 use Rattle.gste_engine.proofs.Lists.{zip_push, zip_weaker}
 use Rattle.work_pool.specs.Pool.{IsPooled, IsTaskKept, IsTaskOver}
 use Rattle.work_pool.specs.Told.{IsToldOf, budgets, counts_budget}
-use Rattle.work_pool.specs.private.Jobs.{IsDone, IsGathered, IsGathering, IsReady, tasks_at}
+use Rattle.work_pool.specs.private.Jobs.{AreJobs, IsDone, IsGathered, IsGathering, IsReady, tasks_at}
 use Rattle.work_pool.proofs.Ranks.{ranks}
 use Rattle.work_pool.proofs.Done.{done_of, kept_on}
 
@@ -114,16 +114,24 @@ module _ {X : Type 0} (store : X → Store) (outcome : X → Result Report Alloc
   module _ (place : X → ℕ) (whole : Store) (tasks : List Task) (numbers : List ℕ) (inside : All (λ number. number < length tasks) numbers) (dealt turned : List X) (ready : All (λ job. IsReady steps whole (store job)) dealt)
       (long : length dealt ≡ length numbers) (numbered : (i : ℕ) (job : X) → i < length numbers → place (get_or dealt i job) ≡ i) (moved : IsPermutation dealt turned) where
     -- what is asked of the jobs before their work, however they were moved
-    pub all_within : All (λ job. place job < length numbers) turned
+    all_within : All (λ job. place job < length numbers) turned
     all_within = All-permutation (λ job. place job < length numbers) dealt turned moved (λ i job lt. let e = numbered i job (omega (arith, lt, long)) in omega (arith, e, lt, long))
 
-    pub all_made : All (λ job. (store job).made ≡ []) turned
+    all_made : All (λ job. (store job).made ≡ []) turned
     all_made = All-permutation (λ job. (store job).made ≡ []) dealt turned moved (λ i job lt. (ready i job lt).made)
 
-    pub all_over : All (IsTaskOver net whole.vars) tasks → (task : Task) → All (λ job. IsTaskOver net (store job).vars (get_or tasks (get_or numbers (place job) 0) task)) turned
+    one_table : (i k : ℕ) (job : X) → i < length turned → k < length turned → (store (get_or turned i job)).table ≡ (store (get_or turned k job)).table
+    one_table i k job lt lt' =
+        let all = All-permutation (λ job. (store job).table ≡ whole.table) dealt turned moved (λ i job lt. (ready i job lt).table) in
+        all i job lt ∙ sym (all k job lt')
+
+    all_over : All (IsTaskOver net whole.vars) tasks → (task : Task) → All (λ job. IsTaskOver net (store job).vars (get_or tasks (get_or numbers (place job) 0) task)) turned
     all_over over task = All-permutation (λ job. IsTaskOver net (store job).vars (get_or tasks (get_or numbers (place job) 0) task)) dealt turned moved (λ i job lt.
         let at : i < length numbers = omega (arith, lt, long) in
         subst (λ v. IsTaskOver net v (get_or tasks (get_or numbers (place (get_or dealt i job)) 0) task)) (sym (ready i job lt).vars) (subst (λ k. IsTaskOver net whole.vars (get_or tasks (get_or numbers k 0) task)) (sym (numbered i job at)) (over (get_or numbers i 0) task (inside i 0 at))))
+
+    pub all_jobs : All (IsTaskOver net whole.vars) tasks → AreJobs store place net tasks numbers turned
+    all_jobs over = record { numbered = inside; within = all_within; made = all_made; over = all_over over; table = one_table }
 
     -- the jobs that were dealt are done, are in order again, and their stores stand on one table
     pub all_done : (given : ℕ) (old new jobs last : List X) → start ≡ gives_up given whole → old ≡ turned → length new ≡ length old → jobs ≡ new → ((i : ℕ) (job : X) → i < length old → place (get_or new i job) ≡ place (get_or old i job))

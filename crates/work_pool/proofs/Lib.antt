@@ -4,3 +4,4 @@ pub mod Ranks
 pub mod Agreeing
 pub mod Shared
 pub mod Numbers
+pub mod Runs

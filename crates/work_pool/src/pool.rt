@@ -1,6 +1,6 @@
 //! The work on tasks, over any store that can be shared out; begin with `pooled_tasks`.
 
-ghost use Rattle.std.specs.Prelude.{◌≡◌, ℕ, ◌+◌, ◌*◌, ◌^◌, ◌<◌, ◌≤◌, List, [], length, map, All, IfOk, get_or};
+ghost use Rattle.std.specs.Prelude.{◌≡◌, ℕ, ◌+◌, ◌*◌, ◌^◌, ◌<◌, ◌≤◌, List, [], length, map, All, IfOk, IfSome, get_or};
 ghost use Rattle.std.specs.List.{AllZip};
 ghost use Rattle.std.specs.List.Sorted.{IsNonDecreasingBy, IsPermutation};
 ghost use Rattle.dd_nodes.specs.Stores.{gives_up};
@@ -8,7 +8,7 @@ ghost use Rattle.net_core.specs.declared.raw.RawNet.{RawNet};
 ghost use Rattle.ste_model.specs.declared.task.Task.{Task as ATask};
 ghost use Rattle.sym_step.specs.Step.{rows_of};
 ghost use Rattle.work_pool.specs.Pool.{IsPooled, IsTaskOver};
-ghost use Rattle.work_pool.specs.private.Jobs.{IsDone, IsReady, tasks_at};
+ghost use Rattle.work_pool.specs.private.Jobs.{AreDone, AreJobs, HandsOn, IsDone, IsReady, tasks_at};
 
 use crate::gate::Gate;
 use crate::turns::turns_of;
@@ -70,6 +70,83 @@ fn work<N: Nodes>(
     job.outcome = check(alloc, &mut job.nodes, net, rows, task, cubes);
 }
 
+/// The store of the job behind the i-th takes over what that one's store remembers.
+fn hand_over<N: Nodes>(jobs: &mut [Job<N>], i: usize)
+    requires within { i + 1 < length jobs.old }
+    requires table { (job : Job N) → (N.store (get_or jobs.old i job).nodes).table
+        ≡ (N.store (get_or jobs.old (i + 1) job).nodes).table }
+    ensures { HandsOn (λ job. N.store job.nodes) (λ job. job.place) (λ job. job.outcome)
+        i jobs.old jobs.new }
+{
+    let (front, back) = jobs.split_at_mut(i + 1);
+    back[0].nodes.learn(&mut front[i].nodes);
+}
+
+/// The same, where there is a job behind the i-th.
+fn hand_on<N: Nodes>(jobs: &mut [Job<N>], i: usize)
+    requires within { i < length jobs.old }
+    requires table { (job : Job N) → i + 1 < length jobs.old
+        → (N.store (get_or jobs.old i job).nodes).table
+        ≡ (N.store (get_or jobs.old (i + 1) job).nodes).table }
+    ensures { HandsOn (λ job. N.store job.nodes) (λ job. job.place) (λ job. job.outcome)
+        i jobs.old jobs.new }
+{
+    if i + 1 < jobs.len() {
+        hand_over(jobs, i);
+    }
+}
+
+/// Does a job.
+fn work_at<N: Nodes, G: Gate>(
+    alloc: Global,
+    net: &Net,
+    rows: &GateRows,
+    tasks: &[Task],
+    numbers: &[u32],
+    cubes: u32,
+    job: &mut Job<N>,
+    gate: &G,
+)
+    requires rows { rows.now.covers ≡ map rows_of net.now.raw.covers }
+    requires numbers { All (λ number. number < length tasks.now) numbers.now }
+    requires within { job.old.place < length numbers.now }
+    requires made { (N.store job.old.nodes).made ≡ [] }
+    requires over { (task : ATask) → IsTaskOver net.now.raw (N.store job.old.nodes).vars
+        (get_or tasks.now (get_or numbers.now job.old.place 0) task) }
+    ensures place { job.new.place ≡ job.old.place }
+    ensures done { (task : ATask) → IsDone net.now.raw (N.store job.old.nodes).limit cubes
+        (get_or tasks.now (get_or numbers.now job.old.place 0) task)
+        (N.store job.old.nodes) (N.store job.new.nodes) job.new.outcome }
+    ensures table { (N.store job.new.nodes).table ≡ (N.store job.old.nodes).table }
+{
+    let number = numbers[job.place as usize];
+    gate.at_task(number);
+    work(alloc, net, rows, &tasks[number as usize], cubes, job);
+}
+
+/// Each of these jobs is done once, one after another. What the store of one remembers goes over to that of the next.
+fn work_run<N: Nodes, G: Gate>(
+    alloc: Global,
+    net: &Net,
+    rows: &GateRows,
+    tasks: &[Task],
+    numbers: &[u32],
+    cubes: u32,
+    jobs: &mut [Job<N>],
+    gate: &G,
+)
+    requires rows { rows.now.covers ≡ map rows_of net.now.raw.covers }
+    requires jobs { AreJobs (λ job. N.store job.nodes) (λ job. job.place)
+        net.now.raw tasks.now numbers.now jobs.old }
+    ensures { AreDone (λ job. N.store job.nodes) (λ job. job.place) (λ job. job.outcome)
+        net.now.raw cubes tasks.now numbers.now jobs.old jobs.new }
+{
+    for i in 0..jobs.len() {
+        work_at(alloc, net, rows, tasks, numbers, cubes, &mut jobs[i], gate);
+        hand_on(jobs, i);
+    }
+}
+
 /// Each job is done once, by so many workers, each of which has a run of neighbouring jobs.
 fn work_all<N: Nodes + Send, R: Threads + Sync, G: Gate + Sync>(
     rt: &R,
@@ -85,40 +162,27 @@ fn work_all<N: Nodes + Send, R: Threads + Sync, G: Gate + Sync>(
 )
     requires workers { 0 < workers }
     requires rows { rows.now.covers ≡ map rows_of net.now.raw.covers }
-    requires numbers { All (λ number. number < length tasks.now) numbers.now }
-    requires within { All (λ job. job.place < length numbers.now) jobs.old }
-    requires made { All (λ job. (N.store job.nodes).made ≡ []) jobs.old }
-    requires over { (task : ATask) → All (λ job. IsTaskOver net.now.raw (N.store job.nodes).vars
-        (get_or tasks.now (get_or numbers.now job.place 0) task)) jobs.old }
-    ensures long { length jobs.new ≡ length jobs.old }
-    ensures same { (i : ℕ) (job : Job N) → i < length jobs.old
-        → (get_or jobs.new i job).place ≡ (get_or jobs.old i job).place }
-    ensures done { (i : ℕ) (task : ATask) (job : Job N) → i < length jobs.old
-        → IsDone net.now.raw (N.store (get_or jobs.old i job).nodes).limit cubes
-        (get_or tasks.now (get_or numbers.now (get_or jobs.old i job).place 0) task)
-        (N.store (get_or jobs.old i job).nodes) (N.store (get_or jobs.new i job).nodes)
-        (get_or jobs.new i job).outcome }
+    requires jobs { AreJobs (λ job. N.store job.nodes) (λ job. job.place)
+        net.now.raw tasks.now numbers.now jobs.old }
+    ensures { AreDone (λ job. N.store job.nodes) (λ job. job.place) (λ job. job.outcome)
+        net.now.raw cubes tasks.now numbers.now jobs.old jobs.new }
 {
-    thread::for_each_mut(
+    if jobs.is_empty() {
+        return;
+    }
+    let size = jobs.len().div_ceil(workers as usize);
+    thread::for_each_chunk_mut(
         rt,
         jobs,
-        workers as usize,
-        &|_: usize, job: &mut Job<N>|
-            requires within { job.old.place < length numbers.now }
-            requires numbers { All (λ number. number < length tasks.now) numbers.now }
+        size,
+        &|_: usize, run: &mut [Job<N>]|
             requires rows { rows.now.covers ≡ map rows_of net.now.raw.covers }
-            requires made { (N.store job.old.nodes).made ≡ [] }
-            requires over { (task : ATask) → IsTaskOver net.now.raw (N.store job.old.nodes).vars
-                (get_or tasks.now (get_or numbers.now job.old.place 0) task) }
-            ensures same { job.new.place ≡ job.old.place }
-            ensures done { (task : ATask)
-                → IsDone net.entry.now.raw (N.store job.old.nodes).limit cubes
-                (get_or tasks.entry.now (get_or numbers.entry.now job.old.place 0) task)
-                (N.store job.old.nodes) (N.store job.new.nodes) job.new.outcome }
+            requires jobs { AreJobs (λ job. N.store job.nodes) (λ job. job.place)
+                net.now.raw tasks.now numbers.now run.old }
+            ensures { AreDone (λ job. N.store job.nodes) (λ job. job.place) (λ job. job.outcome)
+                net.entry.now.raw cubes tasks.entry.now numbers.entry.now run.old run.new }
         {
-            let number = numbers[job.place as usize];
-            gate.at_task(number);
-            work(alloc, net, rows, &tasks[number as usize], cubes, job);
+            work_run(alloc, net, rows, tasks, numbers, cubes, run, gate);
         },
     );
 }

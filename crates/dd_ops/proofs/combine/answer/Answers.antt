@@ -1,6 +1,8 @@
+use Rattle.std.proofs.Common.{Ok}
 use Rattle.dd_nodes.specs.Stores.{Store}
 use Rattle.dd_ops.specs.private.Recursion.{named}
 use Rattle.dd_ops.proofs.Steps.{Answer-settled, IsMemo-blank}
+use Rattle.dd_ops.proofs.Recalled.{Answer-kept, Answer-recalled, IsJoined-answered}
 use Rattle.dd_ops.proofs.combine.answer.Goals as goal
 
 pub returns-in-Some-clause-answer : goal.returns-in-Some-clause-answer
@@ -10,3 +12,18 @@ returns-in-Some-clause-answer g c =
 
 pub combine-requires-clause-memo : goal.combine-requires-clause-memo
 combine-requires-clause-memo g c = IsMemo-blank g.C.Connective.rule (g.N.Nodes.store c.args.nodes.now) c.new.result c.new.ensures
+
+pub returns-in-Some-recall-clause-answer : goal.returns-in-Some-recall-clause-answer
+returns-in-Some-recall-clause-answer g c =
+    Answer-recalled c.operator.result g.C.Connective.rule (g.N.Nodes.store c.args.nodes.now) c.args.x c.in-Some-recall.r c.operator.ensures c.in-Some-recall.ensures
+
+pub remember-requires : goal.remember-requires
+remember-requires g c =
+    let good = g.met.N.Nodes.diagram in
+    IsJoined-answered c.operator-2.result g.C.Connective.rule (g.N.Nodes.store c.args.nodes.now) (g.N.Nodes.store c.combine.new.nodes) c.args.x c.in_ok-r.r c.operator-2.ensures
+    (good c.args.nodes.now) (good c.combine.new.nodes) c.requires.refs c.in_ok-r.ensures.answer
+
+pub returns-clause-answer : goal.returns-clause-answer
+returns-clause-answer g c =
+    let s : Store = g.N.Nodes.store c.args.nodes.now in
+    Answer-kept (named g.C.Connective.rule s c.args.x) s (g.N.Nodes.store c.combine.new.nodes) (g.N.Nodes.store c.remember.new.self) (Ok c.in_ok-r.r) c.remember.ensures c.in_ok-r.ensures.answer

@@ -1,26 +1,13 @@
-use Rattle.std.proofs.Common.{◌≡◌, ◌∙◌, ◌<◌, [], All, length, get_or, sym, subst}
-use Rattle.work_pool.specs.Pool.{IsTaskOver}
-use Rattle.work_pool.specs.private.Jobs.{tasks_at}
-use Rattle.work_pool.proofs.Gathering.{all_done, all_made, all_over, all_within, written}
+use Rattle.std.proofs.Common.{ℕ, ◌≡◌, ◌∙◌, ◌<◌, [], All, length, get_or, sym, subst}
+use Rattle.work_pool.specs.private.Jobs.{AreJobs, tasks_at}
+use Rattle.work_pool.proofs.Gathering.{all_done, all_jobs, written}
 use Rattle.work_pool.proofs.pool.pooled_tasks.Goals as goal
 
-pub work_all-requires-clause-within : goal.work_all-requires-clause-within
-work_all-requires-clause-within g c κs known =
+pub work_all-requires-clause-jobs : goal.work_all-requires-clause-jobs
+work_all-requires-clause-jobs g c κs known =
     let dealt = c.in_ok-jobs.ensures in
-    subst (All (λ j. j.place < length c.args.numbers.now)) (sym c.as_mut_slice.ensures.value)
-    (all_within (λ j. g.N.Nodes.store j.nodes) (λ j. j.outcome) c.args.net.now.raw c.args.steps c.args.cubes (g.N.Nodes.store c.deal.new.nodes) (λ j. j.place) (g.N.Nodes.store c.args.nodes) c.args.tasks.now c.args.numbers.now c.requires.numbers _ _ dealt.ready dealt.long dealt.places c.put_in_turn.ensures)
-
-pub work_all-requires-clause-made : goal.work_all-requires-clause-made
-work_all-requires-clause-made g c κs known =
-    let dealt = c.in_ok-jobs.ensures in
-    subst (All (λ j. (g.N.Nodes.store j.nodes).made ≡ [])) (sym c.as_mut_slice.ensures.value)
-    (all_made (λ j. g.N.Nodes.store j.nodes) (λ j. j.outcome) c.args.net.now.raw c.args.steps c.args.cubes (g.N.Nodes.store c.deal.new.nodes) (λ j. j.place) (g.N.Nodes.store c.args.nodes) c.args.tasks.now c.args.numbers.now c.requires.numbers _ _ dealt.ready dealt.long dealt.places c.put_in_turn.ensures)
-
-pub work_all-requires-clause-over : goal.work_all-requires-clause-over
-work_all-requires-clause-over g c κs known = λ task.
-    let dealt = c.in_ok-jobs.ensures in
-    subst (All (λ j. IsTaskOver c.args.net.now.raw (g.N.Nodes.store j.nodes).vars (get_or c.args.tasks.now (get_or c.args.numbers.now j.place 0) task))) (sym c.as_mut_slice.ensures.value)
-    (all_over (λ j. g.N.Nodes.store j.nodes) (λ j. j.outcome) c.args.net.now.raw c.args.steps c.args.cubes (g.N.Nodes.store c.deal.new.nodes) (λ j. j.place) (g.N.Nodes.store c.args.nodes) c.args.tasks.now c.args.numbers.now c.requires.numbers _ _ dealt.ready dealt.long dealt.places c.put_in_turn.ensures c.requires.over task)
+    subst (AreJobs (λ j. g.N.Nodes.store j.nodes) (λ j. j.place) c.args.net.now.raw c.args.tasks.now c.args.numbers.now) (sym c.as_mut_slice.ensures.value)
+    (all_jobs (λ j. g.N.Nodes.store j.nodes) (λ j. j.outcome) c.args.net.now.raw c.args.steps c.args.cubes (g.N.Nodes.store c.deal.new.nodes) (λ j. j.place) (g.N.Nodes.store c.args.nodes) c.args.tasks.now c.args.numbers.now c.requires.numbers _ _ dealt.ready dealt.long dealt.places c.put_in_turn.ensures c.requires.over)
 
 pub gather-requires-clause-table : goal.gather-requires-clause-table
 gather-requires-clause-table g c =

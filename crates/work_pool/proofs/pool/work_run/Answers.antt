@@ -1,0 +1,33 @@
+use Rattle.std.proofs.Common.{◌∙◌, arith}
+use Rattle.work_pool.proofs.Runs.{done_next, long_next, one_table, rest_next, same_next}
+use Rattle.work_pool.proofs.pool.work_run.Goals as goal
+
+pub loop-i-preserved : goal.loop-i-preserved
+loop-i-preserved g c =
+    let was = c.loop-i.invariant in
+    let one = c.work_at.ensures in
+    let first = c.args.jobs.now in
+    let jobs = c.loop-i.jobs in
+    let next = c.hand_on.new.jobs in
+    let i = c.loop-i.i in
+    let r = c.index-jobs-i.result in
+    let new = c.work_at.new.job in
+    let lt = c.loop-i-test.true in
+    let at = c.index-jobs-i.is in
+    record {
+      long = long_next (λ j. g.N.Nodes.store j.nodes) (λ j. j.place) (λ j. j.outcome) c.args.net.now.raw c.args.cubes c.args.tasks.now c.args.numbers.now first jobs next i r new was.long lt at was.same was.done was.rest one.place one.done c.hand_on.ensures;
+      same = same_next (λ j. g.N.Nodes.store j.nodes) (λ j. j.place) (λ j. j.outcome) c.args.net.now.raw c.args.cubes c.args.tasks.now c.args.numbers.now first jobs next i r new was.long lt at was.same was.done was.rest one.place one.done c.hand_on.ensures;
+      done = done_next (λ j. g.N.Nodes.store j.nodes) (λ j. j.place) (λ j. j.outcome) c.args.net.now.raw c.args.cubes c.args.tasks.now c.args.numbers.now first jobs next i r new was.long lt at was.same was.done was.rest one.place one.done c.hand_on.ensures;
+      rest = rest_next (λ j. g.N.Nodes.store j.nodes) (λ j. j.place) (λ j. j.outcome) c.args.net.now.raw c.args.cubes c.args.tasks.now c.args.numbers.now first jobs next i r new was.long lt at was.same was.done was.rest one.place one.done c.hand_on.ensures;
+    }
+
+pub hand_on-requires-clause-table : goal.hand_on-requires-clause-table
+hand_on-requires-clause-table g c =
+    one_table (λ j. g.N.Nodes.store j.nodes) (λ j. j.place) (λ j. j.outcome) c.args.jobs.now c.loop-i.jobs c.loop-i.i c.index-jobs-i.result c.work_at.new.job c.loop-i.invariant.long c.loop-i-test.true c.loop-i.invariant.rest c.requires.jobs.table c.work_at.ensures.table
+
+pub returns : goal.returns
+returns g c =
+    let out = c.loop-i-test.false in
+    let was = c.loop-i.invariant in
+    let long = was.long in
+    record { long = long; same = was.same; done = λ k task job lt. was.done k task job (omega (arith, out, long, lt)) lt }
