@@ -168,7 +168,8 @@ fn mark_driver(net: &Net, id: NodeId, due: &mut Vec<bool>)
 pub fn mark_drivers(net: &Net, ids: &[NodeId], due: &mut Vec<bool>)
     requires { All (λ node. node.0 < net.now.raw.nets) ids.now }
     ensures long { length due.new.items ≡ length due.old.items }
-    ensures marked { AreMarked (λ k. All (λ node. source_of net.now.raw node.0 ≢ source.Gate k) ids.now)
+    ensures marked { AreMarked
+        (λ k. All (λ node. source_of net.now.raw node.0 ≢ source.Gate k) ids.now)
         due.old.items due.new.items }
 {
     for node in ids {
