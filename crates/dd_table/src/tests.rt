@@ -5,7 +5,7 @@ ghost use Rattle.dd_nodes.specs.Stores.{Keeps, IsRef, node_of};
 
 use crate::nodes::TableNodes;
 use crate::table::SharedTable;
-use dd_nodes::{MkFault, Node, Nodes, Ref, Split};
+use dd_nodes::{MkFault, Node, Nodes, Operator, Ref, Split};
 use dd_ops::{OpFault, Ops};
 use std::test::Fail;
 use std::thread::{Threads, join_mut};
@@ -60,6 +60,37 @@ fn sessions_find_what_others_made(rt: HostRuntime) -> Result<(), Fail> {
     assert_eq!(rt; (nodes.used(), nodes.limit()), (2, 4));
     let session = nodes.into_session();
     assert_eq!(rt; table.close(session), 2);
+    Ok(())
+}
+
+/// Two variables, their product, and what is recalled of it then, and of their sum.
+fn recalled<N: Nodes>(
+    ops: &Ops,
+    nodes: &mut N,
+) -> Result<(Ref, Ref, Ref, Option<Ref>, Option<Ref>), OpFault>
+    requires { (N.store nodes.old).vars ≡ 2 }
+{
+    let p = ops.var(nodes, 0)?;
+    let q = ops.var(nodes, 1)?;
+    let both = ops.and(nodes, p, q)?;
+    let product = nodes.recall(Operator::And, p, q, Ref::FALSE);
+    let sum = nodes.recall(Operator::Or, p, q, Ref::FALSE);
+    Ok((p, q, both, product, sum))
+}
+
+#[test]
+fn results_are_remembered_and_handed_on(rt: HostRuntime) -> Result<(), Fail> {
+    let (table, session) = SharedTable::open(rt.alloc(), 2, 16)?;
+    let ops = Ops::new(rt.alloc());
+    let mut nodes = TableNodes::on(&table, session);
+    let (p, q, both, product, sum) = recalled(&ops, &mut nodes)?;
+    assert_eq!(rt; product, Some(both));
+    assert_eq!(rt; sum, None);
+    let mut other = nodes.fork(0);
+    assert_eq!(rt; other.recall(Operator::And, p, q, Ref::FALSE), None);
+    other.learn(&mut nodes);
+    assert_eq!(rt; other.recall(Operator::And, p, q, Ref::FALSE), Some(both));
+    assert_eq!(rt; nodes.recall(Operator::And, p, q, Ref::FALSE), None);
     Ok(())
 }
 
