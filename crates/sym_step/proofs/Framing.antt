@@ -1,5 +1,5 @@
 -- What is kept of the time before, while nets get their sets.
-use Rattle.std.proofs.Common.{◌≡◌, ◌≢◌, ℕ, ◌<◌, Bool, true, false, List, Option, None, Some, [], ◌∷◌, ◌++◌, length, take, map, get_or, refl, sym, ◌∙◌, ap, subst, arith, All, ne_eqb, eq-eqb, eqb-true}
+use Rattle.std.proofs.Common.{◌≡◌, ◌≢◌, ℕ, ◌+◌, ◌<◌, ◌≤◌, Bool, true, false, List, Option, None, Some, [], ◌∷◌, ◌++◌, length, take, map, get_or, refl, sym, ◌∙◌, ap, subst, arith, All, ne_eqb, eq-eqb, eqb-true}
 use Rattle.std.specs.Prelude.{IsTrue, ◌==◌, ◌||◌, if◌then◌else◌}
 use Rattle.std.specs.Global.{Vec}
 use Rattle.std.specs.List.{AllZip}
@@ -22,8 +22,6 @@ use Rattle.net_core.specs.declared.raw.Gate.{Gate}
 use Rattle.net_core.specs.declared.raw.RawNet.{RawNet}
 use Rattle.net_core.specs.Flat.{IsInRange, HasOneDriver, IsSettledOrder}
 use Rattle.net_core.specs.Possible.{MayGive}
-use Rattle.net_core.specs.Source.{source_of}
-use Rattle.net_core.specs.declared.source.Source.TheVariants.{Gate as OfGate}
 use Rattle.net_core.specs.Run.{gate_bit}
 use Rattle.net_core.specs.Work.{ArePossibleEach, SymbolicCut, SymbolicSet, after_cut, after_cuts, cut_set, everything, output_set, set_at, some_empty, uncut}
 use Rattle.net_core.proofs.OneTime.{fixed, gate_in, gate_source}
@@ -36,7 +34,7 @@ use Rattle.sym_step.specs.declared.net_rails.NetRails.{NetRails}
 use Rattle.sym_step.specs.Step.{HaveSets, IsCutBy, IsStep}
 use Rattle.sym_step.specs.private.Boards.{AreFull, Follows}
 use Rattle.sym_step.specs.private.Frames.{AreFirst, AreReady, AreSpared, IsFrame, IsGiven, bare, first_or, input_rails, is_listed, nets_of, next_of, step_of}
-use Rattle.sym_step.specs.private.Readers.{AreMarked, ReadsAs, flag_at}
+use Rattle.sym_step.specs.private.Readers.{AreMarked, ReadsAs, driver_number, flag_at, number_of}
 use Rattle.sym_step.specs.private.NetSets.{AreNetRails, AreNetRefs, net_at, own_where}
 use Rattle.sym_step.specs.private.Parts.{HaveNets, asks}
 use Rattle.sym_step.proofs.NetRefs.{All-net-refs-keep, Net-keeps, own_net}
@@ -73,7 +71,7 @@ given_same s net old new gate out ins given sets have =
     (given sets (λ i d l. subst (AreNetRails s (sets (get_or gate.inputs i d).0)) (ins i d l) (have i d l)))
 
 -- a gate that is not due after writes was not before, and has given its output its set still
-pub spared_follows : (s : Store) (net : RawNet) (asked : List NodeId) (old new : Board) → length old.due.items ≡ length net.gates → Follows old new → AreSpared s net asked old → AreSpared s net asked new
+pub spared_follows : (s : Store) (net : RawNet) (asked : List NodeId) (old new : Board) → length net.gates ≤ length old.due.items → Follows old new → AreSpared s net asked old → AreSpared s net asked new
 spared_follows s net asked old new due f spared k d lt none =
     let gate : Gate = get_or net.gates k d in
     let q = f.noted k (omega (arith, due, lt)) none in
@@ -82,6 +80,18 @@ spared_follows s net asked old new due f spared k d lt none =
       uncut = p.uncut;
       given = given_same s net old.nets.items new.nets.items gate (q.1 gate.output.0 p.reads.output) (λ i e l. q.1 (get_or gate.inputs i e).0 (p.reads.inputs i e l)) p.given;
       reads = subst (λ r. ReadsAs r k gate) (sym f.readers) p.reads;
+    }
+
+-- or where nothing but marks of latches has changed
+pub spared_same : (s : Store) (net : RawNet) (asked : List NodeId) (old new : Board) → new.nets ≡ old.nets → new.readers ≡ old.readers → ((k : ℕ) → k < length net.gates → flag_at new.due.items k ≡ flag_at old.due.items k)
+    → AreSpared s net asked old → AreSpared s net asked new
+spared_same s net asked old new nets readers flags spared k d lt none =
+    let gate : Gate = get_or net.gates k d in
+    let p = spared k d lt (sym (flags k lt) ∙ none) in
+    record {
+      uncut = p.uncut;
+      given = subst (λ (xs : Vec NetRails). IsGiven s net xs.items gate) (sym nets) p.given;
+      reads = subst (λ r. ReadsAs r k gate) (sym readers) p.reads;
     }
 
 -- a list that was written through a slice of the whole
@@ -140,6 +150,7 @@ frame_keeps s t net frame range ds dt k f =
       first = λ sets is. let h = f.first sets is in record { long = h.long; refs = All-refs-keep s t sets k h.refs };
       blank = f.blank;
       lists = f.lists;
+      carried = f.carried;
       kept = λ n d lt none uncut. given_keeps s t net nets (get_or net.gates n d) ds dt k f.refs (inside_by net nets range f.long n d lt) (f.kept n d lt none uncut);
     }
 
@@ -184,6 +195,7 @@ with_first s net frame first f h = record {
   blank = f.blank;
   lists = f.lists;
   kept = f.kept;
+  carried = f.carried;
 }
 
 -- a frame of which it is clear, or not, whether all nets have a bit everywhere
@@ -200,6 +212,7 @@ with_full s net frame full f h = record {
   blank = f.blank;
   lists = f.lists;
   kept = f.kept;
+  carried = f.carried;
 }
 
 -- the lists are there where they are made
@@ -218,17 +231,21 @@ with_due s net frame due long fewer f = record {
   inside = f.inside;
   undriven = f.undriven;
   first = f.first;
-  blank = λ none k lt. by k (omega (arith, f.due, lt)) (f.blank none k lt) (flag_at due.items k) refl;
+  blank = λ none k lt. by k (omega (arith, size, lt)) (f.blank none k lt) (flag_at due.items k) refl;
   lists = f.lists;
-  kept = λ k d lt none uncut. f.kept k d lt (fewer k (omega (arith, f.due, lt)) none) uncut;
+  kept = λ k d lt none uncut. f.kept k d lt (fewer k (omega (arith, size, lt)) none) uncut;
+  carried = λ k d lt none uncut. f.carried k d lt (fewer (length net.gates + k) (omega (arith, size, lt)) none) uncut;
 }
   where
+    size : length frame.board.due.items ≡ length net.gates + length net.latches
+    size = f.due
+
     by : (k : ℕ) → k < length frame.board.due.items → flag_at frame.board.due.items k ≡ true → (b : Bool) → flag_at due.items k ≡ b → flag_at due.items k ≡ true
     by k lt was true e = e
     by k lt was false e = absurd (false≢true (sym (fewer k lt e) ∙ was))
 
--- no gate that drives a net of a list is left out where those that drive one have marks
-unlisted_by : (net : RawNet) (ids : List NodeId) (id k : ℕ) → source_of net id ≡ OfGate k → All (λ node. source_of net node.0 ≢ OfGate k) ids → is_listed ids id ≡ false
+-- a net is not in a list where what drives it drives no net of the list
+pub unlisted_by : (net : RawNet) (ids : List NodeId) (id k : ℕ) → driver_number net id ≡ Some k → All (λ node. driver_number net node.0 ≢ Some k) ids → is_listed ids id ≡ false
 unlisted_by net ids id k drives none = by (is_listed ids id) refl
   where
     by : (b : Bool) → is_listed ids id ≡ b → is_listed ids id ≡ false
@@ -236,22 +253,23 @@ unlisted_by net ids id k drives none = by (is_listed ids id) refl
     by true e =
         let at = listed_at ids id e in
         let z : NodeId = record { 0 = 0 } in
-        absurd (none at.0 z at.1 (ap (source_of net) (at.2 z) ∙ drives))
+        absurd (none at.0 z at.1 (ap (driver_number net) (at.2 z) ∙ drives))
 
 -- where the gates that drive cut nets are due, the others are spared
 pub all_spared : (s : Store) (net : RawNet) (frame : Frame) (asked : List NodeId) (mid due : Vec Bool) → HasOneDriver net → IsFrame s net frame → AreReady net frame → length mid.items ≡ length frame.board.due.items
-    → AreMarked (λ k. All (λ node. source_of net node.0 ≢ OfGate k) frame.asked.items) frame.board.due.items mid.items
-    → AreMarked (λ k. All (λ node. source_of net node.0 ≢ OfGate k) asked) mid.items due.items
+    → AreMarked (λ k. All (λ node. driver_number net node.0 ≢ Some k) frame.asked.items) frame.board.due.items mid.items
+    → AreMarked (λ k. All (λ node. driver_number net node.0 ≢ Some k) asked) mid.items due.items
     → AreSpared s net asked (record frame.board { due = due })
 all_spared s net frame asked mid due one f ready long before now k d lt none =
-    let late = now k (omega (arith, long, f.due, lt)) none in
-    let early = before k (omega (arith, f.due, lt)) late.0 in
+    let size : length frame.board.due.items ≡ length net.gates + length net.latches = f.due in
+    let late = now k (omega (arith, long, size, lt)) none in
+    let early = before k (omega (arith, size, lt)) late.0 in
     let out : ℕ = (get_or net.gates k d).output.0 in
-    let drives : source_of net out ≡ OfGate k = gate_source net one k d lt in
+    let drives : driver_number net out ≡ Some k = ap (number_of net) (gate_source net one k d lt) in
     record {
       uncut = unlisted_by net asked out k drives late.1;
       given = f.kept k d lt early.0 (unlisted_by net frame.asked.items out k drives early.1);
-      reads = ready k lt early.0 k d lt;
+      reads = (ready k (omega (arith, lt)) early.0).gates k d lt;
     }
 
 pub not_first : (s : Store) (net : RawNet) (first : Option (List Rails)) → first ≡ None → (sets : List Rails) → first ≡ Some sets → AreFirst s net sets

@@ -17,3 +17,4 @@ pub mod Chains
 pub mod Reading
 pub mod Framing
 pub mod Opened
+pub mod Latched

@@ -22,7 +22,9 @@ use Rattle.sym_step.specs.declared.cut.Cut.{Cut}
 use Rattle.sym_step.specs.declared.net_rails.NetRails.{NetRails}
 use Rattle.sym_step.specs.Step.{IsCutBy}
 use Rattle.sym_step.specs.declared.frame.Frame.{Frame}
-use Rattle.sym_step.specs.private.Frames.{AreOpen, HaveLatches, HaveOpen, IsFrame, IsOpen, StayRight, is_listed}
+use Rattle.sym_step.specs.private.Frames.{AreOpen, HaveLatches, HaveOpen, IsFrame, IsOpen, StayRight, is_listed, mark_count}
+use Rattle.sym_step.specs.declared.latches.LatchSet.{LatchSet}
+use Rattle.sym_step.specs.private.Latches.{HaveLatchSets}
 use Rattle.sym_step.specs.private.Readers.{flag_at}
 use Rattle.sym_step.specs.private.NetSets.{AreNetRails, AreNetRefs, net_at}
 use Rattle.sym_step.specs.private.Parts.{HaveNets, HaveSources, asks}
@@ -47,33 +49,28 @@ at_replicate (suc n) zero x d lt = refl
 at_replicate (suc n) (suc k) x d lt = at_replicate n k x d (omega (arith, lt))
 
 -- a frame of no time is one
-pub blank_is : (s : Store) (net : RawNet) (frame : Frame) → IsGood s → frame.board.nets.items ≡ replicate net.nets unknown → frame.board.due.items ≡ replicate (length net.gates) true → frame.board.full ≡ false → frame.asked.items ≡ [] → frame.first ≡ None → frame.listed ≡ false
+pub blank_is : (s : Store) (net : RawNet) (frame : Frame) → IsGood s → frame.board.nets.items ≡ replicate net.nets unknown → frame.board.due.items ≡ replicate (mark_count net) true → frame.board.full ≡ false → frame.asked.items ≡ [] → frame.first ≡ None → frame.listed ≡ false
     → All (λ gate. length gate.inputs < length frame.products.items) net.gates → IsFrame s net frame
 blank_is s net frame gs nets due full asked none listed room = record {
   room = room;
   long = ap length nets ∙ length-replicate net.nets unknown;
   refs = subst (All (AreNetRefs s)) (sym nets) (all_unknown s net.nets gs);
   full = λ yes. absurd (false≢true (sym full ∙ yes));
-  due = ap length due ∙ length-replicate (length net.gates) true;
+  due = ap length due ∙ length-replicate (mark_count net) true;
   inside = subst (All (λ (node : NodeId). node.0 < net.nets)) (sym asked) (All-nil (λ (node : NodeId). node.0 < net.nets));
   first = not_first s net frame.first none;
   undriven = λ id lt is listed. subst (AreNetRails s everything) (sym (ap (λ (xs : List NetRails). net_at xs id) nets ∙ at_replicate net.nets id unknown unknown lt)) (unknown_net s gs);
   blank = λ begun k lt. marked k lt;
   lists = λ yes. absurd (false≢true (sym listed ∙ yes));
-  kept = λ k d lt flag uncut. absurd (false≢true (sym flag ∙ marked k lt));
+  kept = λ k d lt flag uncut. absurd (false≢true (sym flag ∙ marked k (omega (arith, lt))));
+  carried = λ k d lt flag uncut. absurd (false≢true (sym flag ∙ marked (length net.gates + k) (omega (arith, lt))));
 }
   where
-    marked : (k : ℕ) → k < length net.gates → flag_at frame.board.due.items k ≡ true
-    marked k lt = ap (λ (xs : List Bool). flag_at xs k) due ∙ at_replicate (length net.gates) k true false lt
-
--- the references of the latches' inputs are held
-pub given_refs : (s : Store) (nets : List NetRails) (latches : List Latch) → All (AreNetRefs s) nets → All (λ latch. latch.input.0 < length nets) latches → All (AreNetRefs s) (map (λ latch. net_at nets latch.input.0) latches)
-given_refs s nets [] refs inside = All-nil (AreNetRefs s)
-given_refs s nets (x ∷ xs) refs inside = All-cons (AreNetRefs s) (net_at nets x.input.0) (map (λ latch. net_at nets latch.input.0) xs)
-    (refs x.input.0 unknown (All-head (λ (latch : Latch). latch.input.0 < length nets) x xs inside)) (given_refs s nets xs refs (All-tail (λ (latch : Latch). latch.input.0 < length nets) x xs inside))
+    marked : (k : ℕ) → k < length net.gates + length net.latches → flag_at frame.board.due.items k ≡ true
+    marked k lt = ap (λ (xs : List Bool). flag_at xs k) due ∙ at_replicate (length net.gates + length net.latches) k true false lt
 
 -- no two latches drive one net
-one_latch : (latches : List Latch) → AllPairs (λ one other. one.output.0 ≢ other.output.0) latches → (j k : ℕ) (d : Latch) → j < length latches → k < length latches → (get_or latches j d).output.0 ≡ (get_or latches k d).output.0 → j ≡ k
+pub one_latch : (latches : List Latch) → AllPairs (λ one other. one.output.0 ≢ other.output.0) latches → (j k : ℕ) (d : Latch) → j < length latches → k < length latches → (get_or latches j d).output.0 ≡ (get_or latches k d).output.0 → j ≡ k
 one_latch latches apart j k d l m same = elim (cases_lt j k) [
   | inl less ↦ absurd (apart j k d less m same)
   | inr more ↦ elim (cases_lt k j) [
@@ -117,14 +114,14 @@ pub stay_then : (sets : ℕ → SymbolicSet) (s t u : Store) (xs ys zs : List Ne
 stay_then sets s t u xs ys zs early late id h = late id (early id h)
 
 -- one latch more
-pub latches_next : (net : RawNet) (sets : ℕ → SymbolicSet) (t u : Store) (nets new : List NetRails) (n : ℕ) (latch : Latch) → latch ≡ get_or net.latches n latch → HaveLatches net sets t n nets → StayRight sets t nets u new
-    → AreNetRails u (sets latch.output.0) (net_at new latch.output.0) → HaveLatches net sets u (n + 1) new
-latches_next net sets t u nets new n latch is have stay here k d lt inside = elim (cases_lt k n) [
-  | inl early ↦ stay (get_or net.latches k d).output.0 (have k d early inside)
+pub latches_next : (family : ℕ → SymbolicSet) (t u : Store) (sets : List LatchSet) (nets new : List NetRails) (n : ℕ) (set : LatchSet) → set ≡ get_or sets n set → HaveLatchSets family t sets n nets → StayRight family t nets u new
+    → AreNetRails u (family set.output.0) (net_at new set.output.0) → HaveLatchSets family u sets (n + 1) new
+latches_next family t u sets nets new n set is have stay here k d lt inside = elim (cases_lt k n) [
+  | inl early ↦ stay (get_or sets k d).output.0 (have k d early inside)
   | inr late ↦
       let e : n ≡ k = omega (arith, lt, late) in
-      let same : latch ≡ get_or net.latches k d = is ∙ ap (λ (i : ℕ). get_or net.latches i latch) e ∙ get_or_default net.latches k latch d inside in
-      subst (λ (x : Latch). AreNetRails u (sets x.output.0) (net_at new x.output.0)) same here
+      let same : set ≡ get_or sets k d = is ∙ ap (λ (i : ℕ). get_or sets i set) e ∙ get_or_default sets k set d inside in
+      subst (λ (x : LatchSet). AreNetRails u (family x.output.0) (net_at new x.output.0)) same here
 ]
 
 -- one net more that nothing drives

@@ -1,18 +1,28 @@
--- Which gates look at a net, and marks for gates that are due.
-use Rattle.std.proofs.Common.{◌≡◌, ◌≢◌, ℕ, suc, ◌+◌, ◌<◌, Bool, true, false, List, length, take, get_or, set, refl, sym, ◌∙◌, ap, subst, arith, inl, inr, All, length-set, get_or-set_same, get_or-set_other}
-use Rattle.std.specs.Prelude.{IsTrue}
+-- Which gates and latches look at a net, and marks for those that are due.
+use Rattle.std.proofs.Common.{◌≡◌, ◌≢◌, ℕ, suc, ◌+◌, ◌-◌, ◌<◌, ◌≤◌, Bool, true, false, List, [], ◌++◌, length, map, take, get_or, set, refl, sym, ◌∙◌, ap, subst, arith, eqb, inl, inr, All, length-set, get_or-set_same, get_or-set_other}
+use Rattle.std.specs.Prelude.{AllPairs, IsTrue}
+use Rattle.std.specs.List.{list_any}
+use Rattle.std.proofs.lemmas.Bool.{eqb-true}
+use Rattle.std.proofs.lemmas.Bool.Decides.{Decides-eqb}
+use Rattle.std.proofs.lemmas.List.Folds.{Any-from_list_any}
+use Rattle.std.proofs.lemmas.Map.Made.{IsDistinct-from_AllPairs}
+use Rattle.std.proofs.lemmas.Map.Steps.{length-le_from_distinct_below}
 use Rattle.std.proofs.lemmas.Bool.{cases_eq, cases_lt, false≢true}
-use Rattle.std.proofs.lemmas.List.{get_or_default}
+use Rattle.std.proofs.lemmas.List.{get_or-append_right, get_or-map, get_or_append_left, get_or_default, length-append, length-map}
 use Rattle.std.proofs.lemmas.List.Elements.{All-more}
 use Rattle.ste_base.specs.declared.id.NodeId.{NodeId}
 use Rattle.net_core.specs.declared.raw.Gate.{Gate}
+use Rattle.net_core.specs.declared.raw.Init.TheVariants.{Zero}
+use Rattle.net_core.specs.declared.raw.Latch.{Latch}
+use Rattle.net_core.specs.declared.raw.RawNet.{RawNet}
+use Rattle.net_core.specs.Flat.{HasOneDriver, IsInRange}
 use Rattle.sym_step.specs.declared.board.Board.{Board}
 use Rattle.sym_step.specs.declared.net_rails.NetRails.{NetRails}
 use Rattle.sym_step.specs.private.Boards.{AreFull, Follows}
 use Rattle.sym_step.specs.private.NetSets.{net_at}
 use Rattle.sym_step.specs.declared.readers.Readers.{Readers}
 use Rattle.sym_step.specs.declared.readers.Slot.{Slot}
-use Rattle.sym_step.specs.private.Readers.{AreAdded, AreMarked, IsNotMet, IsOnChain, Lists, ReadsAs, flag_at, head_of, slot_of, spot}
+use Rattle.sym_step.specs.private.Readers.{AreAdded, AreMarked, IsBetween, IsNotMet, IsOnChain, Lists, ReadsAs, flag_at, head_of, slot_of, spot}
 use Rattle.sym_step.proofs.Chains.{also_on, first_on, next_met, still_on, with_slot}
 
 -- ---- marks
@@ -83,6 +93,9 @@ all_stay old new ids k p h i d l = p.stay (get_or ids i d).0 k (h i d l)
 pub reads_stay : (old new : Readers) (k : ℕ) (gate : Gate) → AreAdded old new → ReadsAs old k gate → ReadsAs new k gate
 reads_stay old new k gate p h = record { inputs = all_stay old new gate.inputs k p h.inputs; output = p.stay gate.output.0 k h.output }
 
+pub between_stays : (old new : Readers) (k : ℕ) (latch : Latch) → AreAdded old new → IsBetween old k latch → IsBetween new k latch
+between_stays old new k latch p h = record { input = p.stay latch.input.0 k h.input; output = p.stay latch.output.0 k h.output }
+
 -- the lists that one gate more has been added to
 pub gates_next : (gates : List Gate) (old new : Readers) (n : ℕ) (gate : Gate) → n < length gates → gate ≡ get_or gates n gate → AreAdded old new → ((k : ℕ) (d : Gate) → k < n → ReadsAs old k (get_or gates k d)) → ReadsAs new n gate
     → (k : ℕ) (d : Gate) → k < n + 1 → ReadsAs new k (get_or gates k d)
@@ -92,6 +105,79 @@ gates_next gates old new n gate inside is p before here k d lt = elim (cases_lt 
       let e : n ≡ k = omega (arith, lt, late) in
       subst (λ (i : ℕ). ReadsAs new i (get_or gates i d)) e (subst (ReadsAs new n) (is ∙ get_or_default gates n gate d inside) here)
 ]
+
+-- the lists that one latch more has been added to
+pub between_next : (first : ℕ) (latches : List Latch) (old new : Readers) (n : ℕ) (latch : Latch) → n < length latches → latch ≡ get_or latches n latch → AreAdded old new → ((k : ℕ) (d : Latch) → k < n → IsBetween old (first + k) (get_or latches k d))
+    → IsBetween new (first + n) latch → (k : ℕ) (d : Latch) → k < n + 1 → IsBetween new (first + k) (get_or latches k d)
+between_next first latches old new n latch inside is p before here k d lt = elim (cases_lt k n) [
+  | inl early ↦ between_stays old new (first + k) (get_or latches k d) p (before k d early)
+  | inr late ↦
+      let e : n ≡ k = omega (arith, lt, late) in
+      subst (λ (i : ℕ). IsBetween new (first + i) (get_or latches i d)) e (subst (IsBetween new (first + n)) (is ∙ get_or_default latches n latch d inside) here)
+]
+
+-- ---- how many numbers there are
+
+-- as many gates and latches as nets at most
+module _ (net : RawNet) (range : IsInRange net) (one : HasOneDriver net) where
+  no_gate : Gate
+  no_gate = record { inputs = []; output = record { 0 = 0 }; cover = 0 }
+
+  no_latch : Latch
+  no_latch = record { input = record { 0 = 0 }; output = record { 0 = 0 }; init = Zero }
+
+  abbrev of_gates : List ℕ
+  of_gates = map (λ (gate : Gate). gate.output.0) net.gates
+
+  abbrev of_latches : List ℕ
+  of_latches = map (λ (latch : Latch). latch.output.0) net.latches
+
+  -- the nets that gates and latches drive
+  abbrev drivens : List ℕ
+  drivens = of_gates ++ of_latches
+
+  count : length drivens ≡ length net.gates + length net.latches
+  count =
+      let e = length-append of_gates of_latches in
+      let g = length-map net.gates (λ (gate : Gate). gate.output.0) in
+      let l = length-map net.latches (λ (latch : Latch). latch.output.0) in
+      omega (arith, e, g, l)
+
+  at_gate : (i e : ℕ) → i < length net.gates → get_or drivens i e ≡ (get_or net.gates i no_gate).output.0
+  at_gate i e lt =
+      get_or_append_left of_gates of_latches e i (let g = length-map net.gates (λ (gate : Gate). gate.output.0) in omega (arith, g, lt))
+      ∙ get_or-map (λ (gate : Gate). gate.output.0) net.gates i no_gate e lt
+
+  at_latch : (i e : ℕ) → length net.gates ≤ i → i < length drivens → get_or drivens i e ≡ (get_or net.latches (i - length net.gates) no_latch).output.0
+  at_latch i e le lt =
+      get_or-append_right of_gates of_latches (length net.gates) i e (length-map net.gates (λ (gate : Gate). gate.output.0)) le
+      ∙ get_or-map (λ (latch : Latch). latch.output.0) net.latches (i - length net.gates) no_latch e (omega (arith, count, le, lt))
+
+  apart : AllPairs (λ (x y : ℕ). x ≢ y) drivens
+  apart i j e less inside same = elim (cases_lt j (length net.gates)) [
+    | inl both ↦ one.gates i j no_gate less both (sym (at_gate i e (omega (arith, less, both))) ∙ same ∙ at_gate j e both)
+    | inr late ↦ elim (cases_lt i (length net.gates)) [
+      | inl early ↦ one.apart (j - length net.gates) no_latch (omega (arith, count, inside, late)) i no_gate early (sym (at_gate i e early) ∙ same ∙ at_latch j e (omega (arith, late)) inside)
+      | inr none ↦
+          one.latches (i - length net.gates) (j - length net.gates) no_latch (omega (arith, less, none)) (omega (arith, count, inside, late))
+          (sym (at_latch i e (omega (arith, none)) (omega (arith, less, inside))) ∙ same ∙ at_latch j e (omega (arith, late)) inside)
+    ]
+  ]
+
+  below : (i e : ℕ) → i < length drivens → get_or drivens i e < net.nets
+  below i e lt = elim (cases_lt i (length net.gates)) [
+    | inl early ↦ subst (λ (n : ℕ). n < net.nets) (sym (at_gate i e early)) (range.gate_outputs i no_gate early)
+    | inr late ↦ subst (λ (n : ℕ). n < net.nets) (sym (at_latch i e (omega (arith, late)) lt)) (range.latch_outputs (i - length net.gates) no_latch (omega (arith, count, lt, late)))
+  ]
+
+  pub few_numbers : length net.gates + length net.latches ≤ net.nets
+  few_numbers =
+      let small : (q : ℕ) → list_any (eqb q) drivens ≡ true → q < net.nets = λ q h.
+      let any = Any-from_list_any (eqb q) drivens h in
+      let low = below any.0 any.1 any.2 in
+      omega (arith, low, any.3, eqb-true q any.1 any.4) in
+      let few = length-le_from_distinct_below drivens net.nets (IsDistinct-from_AllPairs Decides-eqb drivens apart) small in
+      omega (arith, few, count)
 
 -- ---- one net is written
 

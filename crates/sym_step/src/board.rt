@@ -1,4 +1,4 @@
-//! The sets of all nets, with marks for the gates that read another set than before; begin with `Board`.
+//! The sets of all nets, with marks for the gates and latches that read another set than before; begin with `Board`.
 
 ghost use Rattle.std.specs.Prelude.{◌≡◌, ◌<◌, IsTrue, length, set};
 ghost use Rattle.sym_step.specs.private.Boards.{Follows};
@@ -7,8 +7,9 @@ use crate::net_rails::NetRails;
 use crate::readers::Readers;
 use dd_nodes::Ref;
 
-/// The sets of all nets; a mark for each gate of which an input or the output has got another set; for each net which gates
-/// these are; and whether all nets have a bit everywhere, which is so where `full` says it.
+/// The sets of all nets; a mark for each gate, and behind these one for each latch, of which an input or the output has got
+/// another set; for each net which gates and latches these are; and whether all nets have a bit everywhere, which is so
+/// where `full` says it.
 #[derive(Debug, Drop)]
 pub struct Board {
     pub nets: Vec<NetRails>,
@@ -18,7 +19,7 @@ pub struct Board {
 }
 
 /// Whether both are the same references.
-fn are_same(a: NetRails, b: NetRails) -> bool
+pub fn are_same(a: NetRails, b: NetRails) -> bool
     ensures { IsTrue result → a ≡ b }
 {
     a.can0 == b.can0 && a.can1 == b.can1 && a.some == b.some && a.known == b.known
@@ -32,7 +33,7 @@ fn stays_full(full: bool, r: NetRails) -> bool
 }
 
 impl Board {
-    /// Gives a net its set. Where it is another than before, the gates that read the net are due.
+    /// Gives a net its set. Where it is another than before, the gates and latches that read the net, or drive it, are due.
     pub fn put(&mut self, id: u32, r: NetRails)
         requires { id < length self.old.nets.items }
         ensures nets { self.new.nets.items ≡ set self.old.nets.items id r }

@@ -1,13 +1,13 @@
 //! What is kept of one time for the next; begin with `Frame`.
 
-ghost use Rattle.std.specs.Prelude.{◌≡◌, ◌<◌, ◌≤◌, IfOk, IsTrue, None, OnOk, All, length, map};
+ghost use Rattle.std.specs.Prelude.{◌≡◌, ◌<◌, ◌≤◌, ℕ, IfOk, IsTrue, OnOk, All, length, map};
 ghost use Rattle.dd_nodes.specs.Diagram.{IsDiagram};
 ghost use Rattle.dd_nodes.specs.Stores.{Store};
-ghost use Rattle.sym_step.specs.private.NetSets.{net_at};
 ghost use Rattle.dual_rail.specs.Rail.{AreRefs};
 ghost use Rattle.sym_step.specs.Step.{rails_at};
 ghost use Rattle.sym_step.specs.private.Boards.{AreFull};
-ghost use Rattle.sym_step.specs.private.Frames.{AreReady, AreSpared, IsFrame, input_rails, nets_of, next_of};
+ghost use Rattle.sym_step.specs.private.Frames.{AreCarried, AreReady, AreSpared, IsFrame, input_rails, nets_of, next_of};
+ghost use Rattle.sym_step.specs.private.Readers.{flag_at};
 
 use crate::board::Board;
 use crate::cut::Cut;
@@ -20,10 +20,10 @@ use std::alloc::{AllocError, Global};
 use ste_base::{Items, NodeId};
 
 /// What is kept of one time for the next: the set of each net, the list of the nets of which there was a cut, and marks for
-/// gates that are due; beside them room for the products of a row, and before a first time the sets of the latches there.
-/// In a blank frame all nets have both bits, and all gates are due. Once times go on from one another it is listed which
-/// gates read a net or drive it, and a gate is due only where an input or its output has another set than before, or its
-/// output is cut now or was before; any other keeps its output's set.
+/// gates and latches that are due; beside them room for the products of a row, and before a first time the sets of the
+/// latches there. In a blank frame all nets have both bits, and all gates and latches are due. Once times go on from one
+/// another it is listed which gates and latches read a net or drive it, and one is due only where an input or its output has
+/// another set than before, or its output is cut now or was before; any other keeps its output's set.
 #[derive(Debug, Drop)]
 pub struct Frame {
     pub(crate) board: Board,
@@ -41,7 +41,7 @@ impl Frame {
             → IsDiagram s.held s.vars → IsFrame s net.now.raw frame) }
     {
         let nets = vec![in alloc; NetRails::free(); net.nets() as usize]?;
-        let due = vec![in alloc; true; net.gates().len()]?;
+        let due = vec![in alloc; true; net.gates().len() + net.latches().len()]?;
         let products = room(alloc, net.gates())?;
         let board = Board {
             nets,
@@ -108,23 +108,6 @@ pub fn asked_nets(alloc: Global, cuts: &[Cut]) -> Result<Vec<NodeId>, AllocError
     cuts.iter().map(|c| c.node).collect::<Vec<NodeId>>(alloc)
 }
 
-/// The sets of the latches' inputs.
-pub fn latch_inputs(
-    alloc: Global,
-    nets: &[NetRails],
-    latches: &[Latch],
-) -> Result<Vec<NetRails>, AllocError>
-    requires { All (λ latch. latch.input.0 < length nets.now) latches.now }
-    ensures { IfOk result (λ found. found.items
-        ≡ map (λ latch. net_at nets.now latch.input.0) latches.now) }
-{
-    let mut found = Vec::with_capacity(alloc, latches.len())?;
-    for latch in latches {
-        found.push(nets[latch.input.0 as usize])?;
-    }
-    Ok(found)
-}
-
 /// The sets of the latches' inputs at the time of a frame.
 pub fn own_sets(alloc: Global, frame: &Frame, latches: &[Latch]) -> Result<Items<Rails>, AllocError>
     requires { All (λ latch. latch.input.0 < length (nets_of frame.now)) latches.now }
@@ -137,25 +120,14 @@ pub fn own_sets(alloc: Global, frame: &Frame, latches: &[Latch]) -> Result<Items
     Ok(Items::from(found))
 }
 
-/// The sets that the latches have at the next time; the frame is then no longer before a first one.
-pub fn next_sets(alloc: Global, net: &Net, frame: &mut Frame) -> Result<Items<Rails>, AllocError>
-    requires { All (λ latch. latch.input.0 < length (nets_of frame.old)) net.now.raw.latches }
-    ensures sets { IfOk result (λ sets. sets ≡ next_of net.now.raw frame.old) }
-    ensures rest { frame.new ≡ record frame.old { first = None } }
-{
-    match frame.first.take() {
-        Some(first) => Ok(first),
-        None => own_sets(alloc, frame, net.latches()),
-    }
-}
-
-/// Lists which gates read a net or drive it, where times go on from one another. In a blank frame all gates are due, and
-/// none is looked for.
+/// Lists which gates and latches read a net or drive it, where times go on from one another. In a blank frame all of them
+/// are due, and none is looked for.
 fn with_lists(alloc: Global, net: &Net, frame: &mut Frame) -> Result<(), AllocError>
     ensures frame { OnOk result ((s : Store) → IsFrame s net.now.raw frame.old
         → IsFrame s net.now.raw frame.new × AreReady net.now.raw frame.new) }
     ensures asked { OnOk result (frame.new.asked ≡ frame.old.asked) }
     ensures first { OnOk result (frame.new.first ≡ frame.old.first) }
+    ensures nets { OnOk result (frame.new.board.nets ≡ frame.old.board.nets) }
 {
     if frame.listed {
         return Ok(());
@@ -163,12 +135,12 @@ fn with_lists(alloc: Global, net: &Net, frame: &mut Frame) -> Result<(), AllocEr
     if !frame.begun {
         return Ok(());
     }
-    frame.board.readers = Readers::of_gates(alloc, net)?;
+    frame.board.readers = Readers::of_net(alloc, net)?;
     frame.listed = true;
     Ok(())
 }
 
-/// Makes the gates due that drive nets which are cut now, or were at the time before.
+/// Makes the gates and latches due that drive nets which are cut now, or were at the time before.
 pub fn make_due(
     alloc: Global,
     net: &Net,
@@ -178,8 +150,10 @@ pub fn make_due(
     requires asked { All (λ node. node.0 < net.now.raw.nets) asked.now }
     requires before { All (λ node. node.0 < net.now.raw.nets) frame.old.asked.items }
     ensures frame { OnOk result ((s : Store) → IsFrame s net.now.raw frame.old
-        → IsFrame s net.now.raw frame.new × AreSpared s net.now.raw asked.now frame.new.board) }
+        → IsFrame s net.now.raw frame.new × AreSpared s net.now.raw asked.now frame.new.board
+        × AreCarried net.now.raw asked.now frame.new.board) }
     ensures first { OnOk result (frame.new.first ≡ frame.old.first) }
+    ensures nets { OnOk result (frame.new.board.nets ≡ frame.old.board.nets) }
 {
     with_lists(alloc, net, frame)?;
     let before = frame.asked.as_slice();
@@ -188,11 +162,13 @@ pub fn make_due(
     Ok(())
 }
 
-/// Takes all marks away.
-pub fn clear(flags: &mut Vec<bool>)
-    ensures { length flags.new.items ≡ length flags.old.items }
+/// Takes the first marks away.
+pub fn clear(flags: &mut Vec<bool>, count: usize)
+    requires { count ≤ length flags.old.items }
+    ensures long { length flags.new.items ≡ length flags.old.items }
+    ensures rest { (k : ℕ) → count ≤ k → flag_at flags.new.items k ≡ flag_at flags.old.items k }
 {
-    for at in 0..flags.len() {
+    for at in 0..count {
         flags[at] = false;
     }
 }

@@ -8,6 +8,7 @@ mod cuts;
 mod flagged;
 pub mod frame;
 mod gates;
+mod latches;
 pub mod laws;
 pub mod made;
 mod net_rails;

@@ -1,6 +1,6 @@
 //! The sets of the gates' outputs, in settled order; begin with `place_gates`.
 
-ghost use Rattle.std.specs.Prelude.{◌≡◌, ◌<◌, ◌∷◌, ◌++◌, [], false, true, ℕ, List, All, IsTrue, OnOk, Some, length, map, set, slice_get};
+ghost use Rattle.std.specs.Prelude.{◌≡◌, ◌<◌, ◌≤◌, ◌∷◌, ◌++◌, [], false, true, ℕ, List, All, IsTrue, OnOk, Some, length, map, set, slice_get};
 ghost use Rattle.std.specs.List.{AllZip};
 ghost use Rattle.dd_nodes.specs.Stores.{IsRef};
 ghost use Rattle.net_core.specs.declared.cover.Cover.{Cover};
@@ -218,7 +218,7 @@ pub fn place_gates<N: Nodes>(
     board: &mut Board,
 ) -> Result<(), OpFault>
     requires long { length board.old.nets.items ≡ net.now.raw.nets }
-    requires due { length board.old.due.items ≡ length net.now.raw.gates }
+    requires due { length net.now.raw.gates ≤ length board.old.due.items }
     requires room { All (λ gate. length gate.inputs < length products.old) net.now.raw.gates }
     requires refs { All (AreNetRefs (N.store nodes.old)) board.old.nets.items }
     requires rows { rows.now.covers ≡ map rows_of net.now.raw.covers }

@@ -1,11 +1,9 @@
-//! Which gates look at a net, and marks for gates that are due; begin with `Readers`.
+//! Which gates and latches look at a net, and marks for those that are due; begin with `Readers`.
 
-ghost use Rattle.std.specs.Prelude.{◌≡◌, ◌≢◌, ◌<◌, ◌+◌, ◌-◌, ◌^◌, ℕ, All, fold, min, IfOk, IfSome, None, OnOk, [], false, length, slice_index_or};
-ghost use Rattle.net_core.specs.Source.{source_of};
-ghost use Rattle.net_core.specs.declared.source.Source.TheVariants as source;
-ghost use Rattle.sym_step.specs.private.Readers.{AreAdded, AreMarked, AreReaders, IsLink, Lists, ReadsAs, head_of, slot_of};
+ghost use Rattle.std.specs.Prelude.{◌≡◌, ◌≢◌, ◌<◌, ◌+◌, ◌-◌, ◌^◌, ℕ, All, fold, min, IfOk, IfSome, None, OnOk, Some, [], false, length, slice_index_or};
+ghost use Rattle.sym_step.specs.private.Readers.{AreAdded, AreGates, AreLatches, AreMarked, AreReaders, IsBetween, IsLink, Lists, ReadsAs, driver_number, head_of, slot_of};
 
-use net_core::{Gate, Net, Source};
+use net_core::{Gate, Latch, Net, Source};
 use std::alloc::{AllocError, Global};
 use ste_base::NodeId;
 
@@ -17,8 +15,9 @@ pub struct Slot {
     next: u32,
 }
 
-/// For each net a list of numbers of gates, as of those that read it. All lists are chains through one vector of slots, and
-/// `heads` has the link to the first slot of each net's list. Where there are no heads, no net has a number in its list.
+/// For each net a list of numbers of gates and latches, as of those that read it: a latch's number is that among the
+/// latches, counted on from the number of gates. All lists are chains through one vector of slots, and `heads` has the link to the
+/// first slot of each net's list. Where there are no heads, no net has a number in its list.
 #[derive(Debug, Drop)]
 pub struct Readers {
     heads: Vec<u32>,
@@ -99,17 +98,60 @@ impl Readers {
         Ok(())
     }
 
-    /// For each net the gates that read it, and the one that drives it.
-    pub fn of_gates(alloc: Global, net: &Net) -> Result<Readers, AllocError>
+    /// Adds the number of a latch to the lists of its input and of its output.
+    fn add_latch(&mut self, latch: &Latch, number: u32) -> Result<(), AllocError>
+        requires input { latch.now.input.0 < length self.old.heads.items }
+        requires output { latch.now.output.0 < length self.old.heads.items }
+        ensures added { OnOk result (AreAdded self.old self.new) }
+        ensures here { OnOk result (IsBetween self.new number latch.now) }
+    {
+        self.add(latch.input.0, number)?;
+        self.add(latch.output.0, number)?;
+        Ok(())
+    }
+
+    /// Adds the numbers of all gates to their lists.
+    fn add_gates(&mut self, net: &Net) -> Result<(), AllocError>
+        requires nets { length self.old.heads.items ≡ net.now.raw.nets }
+        requires few { length net.now.raw.gates < 2 ^ 32 }
+        ensures added { OnOk result (AreAdded self.old self.new) }
+        ensures here { OnOk result (AreGates net.now.raw self.new) }
+    {
+        let gates = net.gates();
+        for number in 0..gates.len() {
+            self.add_gate(&gates[number], number as u32)?;
+        }
+        Ok(())
+    }
+
+    /// Adds the numbers of all latches, which come behind those of the gates, to their lists.
+    fn add_latches(&mut self, net: &Net) -> Result<(), AllocError>
+        requires nets { length self.old.heads.items ≡ net.now.raw.nets }
+        requires few { length net.now.raw.gates + length net.now.raw.latches < 2 ^ 32 }
+        ensures added { OnOk result (AreAdded self.old self.new) }
+        ensures here { OnOk result (AreLatches net.now.raw self.new) }
+    {
+        let gates = net.gates().len();
+        let latches = net.latches();
+        for number in 0..latches.len() {
+            self.add_latch(&latches[number], (gates + number) as u32)?;
+        }
+        Ok(())
+    }
+
+    /// For each net the gates and latches that read it, and the one that drives it.
+    pub fn of_net(alloc: Global, net: &Net) -> Result<Readers, AllocError>
         ensures { IfOk result (λ readers. AreReaders net.now.raw readers) }
     {
         let heads = vec![in alloc; 0; net.nets() as usize]?;
-        let gates = net.gates();
-        let slots = Vec::with_capacity(alloc, ends(gates))?;
+        let latches = net.latches().len();
+        let count = ends(net.gates())
+            .saturating_add(latches)
+            .saturating_add(latches);
+        let slots = Vec::with_capacity(alloc, count)?;
         let mut readers = Readers { heads, slots };
-        for number in 0..gates.len() {
-            readers.add_gate(&gates[number], number as u32)?;
-        }
+        readers.add_gates(net)?;
+        readers.add_latches(net)?;
         Ok(readers)
     }
 
@@ -135,7 +177,7 @@ impl Readers {
         self.slots.get(link as usize - 1).copied()
     }
 
-    /// Marks the gates in the list of a net.
+    /// Marks the gates and latches in the list of a net.
     pub fn mark(&self, id: u32, due: &mut Vec<bool>)
         ensures long { length due.new.items ≡ length due.old.items }
         ensures marked { AreMarked (λ k. ¬ Lists self.now id k) due.old.items due.new.items }
@@ -151,25 +193,38 @@ impl Readers {
     }
 }
 
-/// Marks the gate that drives a net, where one does.
+/// The number of the gate or the latch that drives a net.
+fn driver(net: &Net, id: NodeId) -> Option<usize>
+    requires { id.0 < net.now.raw.nets }
+    ensures { result ≡ driver_number net.now.raw id.0 }
+{
+    match net.source(id) {
+        Source::Gate(number) => Some(number as usize),
+        Source::Latch(number) => Some(net.gates().len() + number as usize),
+        Source::Input => None,
+        Source::Free => None,
+    }
+}
+
+/// Marks the gate or the latch that drives a net, where one does.
 fn mark_driver(net: &Net, id: NodeId, due: &mut Vec<bool>)
     requires { id.0 < net.now.raw.nets }
     ensures long { length due.new.items ≡ length due.old.items }
-    ensures marked { AreMarked (λ k. source_of net.now.raw id.0 ≢ source.Gate k)
+    ensures marked { AreMarked (λ k. driver_number net.now.raw id.0 ≢ Some k)
         due.old.items due.new.items }
 {
-    let Source::Gate(number) = net.source(id) else {
+    let Some(number) = driver(net, id) else {
         return;
     };
-    mark_one(due, number as usize);
+    mark_one(due, number);
 }
 
-/// Marks the gates that drive these nets.
+/// Marks the gates and latches that drive these nets.
 pub fn mark_drivers(net: &Net, ids: &[NodeId], due: &mut Vec<bool>)
     requires { All (λ node. node.0 < net.now.raw.nets) ids.now }
     ensures long { length due.new.items ≡ length due.old.items }
     ensures marked { AreMarked
-        (λ k. All (λ node. source_of net.now.raw node.0 ≢ source.Gate k) ids.now)
+        (λ k. All (λ node. driver_number net.now.raw node.0 ≢ Some k) ids.now)
         due.old.items due.new.items }
 {
     for node in ids {

@@ -8,12 +8,14 @@ ghost use Rattle.dual_rail.specs.Rail.{AreRefs, AreRails, Built, Whatever};
 ghost use Rattle.sym_step.specs.Step.{IsCutBy};
 ghost use Rattle.sym_step.specs.private.Boards.{Follows};
 ghost use Rattle.sym_step.specs.private.Frames.{AreOpen, HaveLatches, HaveOpen, IsOpened, StayRight};
+ghost use Rattle.sym_step.specs.private.Latches.{AreGiven, IsLatchSet};
 ghost use Rattle.sym_step.specs.private.NetSets.{AreNetRefs, HasNetSet};
 ghost use Rattle.sym_step.specs.private.Parts.{AreMarks, HaveSources, asks};
 
 use crate::board::Board;
 use crate::cut::Cut;
 use crate::cuts::cut_net;
+use crate::latches::LatchSet;
 use crate::net_rails::NetRails;
 use dd_nodes::Nodes;
 use dd_ops::{OpFault, Ops};
@@ -51,21 +53,17 @@ fn latch_source<N: Nodes>(
     cut_net(ops, nodes, cuts, marks, id, r)
 }
 
-/// Gives the latches' outputs their sets. `given` are the sets of the latches' inputs at the time before.
+/// Gives the outputs of these latches their sets; any other latch has its own already.
 fn latch_sources<N: Nodes>(
     ops: &Ops,
     nodes: &mut N,
     net: &Net,
-    latches: &[Rails],
-    given: &[NetRails],
+    latches: &[LatchSet],
     cuts: &[Cut],
     marks: &[bool],
     board: &mut Board,
 ) -> Result<(), OpFault>
-    requires long { length latches.now ≡ length net.now.raw.latches }
-    requires latches { All (AreRefs (N.store nodes.old)) latches.now }
-    requires given_long { length given.now ≡ length net.now.raw.latches }
-    requires given { All (AreNetRefs (N.store nodes.old)) given.now }
+    requires latches { All (IsLatchSet (N.store nodes.old) net.now.raw) latches.now }
     requires guards { All (λ c. IsRef (N.store nodes.old) c.guard) cuts.now }
     requires values { All (λ c. IsRef (N.store nodes.old) c.value) cuts.now }
     requires marked { length marks.now ≡ net.now.raw.nets }
@@ -76,14 +74,14 @@ fn latch_sources<N: Nodes>(
     ensures refs { OnOk result (All (AreNetRefs (N.store nodes.new)) board.new.nets.items) }
     ensures follows { OnOk result (Follows board.old board.new) }
     ensures built { (ls : List SymbolicSet) (ds : List SymbolicCut) (sets : ℕ → SymbolicSet)
-        → AllZip (AreRails (N.store nodes.old)) ls latches.now
+        → AreGiven (N.store nodes.old) net.now.raw ls sets latches.now board.old.nets.items
         → ArePossibleEach (N.store nodes.old).vars net.now.raw ls (asks ds) sets
         → AllZip (IsCutBy (N.store nodes.old)) ds cuts.now
         → Built (time_work net.now.raw ls (asks ds) sets) Whatever
         (N.store nodes.old) (N.store nodes.new) result }
     ensures have { OnOk result (
         (ls : List SymbolicSet) (ds : List SymbolicCut) (sets : ℕ → SymbolicSet)
-        → AllZip (AreRails (N.store nodes.old)) ls latches.now
+        → AreGiven (N.store nodes.old) net.now.raw ls sets latches.now board.old.nets.items
         → ArePossibleEach (N.store nodes.old).vars net.now.raw ls (asks ds) sets
         → AllZip (IsCutBy (N.store nodes.old)) ds cuts.now
         → HaveLatches net.now.raw sets (N.store nodes.new)
@@ -91,9 +89,10 @@ fn latch_sources<N: Nodes>(
         × StayRight sets (N.store nodes.old) board.old.nets.items
         (N.store nodes.new) board.new.nets.items) }
 {
-    for l in 0..latches.len() {
-        let id = net.latches()[l].output.0;
-        let r = latch_source(ops, nodes, cuts, marks, id, latches[l], given[l])?;
+    let _ = net;
+    for latch in latches {
+        let id = latch.output.0;
+        let r = latch_source(ops, nodes, cuts, marks, id, latch.rails, latch.given)?;
         board.put(id, r);
     }
     Ok(())
@@ -176,25 +175,21 @@ fn open_sources<N: Nodes>(
     Ok(())
 }
 
-/// Gives all nets that no gate drives their sets. `given` are the sets of the latches' inputs at the time before, `asked`
-/// are the nets that are cut now, and `before` those that were cut then; a net that nothing drives, and that is not among
-/// them, has both bits already.
+/// Gives all nets that no gate drives their sets. `latches` are the sets of the latches that do not have theirs yet,
+/// `asked` are the nets that are cut now, and `before` those that were cut at the time before; a net that nothing drives, and that is
+/// not among them, has both bits already.
 pub fn sources<N: Nodes>(
     ops: &Ops,
     nodes: &mut N,
     net: &Net,
-    latches: &[Rails],
-    given: &[NetRails],
+    latches: &[LatchSet],
     cuts: &[Cut],
     marks: &[bool],
     asked: &[NodeId],
     before: &[NodeId],
     board: &mut Board,
 ) -> Result<(), OpFault>
-    requires long { length latches.now ≡ length net.now.raw.latches }
-    requires latches { All (AreRefs (N.store nodes.old)) latches.now }
-    requires given_long { length given.now ≡ length net.now.raw.latches }
-    requires given { All (AreNetRefs (N.store nodes.old)) given.now }
+    requires latches { All (IsLatchSet (N.store nodes.old) net.now.raw) latches.now }
     requires guards { All (λ c. IsRef (N.store nodes.old) c.guard) cuts.now }
     requires values { All (λ c. IsRef (N.store nodes.old) c.value) cuts.now }
     requires marked { length marks.now ≡ net.now.raw.nets }
@@ -209,19 +204,19 @@ pub fn sources<N: Nodes>(
     ensures refs { OnOk result (All (AreNetRefs (N.store nodes.new)) board.new.nets.items) }
     ensures follows { OnOk result (Follows board.old board.new) }
     ensures built { (ls : List SymbolicSet) (ds : List SymbolicCut) (sets : ℕ → SymbolicSet)
-        → AllZip (AreRails (N.store nodes.old)) ls latches.now
+        → AreGiven (N.store nodes.old) net.now.raw ls sets latches.now board.old.nets.items
         → ArePossibleEach (N.store nodes.old).vars net.now.raw ls (asks ds) sets
         → AllZip (IsCutBy (N.store nodes.old)) ds cuts.now
         → Built (time_work net.now.raw ls (asks ds) sets) Whatever
         (N.store nodes.old) (N.store nodes.new) result }
     ensures have { OnOk result (
         (ls : List SymbolicSet) (ds : List SymbolicCut) (sets : ℕ → SymbolicSet)
-        → AllZip (AreRails (N.store nodes.old)) ls latches.now
+        → AreGiven (N.store nodes.old) net.now.raw ls sets latches.now board.old.nets.items
         → ArePossibleEach (N.store nodes.old).vars net.now.raw ls (asks ds) sets
         → AllZip (IsCutBy (N.store nodes.old)) ds cuts.now
         → HaveSources net.now.raw sets (N.store nodes.new) net.now.raw.nets board.new.nets.items) }
 {
-    latch_sources(ops, nodes, net, latches, given, cuts, marks, board)?;
+    latch_sources(ops, nodes, net, latches, cuts, marks, board)?;
     open_sources(ops, nodes, net, cuts, marks, before, board)?;
     open_sources(ops, nodes, net, cuts, marks, asked, board)
 }

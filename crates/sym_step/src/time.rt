@@ -3,21 +3,21 @@
 ghost use Rattle.std.specs.Prelude.{◌≡◌, ◌<◌, ◌∷◌, ◌++◌, [], ◌≤◌, ℕ, List, All, IfOk, None, OnOk, length, map};
 ghost use Rattle.std.specs.List.{AllZip};
 ghost use Rattle.dd_nodes.specs.Diagram.{Function};
-ghost use Rattle.dd_nodes.specs.Stores.{IsRef, Keeps, Means};
+ghost use Rattle.dd_nodes.specs.Stores.{Store, IsRef, Keeps, Means};
 ghost use Rattle.net_core.specs.Work.{ArePossibleEach, SymbolicSet, SymbolicAsked, disjunction, no_bit, some_bit, sum, sums, time_work};
 ghost use Rattle.dual_rail.specs.Rail.{AreRefs, AreRails, Built, HasFunction, Whatever};
 ghost use Rattle.sym_step.specs.Step.{IsCutOf, IsCutBy, IsPossibleStep, IsStep, rows_of};
 ghost use Rattle.sym_step.specs.private.Boards.{Follows};
 ghost use Rattle.sym_step.specs.private.Frames.{AreOpen, AreSpared, IsFrame, input_rails, next_of, nets_of, step_of};
+ghost use Rattle.sym_step.specs.private.Latches.{AreGiven, Begins, HaveMarks, IsLatchSet};
 ghost use Rattle.sym_step.specs.private.NetSets.{AreNetRails, AreNetRefs};
 ghost use Rattle.sym_step.specs.private.Parts.{AreMarks, HaveNets};
 
 use crate::board::Board;
 use crate::cut::Cut;
 use crate::cuts::marked;
-use crate::frame::{
-    Frame, asked_nets, clear, knows_full, latch_inputs, make_due, next_sets, own_sets,
-};
+use crate::frame::{Frame, asked_nets, clear, knows_full, make_due, own_sets};
+use crate::latches::{LatchSet, latch_sets};
 use crate::made::Step;
 use crate::net_rails::NetRails;
 use crate::place::place_gates;
@@ -26,7 +26,7 @@ use crate::source::sources;
 use dd_nodes::{Nodes, Ref};
 use dd_ops::{OpFault, Ops};
 use dual_rail::{Rails, either};
-use net_core::{Latch, Net};
+use net_core::Net;
 use std::alloc::{AllocError, Global};
 use ste_base::{Items, NodeId};
 
@@ -92,15 +92,15 @@ fn finished(alloc: Global, net: &Net, frame: &Frame, contradictory: Ref) -> Resu
     })
 }
 
-/// Gives all nets their sets: first those that no gate drives, and then the gates' outputs. `given` are the sets of the
-/// latches' inputs at the time before, `asked` are the nets that are cut, and `before` those that were cut then.
+/// Gives all nets their sets: first those that no gate drives, and then the gates' outputs. `latches` are the sets of the
+/// latches that do not have theirs yet, `asked` are the nets that are cut, and `before` those that were cut at the time
+/// before.
 fn set_nets<N: Nodes>(
     ops: &Ops,
     nodes: &mut N,
     net: &Net,
     rows: &GateRows,
-    latches: &[Rails],
-    given: &[NetRails],
+    latches: &[LatchSet],
     cuts: &[Cut],
     marks: &[bool],
     asked: &[NodeId],
@@ -109,10 +109,7 @@ fn set_nets<N: Nodes>(
     board: &mut Board,
 ) -> Result<(), OpFault>
     requires rows { rows.now.covers ≡ map rows_of net.now.raw.covers }
-    requires long { length latches.now ≡ length net.now.raw.latches }
-    requires latches { All (AreRefs (N.store nodes.old)) latches.now }
-    requires given_long { length given.now ≡ length net.now.raw.latches }
-    requires given { All (AreNetRefs (N.store nodes.old)) given.now }
+    requires latches { All (IsLatchSet (N.store nodes.old) net.now.raw) latches.now }
     requires guards { All (λ c. IsRef (N.store nodes.old) c.guard) cuts.now }
     requires values { All (λ c. IsRef (N.store nodes.old) c.value) cuts.now }
     requires marked { length marks.now ≡ net.now.raw.nets }
@@ -124,73 +121,96 @@ fn set_nets<N: Nodes>(
     requires room { All (λ gate. length gate.inputs < length products.old) net.now.raw.gates }
     requires nets { length board.old.nets.items ≡ net.now.raw.nets }
     requires refs { All (AreNetRefs (N.store nodes.old)) board.old.nets.items }
-    requires due { length board.old.due.items ≡ length net.now.raw.gates }
+    requires due { length net.now.raw.gates ≤ length board.old.due.items }
     requires spared { AreSpared (N.store nodes.old) net.now.raw asked.now board.old }
     ensures room { OnOk result (length products.new ≡ length products.old) }
     ensures refs { OnOk result (All (AreNetRefs (N.store nodes.new)) board.new.nets.items) }
     ensures follows { OnOk result (Follows board.old board.new) }
     ensures built { (ls : List SymbolicSet) (asked : SymbolicAsked) (sets : ℕ → SymbolicSet)
-        → AllZip (AreRails (N.store nodes.old)) ls latches.now
+        → AreGiven (N.store nodes.old) net.now.raw ls sets latches.now board.old.nets.items
         → AllZip (IsCutBy (N.store nodes.old)) asked.cuts cuts.now
         → ArePossibleEach (N.store nodes.old).vars net.now.raw ls asked sets
         → Built (time_work net.now.raw ls asked sets) Whatever
         (N.store nodes.old) (N.store nodes.new) result }
     ensures have { OnOk result (
         (ls : List SymbolicSet) (asked : SymbolicAsked) (sets : ℕ → SymbolicSet)
-        → AllZip (AreRails (N.store nodes.old)) ls latches.now
+        → AreGiven (N.store nodes.old) net.now.raw ls sets latches.now board.old.nets.items
         → AllZip (IsCutBy (N.store nodes.old)) asked.cuts cuts.now
         → ArePossibleEach (N.store nodes.old).vars net.now.raw ls asked sets
         → HaveNets net.now.raw sets (N.store nodes.new) board.new.nets.items) }
 {
-    sources(
-        ops, nodes, net, latches, given, cuts, marks, asked, before, board,
-    )?;
+    sources(ops, nodes, net, latches, cuts, marks, asked, before, board)?;
     place_gates(ops, nodes, net, rows, cuts, marks, products, board)
 }
 
-/// Gives all nets of a frame their sets.
+/// Begins a time: the gates and latches whose outputs are cut now or were before are due, and the result is the sets of the
+/// latches that do not have theirs yet. `marks` has a mark at each net that is cut, and `asked` are these nets. The frame is
+/// then no longer before a first time.
+fn begin_time(
+    alloc: Global,
+    net: &Net,
+    marks: &[bool],
+    asked: &[NodeId],
+    frame: &mut Frame,
+) -> Result<Vec<LatchSet>, AllocError>
+    requires marked { length marks.now ≡ net.now.raw.nets }
+    requires marks { HaveMarks asked.now marks.now }
+    requires asked { All (λ node. node.0 < net.now.raw.nets) asked.now }
+    requires frame { (s : Store) × IsFrame s net.now.raw frame.old }
+    ensures begins { OnOk result ((s : Store) → IsFrame s net.now.raw frame.old
+        → Begins s net.now.raw asked.now frame.new) }
+    ensures held { IfOk result (λ sets. (s : Store) → IsFrame s net.now.raw frame.old
+        → All (IsLatchSet s net.now.raw) sets.items) }
+    ensures given { IfOk result (λ sets.
+        (s : Store) (ls : List SymbolicSet) (demands : SymbolicAsked) (family : ℕ → SymbolicSet)
+        (cuts : List Cut) → IsFrame s net.now.raw frame.old → asked.now ≡ map (λ c. c.node) cuts
+        → AllZip (AreRails s) ls (next_of net.now.raw frame.old)
+        → AllZip (IsCutBy s) demands.cuts cuts
+        → ArePossibleEach s.vars net.now.raw ls demands family
+        → AreGiven s net.now.raw ls family sets.items frame.new.board.nets.items) }
+    ensures first { OnOk result (frame.new.first ≡ None) }
+{
+    make_due(alloc, net, asked, frame)?;
+    latch_sets(alloc, net, marks, frame)
+}
+
+/// Gives all nets of a frame their sets. The marks of latches stay for the next time.
 fn renew_frame<N: Nodes>(
     alloc: Global,
     ops: &Ops,
     nodes: &mut N,
     net: &Net,
     rows: &GateRows,
-    latches: &[Rails],
     cuts: &[Cut],
     frame: &mut Frame,
 ) -> Result<(), OpFault>
     requires rows { rows.now.covers ≡ map rows_of net.now.raw.covers }
-    requires long { length latches.now ≡ length net.now.raw.latches }
-    requires latches { All (AreRefs (N.store nodes.old)) latches.now }
     requires cuts { All (IsCutOf (N.store nodes.old) net.now.raw) cuts.now }
     requires frame { IsFrame (N.store nodes.old) net.now.raw frame.old }
-    requires first { frame.old.first ≡ None }
     ensures frame { OnOk result (IsFrame (N.store nodes.new) net.now.raw frame.new) }
     ensures first { OnOk result (frame.new.first ≡ None) }
     ensures built { (ls : List SymbolicSet) (asked : SymbolicAsked) (sets : ℕ → SymbolicSet)
-        → AllZip (AreRails (N.store nodes.old)) ls latches.now
+        → AllZip (AreRails (N.store nodes.old)) ls (next_of net.now.raw frame.old)
         → AllZip (IsCutBy (N.store nodes.old)) asked.cuts cuts.now
         → ArePossibleEach (N.store nodes.old).vars net.now.raw ls asked sets
         → Built (time_work net.now.raw ls asked sets) Whatever
         (N.store nodes.old) (N.store nodes.new) result }
     ensures have { OnOk result (
         (ls : List SymbolicSet) (asked : SymbolicAsked) (sets : ℕ → SymbolicSet)
-        → AllZip (AreRails (N.store nodes.old)) ls latches.now
+        → AllZip (AreRails (N.store nodes.old)) ls (next_of net.now.raw frame.old)
         → AllZip (IsCutBy (N.store nodes.old)) asked.cuts cuts.now
         → ArePossibleEach (N.store nodes.old).vars net.now.raw ls asked sets
         → HaveNets net.now.raw sets (N.store nodes.new) frame.new.board.nets.items) }
 {
     let marks = marked(alloc, cuts, net.nets())?;
     let asked = asked_nets(alloc, cuts)?;
-    make_due(alloc, net, &asked, frame)?;
-    let given = latch_inputs(alloc, &frame.board.nets, net.latches())?;
+    let latches = begin_time(alloc, net, &marks, &asked, frame)?;
     set_nets(
         ops,
         nodes,
         net,
         rows,
-        latches,
-        &given,
+        &latches,
         cuts,
         &marks,
         &asked,
@@ -198,40 +218,37 @@ fn renew_frame<N: Nodes>(
         &mut frame.products,
         &mut frame.board,
     )?;
-    clear(&mut frame.board.due);
+    clear(&mut frame.board.due, net.gates().len());
     frame.asked = asked;
     frame.begun = true;
     Ok(())
 }
 
-/// The sets of one time in the frame, and where some net is empty, by the work functions of one time.
+/// The sets of one time in the frame, and where some net is empty, by the work functions of one time. The frame is then no
+/// longer before a first time.
 fn time_at<N: Nodes>(
     alloc: Global,
     ops: &Ops,
     nodes: &mut N,
     net: &Net,
     rows: &GateRows,
-    latches: &[Rails],
     cuts: &[Cut],
     frame: &mut Frame,
 ) -> Result<Ref, OpFault>
     requires rows { rows.now.covers ≡ map rows_of net.now.raw.covers }
-    requires long { length latches.now ≡ length net.now.raw.latches }
-    requires latches { All (AreRefs (N.store nodes.old)) latches.now }
     requires cuts { All (IsCutOf (N.store nodes.old) net.now.raw) cuts.now }
     requires frame { IsFrame (N.store nodes.old) net.now.raw frame.old }
-    requires first { frame.old.first ≡ None }
     ensures frame { OnOk result (IsFrame (N.store nodes.new) net.now.raw frame.new) }
     ensures first { OnOk result (frame.new.first ≡ None) }
     ensures built { (ls : List SymbolicSet) (asked : SymbolicAsked) (sets : ℕ → SymbolicSet)
-        → AllZip (AreRails (N.store nodes.old)) ls latches.now
+        → AllZip (AreRails (N.store nodes.old)) ls (next_of net.now.raw frame.old)
         → AllZip (IsCutBy (N.store nodes.old)) asked.cuts cuts.now
         → ArePossibleEach (N.store nodes.old).vars net.now.raw ls asked sets
         → Built (time_work net.now.raw ls asked sets)
         (λ t r. IsStep net.now.raw sets t (step_of net.now.raw frame.new r))
         (N.store nodes.old) (N.store nodes.new) result }
 {
-    renew_frame(alloc, ops, nodes, net, rows, latches, cuts, frame)?;
+    renew_frame(alloc, ops, nodes, net, rows, cuts, frame)?;
     frame.board.full = knows_full(frame.board.full, &frame.board.nets);
     if frame.board.full {
         return Ok(Ref::FALSE);
@@ -264,8 +281,8 @@ fn made_at<N: Nodes>(
         → Built (time_work net.now.raw ls asked sets) (IsStep net.now.raw sets)
         (N.store nodes.old) (N.store nodes.new) result }
 {
-    frame.first = None;
-    let contradictory = time_at(alloc, ops, nodes, net, rows, latches, cuts, frame)?;
+    frame.first = Some(Items::from(latches.to_vec(alloc)?));
+    let contradictory = time_at(alloc, ops, nodes, net, rows, cuts, frame)?;
     let made = finished(alloc, net, frame, contradictory)?;
     Ok(made)
 }
@@ -298,17 +315,7 @@ pub fn renew<N: Nodes>(
         (N.store nodes.old) (N.store nodes.new) result }
     ensures frame { OnOk result (IsFrame (N.store nodes.new) net.now.raw frame.new) }
 {
-    let latches = next_sets(alloc, net, frame)?;
-    time_at(
-        alloc,
-        ops,
-        nodes,
-        net,
-        rows,
-        latches.as_slice(),
-        cuts,
-        frame,
-    )
+    time_at(alloc, ops, nodes, net, rows, cuts, frame)
 }
 
 /// The possible sets of one time for every assignment at once, where some set is empty, and the next latch sets, from

@@ -9,8 +9,8 @@ use Rattle.sym_step.specs.private.Readers.{Lists, flag_at}
 abbrev pub AreFull : List NetRails → Type 0
 AreFull nets = All (λ r. r.some ≡ record { 0 = 1 }) nets
 
--- What writes leave: a gate that is not due afterwards was not due before, and each net in whose list it stands has the
--- references of before.
+-- What writes leave: a gate or a latch that is not due afterwards was not due before, and each net in whose list it stands
+-- has the references of before.
 pub record Follows (old new : Board) : Type 0 where
   pub long : length new.nets.items ≡ length old.nets.items
   pub marks : length new.due.items ≡ length old.due.items

@@ -1,5 +1,5 @@
 -- For private functions. What is kept of one time for the next.
-use Rattle.std.specs.Prelude.{◌≡◌, ◌⊎◌, ◌<◌, ◌==◌, All, Bool, true, false, IsTrue, ℕ, List, Option, None, Some, length, map, slice_index_or}
+use Rattle.std.specs.Prelude.{◌≡◌, ◌⊎◌, ◌<◌, ◌+◌, ◌==◌, All, Bool, true, false, IsTrue, ℕ, List, Option, None, Some, length, map, slice_index_or}
 use Rattle.std.specs.List.{list_any}
 use Rattle.ste_base.specs.declared.id.NodeId.{NodeId}
 use Rattle.dd_nodes.specs.declared.node.Ref.{Ref}
@@ -18,7 +18,7 @@ use Rattle.sym_step.specs.declared.made.Step.{Step}
 use Rattle.sym_step.specs.declared.net_rails.NetRails.{NetRails}
 use Rattle.sym_step.specs.declared.board.Board.{Board}
 use Rattle.sym_step.specs.private.Boards.{AreFull}
-use Rattle.sym_step.specs.private.Readers.{AreReaders, ReadsAs, flag_at}
+use Rattle.sym_step.specs.private.Readers.{AreReaders, IsBetween, ReadsAs, flag_at}
 use Rattle.sym_step.specs.private.NetSets.{AreNetRails, AreNetRefs, HaveInputs, net_at}
 
 -- the gate's output has the set that the gate gives, whatever sets its inputs have
@@ -100,23 +100,39 @@ abbrev pub AreSpared : Store → RawNet → List NodeId → Board → Type 0
 AreSpared s net asked board =
     (k : ℕ) (d : Gate) → k < length net.gates → flag_at board.due.items k ≡ false → IsSpared s net asked board k (slice_index_or net.gates k d)
 
--- the lists of a frame are made, where some gate is not due
+-- the number of marks: one for each gate, and behind these one for each latch
+abbrev pub mark_count : RawNet → ℕ
+mark_count net = length net.gates + length net.latches
+
+-- a latch that is not due: its output is not cut, and has the references of its input, and it stands in its lists
+pub record IsCarried (asked : List NodeId) (board : Board) (k : ℕ) (latch : Latch) : Type 0 where
+  pub uncut : is_listed asked latch.output.0 ≡ false
+  pub same : net_at board.nets.items latch.output.0 ≡ net_at board.nets.items latch.input.0
+  pub between : IsBetween board.readers k latch
+
+abbrev pub AreCarried : RawNet → List NodeId → Board → Type 0
+AreCarried net asked board =
+    (k : ℕ) (d : Latch) → k < length net.latches → flag_at board.due.items (length net.gates + k) ≡ false → IsCarried asked board (length net.gates + k) (slice_index_or net.latches k d)
+
+-- the lists of a frame are made, where some gate or latch is not due
 abbrev pub AreReady : RawNet → Frame → Type 0
 AreReady net frame =
-    (k : ℕ) → k < length net.gates → flag_at frame.board.due.items k ≡ false → AreReaders net frame.board.readers
+    (k : ℕ) → k < mark_count net → flag_at frame.board.due.items k ≡ false → AreReaders net frame.board.readers
 
--- A frame of a time: each net has references that are held, and a gate that is not due and whose output was not cut has
--- given it its set. Before any time all gates are due.
+-- A frame of a time: each net has references that are held, a gate that is not due and whose output was not cut has given it
+-- its set, and the output of such a latch has the references of its input. Before any time all gates and latches are due.
 pub record IsFrame (s : Store) (net : RawNet) (frame : Frame) : Type 0 where
   pub long : length frame.board.nets.items ≡ net.nets
   pub refs : All (AreNetRefs s) frame.board.nets.items
   pub full : IsTrue frame.board.full → AreFull frame.board.nets.items
-  pub due : length frame.board.due.items ≡ length net.gates
+  pub due : length frame.board.due.items ≡ mark_count net
   pub room : All (λ gate. length gate.inputs < length frame.products.items) net.gates
   pub inside : All (λ node. node.0 < net.nets) frame.asked.items
   pub undriven : AreOpen s net frame.asked.items frame.board.nets.items
   pub first : (sets : List Rails) → frame.first ≡ Some sets → AreFirst s net sets
-  pub blank : frame.begun ≡ false → (k : ℕ) → k < length net.gates → flag_at frame.board.due.items k ≡ true
+  pub blank : frame.begun ≡ false → (k : ℕ) → k < mark_count net → flag_at frame.board.due.items k ≡ true
   pub lists : IsTrue frame.listed → AreReaders net frame.board.readers
   pub kept : (k : ℕ) (d : Gate) → k < length net.gates → flag_at frame.board.due.items k ≡ false → is_listed frame.asked.items (slice_index_or net.gates k d).output.0 ≡ false
       → IsGiven s net frame.board.nets.items (slice_index_or net.gates k d)
+  pub carried : (k : ℕ) (d : Latch) → k < length net.latches → flag_at frame.board.due.items (length net.gates + k) ≡ false → is_listed frame.asked.items (slice_index_or net.latches k d).output.0 ≡ false
+      → net_at frame.board.nets.items (slice_index_or net.latches k d).output.0 ≡ net_at frame.board.nets.items (slice_index_or net.latches k d).input.0

@@ -1,7 +1,11 @@
--- For private functions. Which gates look at a net, and marks for them.
-use Rattle.std.specs.Prelude.{◌≡◌, ◌≢◌, ◌<◌, ◌≤◌, All, Bool, false, ℕ, zero, suc, List, length, slice_index_or}
+-- For private functions. Which gates and latches look at a net, and marks for them.
+use Rattle.std.specs.Prelude.{◌≡◌, ◌≢◌, ◌<◌, ◌≤◌, ◌+◌, All, Bool, false, ℕ, zero, suc, List, Option, None, Some, length, slice_index_or}
 use Rattle.net_core.specs.declared.raw.Gate.{Gate}
+use Rattle.net_core.specs.declared.raw.Latch.{Latch}
 use Rattle.net_core.specs.declared.raw.RawNet.{RawNet}
+use Rattle.net_core.specs.declared.source.Source.{Source}
+use Rattle.net_core.specs.declared.source.Source.TheVariants.{Input, Free, Gate as OfGate, Latch as OfLatch}
+use Rattle.net_core.specs.Source.{source_of}
 use Rattle.sym_step.specs.declared.readers.Readers.{Readers}
 use Rattle.sym_step.specs.declared.readers.Slot.{Slot}
 
@@ -56,6 +60,31 @@ pub record ReadsAs (readers : Readers) (k : ℕ) (gate : Gate) : Type 0 where
   pub inputs : All (λ input. Lists readers input.0 k) gate.inputs
   pub output : Lists readers gate.output.0 k
 
+-- the latch of this number stands in the lists of its input and of its output
+pub record IsBetween (readers : Readers) (k : ℕ) (latch : Latch) : Type 0 where
+  pub input : Lists readers latch.input.0 k
+  pub output : Lists readers latch.output.0 k
+
 -- each gate stands in the lists of its inputs and of its output
-abbrev pub AreReaders : RawNet → Readers → Type 0
-AreReaders net readers = (k : ℕ) (d : Gate) → k < length net.gates → ReadsAs readers k (slice_index_or net.gates k d)
+abbrev pub AreGates : RawNet → Readers → Type 0
+AreGates net readers = (k : ℕ) (d : Gate) → k < length net.gates → ReadsAs readers k (slice_index_or net.gates k d)
+
+-- each latch does, by its number behind those of the gates
+abbrev pub AreLatches : RawNet → Readers → Type 0
+AreLatches net readers = (k : ℕ) (d : Latch) → k < length net.latches → IsBetween readers (length net.gates + k) (slice_index_or net.latches k d)
+
+-- the lists of a net
+pub record AreReaders (net : RawNet) (readers : Readers) : Type 0 where
+  pub gates : AreGates net readers
+  pub latches : AreLatches net readers
+
+-- the number of a gate, or of a latch behind those of the gates
+abbrev pub number_of : RawNet → Source → Option ℕ
+number_of net (OfGate k) = Some k
+number_of net (OfLatch l) = Some (length net.gates + l)
+number_of net Input = None
+number_of net Free = None
+
+-- the number of what drives a net
+abbrev pub driver_number : RawNet → ℕ → Option ℕ
+driver_number net id = number_of net (source_of net id)

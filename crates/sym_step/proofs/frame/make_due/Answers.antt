@@ -1,10 +1,9 @@
-use Rattle.std.proofs.Common.{◌≢◌, ◌<◌, List, All, ap, arith, subst, sym, ◌∙◌}
+use Rattle.std.proofs.Common.{◌≢◌, ◌<◌, List, Some, All, ap, arith, subst, sym, ◌∙◌}
 use Rattle.ste_base.specs.declared.id.NodeId.{NodeId}
-use Rattle.net_core.specs.Source.{source_of}
-use Rattle.net_core.specs.declared.source.Source.TheVariants.{Gate as OfGate}
 use Rattle.sym_step.specs.declared.frame.Frame.{Frame}
-use Rattle.sym_step.specs.private.Readers.{AreMarked}
+use Rattle.sym_step.specs.private.Readers.{AreMarked, driver_number}
 use Rattle.sym_step.proofs.Framing.{all_spared, with_due}
+use Rattle.sym_step.proofs.Latched.{all_carried}
 use Rattle.sym_step.proofs.frame.make_due.Goals as goal
 
 pub mark_drivers-requires : goal.mark_drivers-requires
@@ -19,7 +18,8 @@ returns-clause-frame c = λ s f.
     let due = c.mark_drivers-2.new.due in
     let m = c.mark_drivers.ensures in
     let q = c.mark_drivers-2.ensures in
-    let before = subst (λ (ids : List NodeId). AreMarked (λ k. All (λ node. source_of net.raw node.0 ≢ OfGate k) ids) frame.board.due.items mid.items) c.as_slice-before.ensures.value m.marked in (
+    let before = subst (λ (ids : List NodeId). AreMarked (λ k. All (λ node. driver_number net.raw node.0 ≢ Some k) ids) frame.board.due.items mid.items) c.as_slice-before.ensures.value m.marked in (
       with_due s net.raw frame due (q.long ∙ m.long) (λ k lt none. (m.marked k lt (q.marked k (omega (arith, m.long, lt)) none).0).0) p.0,
       all_spared s net.raw frame c.args.asked.now mid due net.one_driver p.0 p.1 m.long before q.marked,
+      all_carried s net.raw frame c.args.asked.now mid due net.one_driver p.0 p.1 m.long before q.marked,
     )

@@ -1,4 +1,4 @@
-use Rattle.std.proofs.Common.{◌≡◌, ◌+◌, ◌<◌, List, length, map, All, ℕ, ◌++◌, refl, sym, ◌∙◌, ap, subst, arith, get_or, Ok, Err, Result, false}
+use Rattle.std.proofs.Common.{◌≡◌, ◌+◌, ◌<◌, ◌≤◌, List, length, map, All, ℕ, ◌++◌, refl, sym, ◌∙◌, ap, subst, arith, get_or, Ok, Err, Result, false}
 use Rattle.sym_step.specs.private.Parts.{asks}
 use Rattle.std.specs.List.{AllZip}
 use Rattle.dd_nodes.specs.Diagram.{Function}
@@ -61,9 +61,9 @@ renew-requires-clause-number g c =
     let n = c.loop-number.number-index in
     let within : n < length net.settled = let same = ap length c.settled-number-items.ensures.same in omega (arith, same, c.loop-number-test.true) in
     let known = net.in_order.gates n 0 within in
-    let due : length c.loop-number.board.due.items ≡ length net.raw.gates = c.loop-number.invariant.follows.marks ∙ c.requires.due in
+    let due : length net.raw.gates ≤ length c.loop-number.board.due.items = subst (λ (m : ℕ). length net.raw.gates ≤ m) (sym c.loop-number.invariant.follows.marks) c.requires.due in
     let same_number : get_or net.settled n 0 ≡ get_or c.settled-number-items.result.now n 0 = ap (λ (xs : List ℕ). get_or xs n 0) (sym c.settled-number-items.ensures.same) in
-    subst (λ (k : ℕ). k < length c.loop-number.board.due.items) same_number (subst (λ (m : ℕ). get_or net.settled n 0 < m) (sym due) known)
+    subst (λ (k : ℕ). k < length c.loop-number.board.due.items) same_number (omega (arith, known, due))
 
 pub loop-number-preserved : goal.loop-number-preserved
 loop-number-preserved g c =
@@ -107,7 +107,7 @@ loop-number-preserved g c =
       keeps = ksu;
       refs = subst (All (AreNetRefs u)) (sym p.nets) (set_refs u nets out r at (All-net-refs-keep t u nets gt gu ktu inv.refs) (refs_of_net u _ r own_set));
       follows = follows_then c.args.board.now c.loop-number.board c.renew.new.board inv.follows p.follows;
-      spared = spared_follows u net.raw nodes c.loop-number.board c.renew.new.board (inv.follows.marks ∙ c.requires.due) p.follows (spared_keeps t u net.raw nodes c.loop-number.board net.in_range size gt gu ktu inv.refs inv.spared);
+      spared = spared_follows u net.raw nodes c.loop-number.board c.renew.new.board (subst (λ (m : ℕ). length net.raw.gates ≤ m) (sym inv.follows.marks) c.requires.due) p.follows (spared_keeps t u net.raw nodes c.loop-number.board net.in_range size gt gu ktu inv.refs inv.spared);
       so = λ ls ds sets long family zip have.
           let q = inv.so ls ds sets long family zip have in
           let b = place_turn net.raw net.settled net.in_range net.one_driver net.in_order ls ds sets long s t u cuts nets n (get_or net.settled n 0) gate (Ok c.in_ok-renew.field-0) gs gt gu family zip q.0 q.1 within refl is p.built in

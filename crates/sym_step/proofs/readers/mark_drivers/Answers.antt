@@ -1,15 +1,14 @@
-use Rattle.std.proofs.Common.{◌≢◌, ◌<◌, ℕ, List, All, arith, length, subst, ◌∙◌}
+use Rattle.std.proofs.Common.{◌≢◌, ◌<◌, ℕ, List, All, Some, arith, length, subst, ◌∙◌}
 use Rattle.std.proofs.lemmas.List.{take_all}
 use Rattle.ste_base.specs.declared.id.NodeId.{NodeId}
-use Rattle.net_core.specs.Source.{source_of}
+use Rattle.sym_step.specs.private.Readers.{driver_number}
 use Rattle.net_core.specs.declared.raw.RawNet.{RawNet}
-use Rattle.net_core.specs.declared.source.Source.TheVariants.{Gate as OfGate}
 use Rattle.sym_step.specs.private.Readers.{AreMarked}
 use Rattle.sym_step.proofs.Reading.{marked_more}
 use Rattle.sym_step.proofs.readers.mark_drivers.Goals as goal
 
 abbrev IsOther : RawNet → ℕ → NodeId → Type 0
-IsOther net k node = source_of net node.0 ≢ OfGate k
+IsOther net k node = driver_number net node.0 ≢ Some k
 
 pub loop-node-preserved : goal.loop-node-preserved
 loop-node-preserved c =

@@ -1,4 +1,4 @@
-use Rattle.std.proofs.Common.{◌<◌, List, map, length, All, ℕ, ◌∙◌, ap, arith, Ok, Err, subst, sym}
+use Rattle.std.proofs.Common.{◌<◌, List, map, length, All, ℕ, ◌∙◌, arith, Ok, Err, subst, sym}
 use Rattle.sym_step.specs.private.Parts.{asks}
 use Rattle.sym_step.specs.private.Frames.{StayRight}
 use Rattle.sym_step.specs.private.NetSets.{AreNetRails, AreNetRefs, HasNetSet, net_at}
@@ -6,22 +6,22 @@ use Rattle.dd_nodes.specs.Diagram.{Function}
 use Rattle.dd_nodes.specs.Stores.{Store, IsRef, function}
 use Rattle.dd_nodes.proofs.Walks.{IsFrom-grows}
 use Rattle.net_core.specs.Work.{SymbolicSet, after_cuts, cuts_work}
-use Rattle.dual_rail.specs.declared.rails.Rails.{Rails}
 use Rattle.dual_rail.specs.Rail.{Built, Whatever}
 use Rattle.dual_rail.proofs.Works.{Built-made, So-start, set_where, more, pass}
 use Rattle.dd_nodes.proofs.Stores.{Keeps-refl, Keeps-trans}
 use Rattle.sym_step.specs.declared.cut.Cut.{Cut}
-use Rattle.net_core.specs.Work.{everything, uncut, time_work}
-use Rattle.net_core.specs.declared.raw.Latch.{Latch}
-use Rattle.net_core.specs.declared.raw.Init.TheVariants.{Zero}
-use Rattle.dual_rail.proofs.Works.{own_set}
+use Rattle.net_core.specs.Work.{uncut, time_work}
+use Rattle.sym_step.specs.declared.latches.LatchSet.{LatchSet}
+use Rattle.sym_step.specs.private.Latches.{HaveLatchSets}
+use Rattle.sym_step.proofs.Latched.{all_latches}
+use Rattle.dual_rail.proofs.Works.{Rails-keep, own_set}
 use Rattle.std.proofs.lemmas.List.{get_or_default}
 use Rattle.std.proofs.Common.{◌≡◌, get_or, false}
 use Rattle.sym_step.proofs.NetRefs.{Net-refs-keep, refs_of_net}
-use Rattle.dual_rail.proofs.Turns.{zip_at, zip_long, Refs-keep, Zip-keep}
+use Rattle.dual_rail.proofs.Turns.{Refs-keep}
 use Rattle.sym_step.proofs.Cutting.{Demands-keep}
 use Rattle.sym_step.proofs.Reading.{follows_start, follows_then}
-use Rattle.sym_step.proofs.Opened.{here_put, latch_before, latches_next, set_is, stay_put, stay_start, stay_then}
+use Rattle.sym_step.proofs.Opened.{here_put, latches_next, set_is, stay_put, stay_start, stay_then}
 use Rattle.sym_step.proofs.Sourced.{cuts_within}
 use Rattle.sym_step.specs.declared.net_rails.NetRails.{NetRails}
 use Rattle.sym_step.proofs.NetRefs.{All-net-refs-keep}
@@ -33,125 +33,123 @@ use Rattle.sym_step.proofs.Cutting.{own_demands}
 use Rattle.std.proofs.Common.{◌∷◌}
 use Rattle.sym_step.proofs.source.latch_sources.Goals as goal
 
+abbrev no_set : LatchSet
+no_set = record {
+  output = record { 0 = 0 };
+  rails = record { can0 = record { 0 = 0 }; can1 = record { 0 = 0 } };
+  given = record { can0 = record { 0 = 0 }; can1 = record { 0 = 0 }; some = record { 0 = 0 }; known = false };
+}
+
 pub latch_source-requires-clause-given : goal.latch_source-requires-clause-given
 latch_source-requires-clause-given g c =
     let s : Store = g.N.Nodes.store c.args.nodes.now in
-    let t : Store = g.N.Nodes.store c.loop-l.nodes in
-    let l = c.loop-l.l in
-    let within : l < length c.args.latches.now = omega (arith, c.loop-l-test.true) in
-    let none : NetRails = record { can0 = record { 0 = 0 }; can1 = record { 0 = 0 }; some = record { 0 = 0 }; known = false } in
-    Net-refs-keep s t (get_or c.args.given.now l none) (g.met.N.Nodes.diagram c.args.nodes.now) (g.met.N.Nodes.diagram c.loop-l.nodes) c.loop-l.invariant.keeps
-    (c.requires.given l none (subst (λ n. l < n) (c.requires.long ∙ sym c.requires.given_long) within))
+    let t : Store = g.N.Nodes.store c.loop-latch.nodes in
+    let n = c.loop-latch.latch-index in
+    let within : n < length c.args.latches.now = omega (arith, c.loop-latch-test.true) in
+    Net-refs-keep s t (get_or c.args.latches.now n no_set).given (g.met.N.Nodes.diagram c.args.nodes.now) (g.met.N.Nodes.diagram c.loop-latch.nodes) c.loop-latch.invariant.keeps
+    (c.requires.latches n no_set within).given
 
-pub loop-l-preserved : goal.loop-l-preserved
-loop-l-preserved g c =
+pub loop-latch-preserved : goal.loop-latch-preserved
+loop-latch-preserved g c =
     let s : Store = g.N.Nodes.store c.args.nodes.now in
-    let t : Store = g.N.Nodes.store c.loop-l.nodes in
+    let t : Store = g.N.Nodes.store c.loop-latch.nodes in
     let u : Store = g.N.Nodes.store c.latch_source.new.nodes in
     let gs = g.met.N.Nodes.diagram c.args.nodes.now in
-    let gt = g.met.N.Nodes.diagram c.loop-l.nodes in
+    let gt = g.met.N.Nodes.diagram c.loop-latch.nodes in
     let gu = g.met.N.Nodes.diagram c.latch_source.new.nodes in
     let net = c.args.net.now in
     let cuts : List Cut = c.args.cuts.now in
-    let latches : List Rails = c.args.latches.now in
-    let nets : List NetRails = c.loop-l.board.nets.items in
-    let l = c.loop-l.l in
-    let inv = c.loop-l.invariant in
+    let latches : List LatchSet = c.args.latches.now in
+    let nets : List NetRails = c.loop-latch.board.nets.items in
+    let n = c.loop-latch.latch-index in
+    let inv = c.loop-latch.invariant in
     let kst = inv.keeps in
-    let within : l < length latches = omega (arith, c.loop-l-test.true) in
-    let inside : l < length net.raw.latches = subst (λ n. l < n) c.requires.long within in
-    let zeroth : Latch = record { input = record { 0 = 0 }; output = record { 0 = 0 }; init = Zero } in
-    let latch : Latch = get_or c.latches.result.now l zeroth in
-    let is : latch ≡ get_or net.raw.latches l latch = ap (λ (xs : List Latch). get_or xs l zeroth) c.latches.ensures ∙ get_or_default net.raw.latches l zeroth latch inside in
+    let within : n < length latches = omega (arith, c.loop-latch-test.true) in
+    let latch : LatchSet = get_or latches n no_set in
+    let is : latch ≡ get_or latches n latch = get_or_default latches n no_set latch within in
     let id : ℕ = latch.output.0 in
-    let rails : Rails = get_or latches l (record { can0 = record { 0 = 0 }; can1 = record { 0 = 0 } }) in
-    let out : id < net.raw.nets = subst (λ (x : Latch). x.output.0 < net.raw.nets) (sym is) (net.in_range.latch_outputs l latch inside) in
+    let out : id < net.raw.nets = (c.requires.latches n no_set within).output in
     let r = c.in_ok-r.r in
     let size = inv.follows.long ∙ c.requires.nets in
     let at : id < length nets = subst (λ n. id < n) (sym size) out in
     let hg : All (λ c. IsRef t c.guard) cuts = λ i d l. IsFrom-grows s.held t.held 0 _ kst.grows (c.requires.guards i d l) in
     let hv : All (λ c. IsRef t c.value) cuts = λ i d l. IsFrom-grows s.held t.held 0 _ kst.grows (c.requires.values i d l) in
-    let own_call = c.in_ok-r.ensures (map (λ (x : Cut). record { node = x.node.0; guard = function t x.guard; value = function t x.value }) cuts) (λ k. set_where t rails) (own_demands t cuts hg hv) (own_set t rails (Refs-keep s t rails kst (c.requires.latches l _ within))) in
+    let own_call = c.in_ok-r.ensures (map (λ (x : Cut). record { node = x.node.0; guard = function t x.guard; value = function t x.value }) cuts) (λ k. set_where t latch.rails) (own_demands t cuts hg hv) (own_set t latch.rails (Refs-keep s t latch.rails kst (c.requires.latches n no_set within).rails)) in
     let ktu = own_call.spends.keeps in
     let ksu = Keeps-trans s t u kst ktu in
     let p = c.put.ensures in
     record {
       keeps = ksu;
       refs = subst (All (AreNetRefs u)) (sym p.nets) (set_refs u nets id r at (All-net-refs-keep t u nets gt gu ktu inv.refs) (refs_of_net u _ r own_call.ok));
-      follows = follows_then c.args.board.now c.loop-l.board c.put.new.self inv.follows p.follows;
-      so = λ ls ds sets zip family asked.
-          let q = inv.so ls ds sets zip family asked in
+      follows = follows_then c.args.board.now c.loop-latch.board c.put.new.self inv.follows p.follows;
+      so = λ ls ds sets given family asked.
+          let q = inv.so ls ds sets given family asked in
           let work : List Function = time_work net.raw ls (asks ds) sets in
           let before : ℕ → SymbolicSet = uncut net.raw ls sets in
           let w : SymbolicSet = after_cuts ds before id in
-          let long : length ls ≡ length net.raw.latches = zip_long (AreRails s) ls latches zip ∙ c.requires.long in
-          let before_is : before id ≡ get_or ls l everything = ap (λ (x : Latch). before x.output.0) is ∙ latch_before net.raw net.one_driver ls sets l latch inside in
-          let held : AreRails t (before id) rails = subst (λ (x : SymbolicSet). AreRails t x rails) (sym before_is) (zip_at (AreRails t) ls latches l everything _ (Zip-keep s t ls latches gs gt kst zip) within) in
-          let covers = with_some net.raw net.settled net.in_range net.one_driver net.in_order ls ds sets long t.vars id (cuts_work ds before) (subst (λ v. ArePossibleEach v net.raw ls (asks ds) sets) (sym kst.vars) family) out (cuts_within net.raw ls ds sets) in
+          let held : AreRails t (before id) latch.rails = Rails-keep s t (before id) latch.rails gs gt kst (given.rails n no_set within) in
+          let covers = with_some net.raw net.settled net.in_range net.one_driver net.in_order ls ds sets given.long t.vars id (cuts_work ds before) (subst (λ v. ArePossibleEach v net.raw ls (asks ds) sets) (sym kst.vars) family) out (cuts_within net.raw ls ds sets) in
           let good : Store → NetRails → Type 0 = HasNetSet w in
           let b : Built work good t u (Ok r) = Built-covers work (some_bit w ∷ cuts_work ds before) good t u (Ok r) covers (c.in_ok-r.ensures ds before (Demands-keep s t ds cuts gs gt kst asked) held) in
-          let right : AreNetRails u (sets id) r = set_is net.raw net.in_range net.one_driver ls ds sets long s u id r ksu family b.ok in
+          let right : AreNetRails u (sets id) r = set_is net.raw net.in_range net.one_driver ls ds sets given.long s u id r ksu family b.ok in
           let stay : StayRight sets t nets u c.put.new.self.nets.items = subst (StayRight sets t nets u) (sym p.nets) (stay_put sets t u nets id r gt gu ktu at (λ h. right)) in
           let here : AreNetRails u (sets id) (net_at c.put.new.self.nets.items id) = subst (λ (xs : List NetRails). AreNetRails u (sets id) (net_at xs id)) (sym p.nets) (here_put sets u nets id r at right) in (
             more work good s t u (Ok r) gt gu q.0 b,
-            latches_next net.raw sets t u nets c.put.new.self.nets.items l latch is q.1 stay here,
+            latches_next sets t u latches nets c.put.new.self.nets.items n latch is q.1 stay here,
             stay_then sets s t u c.args.board.now.nets.items nets c.put.new.self.nets.items q.2 stay,
           );
     }
 
 pub returns-in_err-r-clause-built : goal.returns-in_err-r-clause-built
-returns-in_err-r-clause-built g c = λ ls ds sets zip family asked.
+returns-in_err-r-clause-built g c = λ ls ds sets given family asked.
     let s : Store = g.N.Nodes.store c.args.nodes.now in
-    let t : Store = g.N.Nodes.store c.loop-l.nodes in
+    let t : Store = g.N.Nodes.store c.loop-latch.nodes in
     let u : Store = g.N.Nodes.store c.latch_source.new.nodes in
     let gs = g.met.N.Nodes.diagram c.args.nodes.now in
-    let gt = g.met.N.Nodes.diagram c.loop-l.nodes in
+    let gt = g.met.N.Nodes.diagram c.loop-latch.nodes in
     let gu = g.met.N.Nodes.diagram c.latch_source.new.nodes in
     let net = c.args.net.now in
     let cuts : List Cut = c.args.cuts.now in
-    let latches : List Rails = c.args.latches.now in
-    let nets : List NetRails = c.loop-l.board.nets.items in
-    let l = c.loop-l.l in
-    let inv = c.loop-l.invariant in
+    let latches : List LatchSet = c.args.latches.now in
+    let n = c.loop-latch.latch-index in
+    let inv = c.loop-latch.invariant in
     let kst = inv.keeps in
-    let within : l < length latches = omega (arith, c.loop-l-test.true) in
-    let inside : l < length net.raw.latches = subst (λ n. l < n) c.requires.long within in
-    let zeroth : Latch = record { input = record { 0 = 0 }; output = record { 0 = 0 }; init = Zero } in
-    let latch : Latch = get_or c.latches.result.now l zeroth in
-    let is : latch ≡ get_or net.raw.latches l latch = ap (λ (xs : List Latch). get_or xs l zeroth) c.latches.ensures ∙ get_or_default net.raw.latches l zeroth latch inside in
+    let within : n < length latches = omega (arith, c.loop-latch-test.true) in
+    let latch : LatchSet = get_or latches n no_set in
     let id : ℕ = latch.output.0 in
-    let rails : Rails = get_or latches l (record { can0 = record { 0 = 0 }; can1 = record { 0 = 0 } }) in
-    let out : id < net.raw.nets = subst (λ (x : Latch). x.output.0 < net.raw.nets) (sym is) (net.in_range.latch_outputs l latch inside) in
+    let out : id < net.raw.nets = (c.requires.latches n no_set within).output in
     let fault = c.in_err-r.field-0.0 in
-    let q = inv.so ls ds sets zip family asked in
+    let q = inv.so ls ds sets given family asked in
     let work : List Function = time_work net.raw ls (asks ds) sets in
     let before : ℕ → SymbolicSet = uncut net.raw ls sets in
     let w : SymbolicSet = after_cuts ds before id in
-    let size : length ls ≡ length net.raw.latches = zip_long (AreRails s) ls latches zip ∙ c.requires.long in
-    let before_is : before id ≡ get_or ls l everything = ap (λ (x : Latch). before x.output.0) is ∙ latch_before net.raw net.one_driver ls sets l latch inside in
-    let held : AreRails t (before id) rails = subst (λ (x : SymbolicSet). AreRails t x rails) (sym before_is) (zip_at (AreRails t) ls latches l everything _ (Zip-keep s t ls latches gs gt kst zip) within) in
-    let covers = with_some net.raw net.settled net.in_range net.one_driver net.in_order ls ds sets size t.vars id (cuts_work ds before) (subst (λ v. ArePossibleEach v net.raw ls (asks ds) sets) (sym kst.vars) family) out (cuts_within net.raw ls ds sets) in
+    let held : AreRails t (before id) latch.rails = Rails-keep s t (before id) latch.rails gs gt kst (given.rails n no_set within) in
+    let covers = with_some net.raw net.settled net.in_range net.one_driver net.in_order ls ds sets given.long t.vars id (cuts_work ds before) (subst (λ v. ArePossibleEach v net.raw ls (asks ds) sets) (sym kst.vars) family) out (cuts_within net.raw ls ds sets) in
     pass work (HasNetSet w) Whatever s t u fault c.from_residual.result gt gu q.0
     (Built-covers work (some_bit w ∷ cuts_work ds before) (HasNetSet w) t u (Err fault) covers (c.in_err-r.ensures ds before (Demands-keep s t ds cuts gs gt kst asked) held)) c.from_residual.ensures.1
 
 pub returns-clause-built : goal.returns-clause-built
-returns-clause-built g c = λ ls ds sets zip family asked.
+returns-clause-built g c = λ ls ds sets given family asked.
     let s : Store = g.N.Nodes.store c.args.nodes.now in
-    let t : Store = g.N.Nodes.store c.loop-l.nodes in
-    Built-made (time_work c.args.net.now.raw ls (asks ds) sets) Whatever s t tt (c.loop-l.invariant.so ls ds sets zip family asked).0 tt
+    let t : Store = g.N.Nodes.store c.loop-latch.nodes in
+    Built-made (time_work c.args.net.now.raw ls (asks ds) sets) Whatever s t tt (c.loop-latch.invariant.so ls ds sets given family asked).0 tt
 
 pub returns-clause-have : goal.returns-clause-have
-returns-clause-have g c = λ ls ds sets zip family asked.
-    let q = c.loop-l.invariant.so ls ds sets zip family asked in
-    (λ k d lt inside. q.1 k d (omega (arith, inside, c.requires.long, c.loop-l-test.false)) inside, q.2)
+returns-clause-have g c = λ ls ds sets given family asked.
+    let s : Store = g.N.Nodes.store c.args.nodes.now in
+    let t : Store = g.N.Nodes.store c.loop-latch.nodes in
+    let q = c.loop-latch.invariant.so ls ds sets given family asked in
+    let latches : List LatchSet = c.args.latches.now in
+    let have : HaveLatchSets sets t latches (length latches) c.loop-latch.board.nets.items = λ k d lt inside. q.1 k d (omega (arith, inside, c.loop-latch-test.false)) inside in
+    (all_latches c.args.net.now.raw s t ls sets latches c.args.board.now.nets.items c.loop-latch.board.nets.items given have q.2, q.2)
 
-pub loop-l-init : goal.loop-l-init
-loop-l-init g c =
+pub loop-latch-init : goal.loop-latch-init
+loop-latch-init g c =
     let s : Store = g.N.Nodes.store c.args.nodes.now in
     let net = c.args.net.now in
     record {
       keeps = Keeps-refl s;
       refs = c.requires.refs;
       follows = follows_start c.args.board.now;
-      so = λ ls ds sets zip family asked. (So-start (time_work net.raw ls (asks ds) sets) s, λ k d lt inside. absurd (omega (arith, lt)), stay_start sets s c.args.board.now.nets.items);
+      so = λ ls ds sets given family asked. (So-start (time_work net.raw ls (asks ds) sets) s, λ k d lt inside. absurd (omega (arith, lt)), stay_start sets s c.args.board.now.nets.items);
     }

@@ -3,8 +3,7 @@ use Rattle.dd_nodes.specs.Diagram.{Function}
 use Rattle.dd_nodes.specs.Stores.{Store}
 use Rattle.dd_nodes.proofs.Stores.{Keeps-trans}
 use Rattle.net_core.specs.Work.{ArePossibleEach, time_work}
-use Rattle.dual_rail.specs.Rail.{AreRails, Whatever}
-use Rattle.dual_rail.proofs.Turns.{zip_long}
+use Rattle.dual_rail.specs.Rail.{Whatever}
 use Rattle.dual_rail.proofs.Works.{So-start, first, last, more, pass}
 use Rattle.ste_base.specs.declared.id.NodeId.{NodeId}
 use Rattle.sym_step.specs.declared.cut.Cut.{Cut}
@@ -19,15 +18,15 @@ pub open_sources-requires-2-clause-ids : goal.open_sources-requires-2-clause-ids
 open_sources-requires-2-clause-ids g c = subst (All (λ (node : NodeId). node.0 < c.args.net.now.raw.nets)) (sym c.requires.asked) (nodes_inside c.args.net.now.raw.nets c.args.cuts.now c.requires.inside)
 
 pub returns-in_err-latch_sources-clause-built : goal.returns-in_err-latch_sources-clause-built
-returns-in_err-latch_sources-clause-built g c = λ ls ds sets zip family asked.
+returns-in_err-latch_sources-clause-built g c = λ ls ds sets given family asked.
     let s : Store = g.N.Nodes.store c.args.nodes.now in
     let t : Store = g.N.Nodes.store c.latch_sources.new.nodes in
     let work : List Function = time_work c.args.net.now.raw ls (asks ds) sets in
     pass work Whatever Whatever s s t c.in_err-latch_sources.field-0.0 c.from_residual.result (g.met.N.Nodes.diagram c.args.nodes.now) (g.met.N.Nodes.diagram c.latch_sources.new.nodes) (So-start work s)
-    (c.in_err-latch_sources.ensures.built ls ds sets zip family asked) c.from_residual.ensures.1
+    (c.in_err-latch_sources.ensures.built ls ds sets given family asked) c.from_residual.ensures.1
 
 pub returns-in_err-open_sources-clause-built : goal.returns-in_err-open_sources-clause-built
-returns-in_err-open_sources-clause-built g c = λ ls ds sets zip family asked.
+returns-in_err-open_sources-clause-built g c = λ ls ds sets given family asked.
     let s : Store = g.N.Nodes.store c.args.nodes.now in
     let t : Store = g.N.Nodes.store c.latch_sources.new.nodes in
     let u : Store = g.N.Nodes.store c.open_sources.new.nodes in
@@ -36,14 +35,14 @@ returns-in_err-open_sources-clause-built g c = λ ls ds sets zip family asked.
     let gu = g.met.N.Nodes.diagram c.open_sources.new.nodes in
     let net = c.args.net.now in
     let work : List Function = time_work net.raw ls (asks ds) sets in
-    let long = zip_long (AreRails s) ls c.args.latches.now zip ∙ c.requires.long in
+    let long = given.long in
     let p = c.in_ok-latch_sources.ensures in
-    let so1 = first work Whatever s t (Ok c.in_ok-latch_sources.field-0) (p.built ls ds sets zip family asked) in
+    let so1 = first work Whatever s t (Ok c.in_ok-latch_sources.field-0) (p.built ls ds sets given family asked) in
     pass work Whatever Whatever s t u c.in_err-open_sources.field-0.0 c.from_residual-in_err-open_sources.result gt gu so1
     (c.in_err-open_sources.ensures.built ls ds sets long (subst (λ v. ArePossibleEach v net.raw ls (asks ds) sets) (sym p.keeps.vars) family) (Demands-keep s t ds c.args.cuts.now gs gt p.keeps asked)) c.from_residual-in_err-open_sources.ensures.1
 
 pub returns-clause-built : goal.returns-clause-built
-returns-clause-built g c = λ ls ds sets zip family asked.
+returns-clause-built g c = λ ls ds sets given family asked.
     let s : Store = g.N.Nodes.store c.args.nodes.now in
     let t : Store = g.N.Nodes.store c.latch_sources.new.nodes in
     let u : Store = g.N.Nodes.store c.open_sources.new.nodes in
@@ -54,11 +53,11 @@ returns-clause-built g c = λ ls ds sets zip family asked.
     let gv = g.met.N.Nodes.diagram c.open_sources-2.new.nodes in
     let net = c.args.net.now in
     let work : List Function = time_work net.raw ls (asks ds) sets in
-    let long = zip_long (AreRails s) ls c.args.latches.now zip ∙ c.requires.long in
+    let long = given.long in
     let p = c.in_ok-latch_sources.ensures in
     let q = c.in_ok-open_sources.ensures in
     let ksu = Keeps-trans s t u p.keeps q.keeps in
-    let so1 = first work Whatever s t (Ok c.in_ok-latch_sources.field-0) (p.built ls ds sets zip family asked) in
+    let so1 = first work Whatever s t (Ok c.in_ok-latch_sources.field-0) (p.built ls ds sets given family asked) in
     let so2 = more work Whatever s t u (Ok c.in_ok-open_sources.field-0) gt gu so1 (q.built ls ds sets long (subst (λ n. ArePossibleEach n net.raw ls (asks ds) sets) (sym p.keeps.vars) family) (Demands-keep s t ds c.args.cuts.now gs gt p.keeps asked)) in
     last work Whatever s u v c.open_sources-2.result gu gv so2
     (c.open_sources-2.ensures.built ls ds sets long (subst (λ n. ArePossibleEach n net.raw ls (asks ds) sets) (sym ksu.vars) family) (Demands-keep s u ds c.args.cuts.now gs gu ksu asked))
@@ -99,9 +98,9 @@ returns-clause-have g c =
     let p = c.in_ok-latch_sources.ensures in
     let q = c.in_ok-open_sources.ensures in
     let ksu = Keeps-trans s t u p.keeps q.keeps in
-    ok_then c.open_sources-2.result (λ k ls ds sets zip family asked.
-    let long = zip_long (AreRails s) ls c.args.latches.now zip ∙ c.requires.long in
-    let h1 = p.have ls ds sets zip family asked in
+    ok_then c.open_sources-2.result (λ k ls ds sets given family asked.
+    let long = given.long in
+    let h1 = p.have ls ds sets given family asked in
     let h2 = q.have ls ds sets long (subst (λ n. ArePossibleEach n net.raw ls (asks ds) sets) (sym p.keeps.vars) family) (Demands-keep s t ds cuts gs gt p.keeps asked) in
     let h3 = k ls ds sets long (subst (λ n. ArePossibleEach n net.raw ls (asks ds) sets) (sym ksu.vars) family) (Demands-keep s u ds cuts gs gu ksu asked) in
     all_sources net.raw net.in_range net.one_driver ls ds sets long s t u v cuts c.args.before.now c.args.board.now.nets.items c.latch_sources.new.board.nets.items c.open_sources.new.board.nets.items c.open_sources-2.new.board.nets.items

@@ -1,10 +1,9 @@
-use Rattle.std.proofs.Common.{List, sym, ◌∙◌, subst, Ok}
+use Rattle.std.proofs.Common.{◌≤◌, List, length, sym, ◌∙◌, subst, Ok}
 use Rattle.dd_nodes.specs.Diagram.{Function}
 use Rattle.dd_nodes.specs.Stores.{Store}
 use Rattle.net_core.specs.Work.{ArePossibleEach, time_work}
-use Rattle.dual_rail.specs.Rail.{AreRails, Whatever}
+use Rattle.dual_rail.specs.Rail.{Whatever}
 use Rattle.dual_rail.proofs.Works.{So-start, first, last, pass}
-use Rattle.dual_rail.proofs.Turns.{zip_long}
 use Rattle.sym_step.proofs.Cutting.{Demands-keep}
 use Rattle.ste_base.specs.declared.id.NodeId.{NodeId}
 use Rattle.sym_step.specs.private.Frames.{AreSpared}
@@ -15,12 +14,12 @@ use Rattle.sym_step.proofs.Sourced.{to_gates, all_placed}
 use Rattle.sym_step.proofs.time.set_nets.Goals as goal
 
 pub returns-in_err-sources-clause-built : goal.returns-in_err-sources-clause-built
-returns-in_err-sources-clause-built g c = λ ls asked sets zip zipc family.
+returns-in_err-sources-clause-built g c = λ ls asked sets given zipc family.
     let s : Store = g.N.Nodes.store c.args.nodes.now in
     let t : Store = g.N.Nodes.store c.sources.new.nodes in
     let work : List Function = time_work c.args.net.now.raw ls asked sets in
     pass work Whatever Whatever s s t c.in_err-sources.field-0.0 c.from_residual.result (g.met.N.Nodes.diagram c.args.nodes.now) (g.met.N.Nodes.diagram c.sources.new.nodes) (So-start work s)
-    (c.in_err-sources.ensures.built ls asked.cuts sets zip family zipc) c.from_residual.ensures.1
+    (c.in_err-sources.ensures.built ls asked.cuts sets given family zipc) c.from_residual.ensures.1
 
 pub place_gates-requires-clause-spared : goal.place_gates-requires-clause-spared
 place_gates-requires-clause-spared g c =
@@ -36,13 +35,13 @@ pub place_gates-requires-clause-long : goal.place_gates-requires-clause-long
 place_gates-requires-clause-long g c = c.in_ok-sources.ensures.follows.long ∙ c.requires.nets
 
 pub place_gates-requires-clause-due : goal.place_gates-requires-clause-due
-place_gates-requires-clause-due g c = c.in_ok-sources.ensures.follows.marks ∙ c.requires.due
+place_gates-requires-clause-due g c = subst (λ n. length c.args.net.now.raw.gates ≤ n) (sym c.in_ok-sources.ensures.follows.marks) c.requires.due
 
 pub returns-clause-follows : goal.returns-clause-follows
 returns-clause-follows g c = ok_then c.place_gates.result (λ k. follows_then c.args.board.now c.sources.new.board c.place_gates.new.board c.in_ok-sources.ensures.follows k) c.place_gates.ensures.follows
 
 pub returns-clause-built : goal.returns-clause-built
-returns-clause-built g c = λ ls asked sets zip zipc family.
+returns-clause-built g c = λ ls asked sets given zipc family.
     let s : Store = g.N.Nodes.store c.args.nodes.now in
     let t : Store = g.N.Nodes.store c.sources.new.nodes in
     let u : Store = g.N.Nodes.store c.place_gates.new.nodes in
@@ -52,11 +51,11 @@ returns-clause-built g c = λ ls asked sets zip zipc family.
     let net = c.args.net.now in
     let p = c.in_ok-sources.ensures in
     let work : List Function = time_work net.raw ls asked sets in
-    let long = zip_long (AreRails s) ls c.args.latches.now zip ∙ c.requires.long in
+    let long = given.long in
     let family' : ArePossibleEach t.vars net.raw ls asked sets = subst (λ v. ArePossibleEach v net.raw ls asked sets) (sym p.keeps.vars) family in
     let zipc' = Demands-keep s t asked.cuts c.args.cuts.now gs gt p.keeps zipc in
-    let have0 = to_gates net.raw net.settled sets t c.sources.new.board.nets.items net.one_driver net.in_order (p.have ls asked.cuts sets zip family zipc) in
-    last work Whatever s t u c.place_gates.result gt gu (first work Whatever s t (Ok c.in_ok-sources.field-0) (p.built ls asked.cuts sets zip family zipc))
+    let have0 = to_gates net.raw net.settled sets t c.sources.new.board.nets.items net.one_driver net.in_order (p.have ls asked.cuts sets given family zipc) in
+    last work Whatever s t u c.place_gates.result gt gu (first work Whatever s t (Ok c.in_ok-sources.field-0) (p.built ls asked.cuts sets given family zipc))
     (c.place_gates.ensures.built ls asked.cuts sets long family' zipc' have0)
 
 pub returns-clause-have : goal.returns-clause-have
@@ -69,9 +68,9 @@ returns-clause-have g c =
     let gu = g.met.N.Nodes.diagram c.place_gates.new.nodes in
     let net = c.args.net.now in
     let p = c.in_ok-sources.ensures in
-    ok_then c.place_gates.result (λ q ls asked sets zip zipc family.
-    let long = zip_long (AreRails s) ls c.args.latches.now zip ∙ c.requires.long in
+    ok_then c.place_gates.result (λ q ls asked sets given zipc family.
+    let long = given.long in
     let family' : ArePossibleEach t.vars net.raw ls asked sets = subst (λ v. ArePossibleEach v net.raw ls asked sets) (sym p.keeps.vars) family in
     let zipc' = Demands-keep s t asked.cuts c.args.cuts.now gs gt p.keeps zipc in
-    let have0 = to_gates net.raw net.settled sets t c.sources.new.board.nets.items net.one_driver net.in_order (p.have ls asked.cuts sets zip family zipc) in
+    let have0 = to_gates net.raw net.settled sets t c.sources.new.board.nets.items net.one_driver net.in_order (p.have ls asked.cuts sets given family zipc) in
     all_placed net.raw net.settled sets u c.place_gates.new.board.nets.items (q ls asked.cuts sets long family' zipc' have0)) c.place_gates.ensures.have

@@ -1,0 +1,73 @@
+use Rattle.std.proofs.Common.{◌≡◌, ◌+◌, ◌<◌, ℕ, List, Option, None, Some, ap, arith, get_or, inl, inr, length, map, subst, sym, ◌∙◌, false}
+use Rattle.std.specs.Prelude.{◌⊎◌, IfSome, IsTrue}
+use Rattle.std.specs.Global.{Vec}
+use Rattle.std.proofs.lemmas.List.{get_or_default}
+use Rattle.ste_base.specs.declared.id.NodeId.{NodeId}
+use Rattle.net_core.specs.declared.raw.Latch.{Latch}
+use Rattle.net_core.specs.declared.raw.Init.TheVariants.{Zero}
+use Rattle.net_core.specs.declared.raw.Gate.{Gate}
+use Rattle.dual_rail.specs.declared.rails.Rails.{Rails}
+use Rattle.sym_step.specs.declared.board.Board.{Board}
+use Rattle.sym_step.specs.declared.latches.LatchSet.{LatchSet}
+use Rattle.sym_step.specs.declared.net_rails.NetRails.{NetRails}
+use Rattle.sym_step.specs.private.Frames.{AreCarried, IsCarried, bare, input_rails}
+use Rattle.sym_step.specs.private.Latches.{HaveMarks, IsCopied, IsInPlace, latch_set}
+use Rattle.sym_step.specs.private.NetSets.{net_at}
+use Rattle.sym_step.specs.private.Readers.{AreReaders, flag_at}
+use Rattle.sym_step.proofs.Latched.{Grows, carried_next, in_place, next_at, own_next, own_set, places_next}
+use Rattle.sym_step.proofs.latches.due_sets.Goals as goal
+use Rattle.sym_step.proofs.latches.due_sets.Goals.{in-Some+in_ok-push, in_default}
+
+pub loop-l-preserved : goal.loop-l-preserved
+loop-l-preserved c =
+    let net = c.args.net.now in
+    let latches : List Latch = net.raw.latches in
+    let zeroth : Latch = record { input = record { 0 = 0 }; output = record { 0 = 0 }; init = Zero } in
+    let n : ℕ = c.loop-l.l in
+    let first : Board = c.args.board.now in
+    let old : Board = c.loop-l.board in
+    let new : Board = c.due_set.new.board in
+    let nets : List NetRails = first.nets.items in
+    let next : List Rails = map (input_rails (map bare nets)) latches in
+    let sets : List LatchSet = c.loop-l.sets.items in
+    let more : List LatchSet = c.match-due_set.sets.items in
+    let inv = c.loop-l.invariant in
+    let p = c.due_set.ensures in
+    let inside : n < length latches = let same = ap (λ (xs : List Latch). length xs) c.latches-latches.ensures in omega (arith, same, c.loop-l-test.true) in
+    let latch : Latch = get_or c.latches-latches.result.now n zeroth in
+    let is : latch ≡ get_or latches n latch = ap (λ (xs : List Latch). get_or xs n zeroth) c.latches-latches.ensures ∙ get_or_default latches n zeroth latch inside in
+    let grows : Grows c.due_set.result sets more = elim c.match-due_set.branch [
+      | in-Some+in_ok-push w ↦ inl (w.in-Some.set, w.in-Some.is, ap (λ v. v.items) w.sets-is ∙ w.in_ok-push.ensures.items)
+      | in_default w ↦ inr (w.in_default.is, ap (λ v. v.items) w.sets-is)
+    ] in
+    let gates : ℕ = length net.raw.gates in
+    let marks = c.args.marks.now in
+    let same_gates : length c.gates-gates.result.now ≡ gates = ap (λ (xs : List Gate). length xs) c.gates-gates.ensures in
+    let some_is : (set : LatchSet) → c.due_set.result ≡ Some set → set ≡ latch_set nets latch =
+    λ set e. subst (λ (o : Option LatchSet). IfSome o (λ x. x ≡ latch_set old.nets.items latch)) e p.some ∙ ap (λ (v : Vec NetRails). latch_set v.items latch) inv.nets in
+    let place : (asked : List NodeId) → HaveMarks asked marks → AreCarried net.raw asked first → c.due_set.result ≡ None → IsInPlace next asked nets n latch = λ asked have was e. elim (p.none e) [
+      | inl none ↦
+          let flag : flag_at first.due.items (gates + n) ≡ false = sym (inv.rest (gates + n) (λ j lt same. absurd (omega (arith, lt, same)))) ∙ subst (λ (m : ℕ). flag_at old.due.items (m + n) ≡ false) same_gates none in
+          let h : IsCarried asked first (gates + n) latch = subst (IsCarried asked first (gates + n)) (sym is) (was n latch inside flag) in
+          in_place net.raw asked nets n latch net.in_range c.requires.nets inside is h.uncut h.same
+      | inr copied ↦
+          in_place net.raw asked nets n latch net.in_range c.requires.nets inside is (have latch.output.0 copied.0)
+          (subst (λ (v : Vec NetRails). net_at v.items latch.output.0 ≡ net_at v.items latch.input.0) inv.nets copied.1)
+    ] in
+    record {
+      nets = p.nets ∙ inv.nets;
+      readers = p.readers ∙ inv.readers;
+      full = p.full ∙ inv.full;
+      long = p.long ∙ inv.long;
+      rest = λ k away. p.others k (λ e. away n (omega arith) (e ∙ ap (λ (m : ℕ). m + n) same_gates)) ∙ inv.rest k (λ j lt. away j (omega (arith, lt)));
+      own = own_next net.raw next nets c.due_set.result sets more grows
+          (λ set e. own_set net.raw next nets n latch set inside is (ap (λ (x : LatchSet). x.output) (some_is set e))
+          (λ d. next_at net.raw nets n latch d net.in_range c.requires.nets inside is ∙ ap (λ (x : LatchSet). x.rails) (sym (some_is set e)))
+          (ap (λ (x : LatchSet). x.given) (sym (some_is set e)))) inv.own;
+      each = λ asked have was.
+          places_next net.raw next asked nets c.due_set.result sets more n latch inside is grows (λ set e. ap (λ (x : LatchSet). x.output) (some_is set e)) (place asked have was) (inv.each asked have was);
+      carried = λ asked have was.
+          carried_next net.raw asked marks c.args.listed old new n latch inside is have (λ told. subst (AreReaders net.raw) (sym inv.readers) (c.requires.lists told)) p.nets p.readers
+          (λ k away. p.others k (λ e. away (e ∙ ap (λ (m : ℕ). m + n) same_gates)))
+          (subst (λ (m : ℕ). flag_at new.due.items (m + n) ≡ false → (flag_at old.due.items (m + n) ≡ false) ⊎ (IsTrue c.args.listed × IsCopied marks old.nets.items latch)) same_gates p.cleared) (inv.carried asked have was);
+    }

@@ -1,0 +1,22 @@
+use Rattle.std.proofs.Common.{◌≡◌, ◌≢◌, ◌+◌, ◌<◌, ℕ, List, All, get_or, length, map}
+use Rattle.std.specs.Prelude.{◌⊎◌}
+use Rattle.ste_base.specs.declared.id.NodeId.{NodeId}
+use Rattle.net_core.specs.declared.raw.Latch.{Latch}
+use Rattle.sym_step.specs.private.Frames.{AreCarried, bare, input_rails}
+use Rattle.sym_step.specs.private.Latches.{HaveMarks, IsAmong, IsInPlace, IsSetOf}
+use Rattle.sym_step.specs.private.Readers.{flag_at}
+use Rattle.sym_step.proofs.latches.due_sets.Given as goal
+
+-- the sets of those of the first latches that do not have theirs yet; the marks of all others are as they were
+abbrev pub invariant-loop-l : goal.invariant-loop-l
+invariant-loop-l l = record {
+  nets : l.board.nets ≡ l.fn.board.nets;
+  readers : l.board.readers ≡ l.fn.board.readers;
+  full : l.board.full ≡ l.fn.board.full;
+  long : length l.board.due.items ≡ length l.fn.board.due.items;
+  rest : (k : ℕ) → ((j : ℕ) → j < l.l → k ≢ length l.net.raw.gates + j) → flag_at l.board.due.items k ≡ flag_at l.fn.board.due.items k;
+  own : All (IsSetOf l.net.raw (map (input_rails (map bare l.fn.board.nets.items)) l.net.raw.latches) l.fn.board.nets.items) l.sets.items;
+  each : (asked : List NodeId) → HaveMarks asked l.marks → AreCarried l.net.raw asked l.fn.board → (k : ℕ) (d : Latch) → k < l.l → k < length l.net.raw.latches
+      → IsAmong l.sets.items (get_or l.net.raw.latches k d).output.0 ⊎ IsInPlace (map (input_rails (map bare l.fn.board.nets.items)) l.net.raw.latches) asked l.fn.board.nets.items k (get_or l.net.raw.latches k d);
+  carried : (asked : List NodeId) → HaveMarks asked l.marks → AreCarried l.net.raw asked l.fn.board → AreCarried l.net.raw asked l.board;
+}

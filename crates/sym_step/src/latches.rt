@@ -1,0 +1,173 @@
+//! The sets that latches get at a time; begin with `latch_sets`.
+
+ghost use Rattle.std.specs.Prelude.{◌≡◌, ◌≢◌, ◌⊎◌, ◌<◌, ℕ, List, IfOk, IfSome, IsTrue, None, OnOk, false, length, map};
+ghost use Rattle.ste_base.specs.declared.id.NodeId.{NodeId};
+ghost use Rattle.sym_step.specs.private.Frames.{AreCarried, bare, input_rails, mark_count, next_of};
+ghost use Rattle.sym_step.specs.private.Latches.{AreLatchSets, HaveMarks, IsCopied, latch_set};
+ghost use Rattle.sym_step.specs.private.Readers.{AreReaders, flag_at};
+
+use crate::board::{Board, are_same};
+use crate::frame::Frame;
+use crate::net_rails::NetRails;
+use dual_rail::Rails;
+use net_core::{Latch, Net};
+use std::alloc::{AllocError, Global};
+use ste_base::NodeId;
+
+/// The set that the output of a latch gets, before any cut of it, and the set that the latch's input had at the time before.
+#[derive(Clone, Copy, Debug, Drop)]
+pub struct LatchSet {
+    pub output: NodeId,
+    pub rails: Rails,
+    pub given: NetRails,
+}
+
+/// The sets of all latches, where it is told which they have.
+fn told_sets(
+    alloc: Global,
+    net: &Net,
+    nets: &[NetRails],
+    told: &[Rails],
+) -> Result<Vec<LatchSet>, AllocError>
+    requires nets { length nets.now ≡ net.now.raw.nets }
+    requires told { length told.now ≡ length net.now.raw.latches }
+    ensures { IfOk result (λ sets. (asked : List NodeId)
+        → AreLatchSets net.now.raw told.now asked nets.now sets.items) }
+{
+    let latches = net.latches();
+    let mut sets = Vec::with_capacity(alloc, latches.len())?;
+    for l in 0..latches.len() {
+        let latch = &latches[l];
+        sets.push(LatchSet {
+            output: latch.output,
+            rails: told[l],
+            given: nets[latch.input.0 as usize],
+        })?;
+    }
+    Ok(sets)
+}
+
+/// Whether nothing is left to do for a latch: its output is not cut, and has the set of its input already.
+fn is_copied(nets: &[NetRails], marks: &[bool], latch: &Latch) -> bool
+    requires marked { length marks.now ≡ length nets.now }
+    requires input { latch.now.input.0 < length nets.now }
+    requires output { latch.now.output.0 < length nets.now }
+    ensures { IsTrue result → IsCopied marks.now nets.now latch.now }
+{
+    let output = latch.output.0 as usize;
+    !marks[output] && are_same(nets[output], nets[latch.input.0 as usize])
+}
+
+/// The set of a latch of this number, where it is due and something is left to do. Where nothing is, its mark is taken away,
+/// but not without lists, since then no change of its input would bring it back.
+fn due_set(
+    latch: &Latch,
+    number: usize,
+    marks: &[bool],
+    listed: bool,
+    board: &mut Board,
+) -> Option<LatchSet>
+    requires number { number < length board.old.due.items }
+    requires marked { length marks.now ≡ length board.old.nets.items }
+    requires input { latch.now.input.0 < length board.old.nets.items }
+    requires output { latch.now.output.0 < length board.old.nets.items }
+    ensures nets { board.new.nets ≡ board.old.nets }
+    ensures readers { board.new.readers ≡ board.old.readers }
+    ensures full { board.new.full ≡ board.old.full }
+    ensures long { length board.new.due.items ≡ length board.old.due.items }
+    ensures others { (k : ℕ) → k ≢ number
+        → flag_at board.new.due.items k ≡ flag_at board.old.due.items k }
+    ensures some { IfSome result (λ set. set ≡ latch_set board.old.nets.items latch.now) }
+    ensures none { result ≡ None → (flag_at board.old.due.items number ≡ false)
+        ⊎ IsCopied marks.now board.old.nets.items latch.now }
+    ensures cleared { flag_at board.new.due.items number ≡ false
+        → (flag_at board.old.due.items number ≡ false)
+        ⊎ (IsTrue listed × IsCopied marks.now board.old.nets.items latch.now) }
+{
+    if !board.due[number] {
+        return None;
+    }
+    if is_copied(&board.nets, marks, latch) {
+        board.due[number] = !listed;
+        return None;
+    }
+    let given = board.nets[latch.input.0 as usize];
+    Some(LatchSet {
+        output: latch.output,
+        rails: given.rails(),
+        given,
+    })
+}
+
+/// The sets of the due latches that do not have theirs yet: those that their inputs have now. The marks of due latches that
+/// have theirs are taken away, where there are lists.
+fn due_sets(
+    alloc: Global,
+    net: &Net,
+    marks: &[bool],
+    listed: bool,
+    board: &mut Board,
+) -> Result<Vec<LatchSet>, AllocError>
+    requires nets { length board.old.nets.items ≡ net.now.raw.nets }
+    requires due { length board.old.due.items ≡ mark_count net.now.raw }
+    requires marked { length marks.now ≡ net.now.raw.nets }
+    requires lists { IsTrue listed → AreReaders net.now.raw board.old.readers }
+    ensures nets { board.new.nets ≡ board.old.nets }
+    ensures readers { board.new.readers ≡ board.old.readers }
+    ensures full { board.new.full ≡ board.old.full }
+    ensures long { length board.new.due.items ≡ length board.old.due.items }
+    ensures gates { (k : ℕ) → k < length net.now.raw.gates
+        → flag_at board.new.due.items k ≡ flag_at board.old.due.items k }
+    ensures carried { OnOk result ((asked : List NodeId) → HaveMarks asked marks.now
+        → AreCarried net.now.raw asked board.old → AreCarried net.now.raw asked board.new) }
+    ensures sets { IfOk result (λ sets. (asked : List NodeId) → HaveMarks asked marks.now
+        → AreCarried net.now.raw asked board.old
+        → AreLatchSets net.now.raw
+        (map (input_rails (map bare board.old.nets.items)) net.now.raw.latches)
+        asked board.old.nets.items sets.items) }
+{
+    let gates = net.gates().len();
+    let latches = net.latches();
+    let mut sets = Vec::new(alloc);
+    for l in 0..latches.len() {
+        if let Some(set) = due_set(&latches[l], gates + l, marks, listed, board) {
+            sets.push(set)?;
+        }
+    }
+    Ok(sets)
+}
+
+/// The sets of the latches that do not have theirs yet: at a first time those that the frame starts with, which it then has
+/// no longer, and else those that the inputs of the latches have. `marks` has a mark at each net that is cut. All are read
+/// before any is written, since the input of a latch may be the output of another.
+pub fn latch_sets(
+    alloc: Global,
+    net: &Net,
+    marks: &[bool],
+    frame: &mut Frame,
+) -> Result<Vec<LatchSet>, AllocError>
+    requires nets { length frame.old.board.nets.items ≡ net.now.raw.nets }
+    requires due { length frame.old.board.due.items ≡ mark_count net.now.raw }
+    requires marked { length marks.now ≡ net.now.raw.nets }
+    requires first { length (next_of net.now.raw frame.old) ≡ length net.now.raw.latches }
+    requires lists { IsTrue frame.old.listed → AreReaders net.now.raw frame.old.board.readers }
+    ensures rest { frame.new ≡ record frame.old { first = None; board = frame.new.board } }
+    ensures nets { frame.new.board.nets ≡ frame.old.board.nets }
+    ensures readers { frame.new.board.readers ≡ frame.old.board.readers }
+    ensures full { frame.new.board.full ≡ frame.old.board.full }
+    ensures long { length frame.new.board.due.items ≡ length frame.old.board.due.items }
+    ensures gates { (k : ℕ) → k < length net.now.raw.gates
+        → flag_at frame.new.board.due.items k ≡ flag_at frame.old.board.due.items k }
+    ensures carried { OnOk result ((asked : List NodeId) → HaveMarks asked marks.now
+        → AreCarried net.now.raw asked frame.old.board
+        → AreCarried net.now.raw asked frame.new.board) }
+    ensures sets { IfOk result (λ sets. (asked : List NodeId) → HaveMarks asked marks.now
+        → AreCarried net.now.raw asked frame.old.board
+        → AreLatchSets net.now.raw (next_of net.now.raw frame.old)
+        asked frame.old.board.nets.items sets.items) }
+{
+    match frame.first.take() {
+        Some(told) => told_sets(alloc, net, &frame.board.nets, told.as_slice()),
+        None => due_sets(alloc, net, marks, frame.listed, &mut frame.board),
+    }
+}
