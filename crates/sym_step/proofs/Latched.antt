@@ -15,12 +15,8 @@ use Rattle.dual_rail.proofs.Turns.{zip_at, zip_long}
 use Rattle.net_core.specs.declared.raw.Init.TheVariants.{Zero}
 use Rattle.net_core.specs.declared.raw.Latch.{Latch}
 use Rattle.net_core.specs.declared.raw.RawNet.{RawNet}
-use Rattle.net_core.specs.declared.source.Source.{Source}
-use Rattle.net_core.specs.declared.source.Source.TheVariants.{Input, Free, Gate as OfGate, Latch as OfLatch}
 use Rattle.net_core.specs.Flat.{IsInRange, HasOneDriver}
-use Rattle.net_core.specs.Source.{source_of}
 use Rattle.net_core.specs.Work.{ArePossibleEach, SymbolicCut, SymbolicSet, after_cuts, everything, uncut}
-use Rattle.net_core.proofs.OneTime.{Facts}
 use Rattle.sym_step.specs.declared.board.Board.{Board}
 use Rattle.sym_step.specs.declared.cut.Cut.{Cut}
 use Rattle.sym_step.specs.declared.frame.Frame.{Frame}
@@ -35,8 +31,8 @@ use Rattle.sym_step.specs.private.Parts.{AreMarks, asks}
 use Rattle.sym_step.specs.private.Readers.{AreMarked, AreReaders, IsBetween, driver_number, flag_at, number_of}
 use Rattle.sym_step.proofs.Framing.{listed_at, next_first, spared_same, unlisted, unlisted_by}
 use Rattle.sym_step.proofs.NetRefs.{net_by_rails}
-use Rattle.sym_step.proofs.Opened.{latch_before, one_latch, set_is}
-use Rattle.sym_step.proofs.Sourced.{known, unknown}
+use Rattle.sym_step.proofs.Opened.{latch_before, latch_source, set_is}
+use Rattle.sym_step.proofs.Sourced.{unknown}
 
 zeroth : Latch
 zeroth = record { input = record { 0 = 0 }; output = record { 0 = 0 }; init = Zero }
@@ -45,21 +41,6 @@ no_rails : Rails
 no_rails = record { can0 = record { 0 = 0 }; can1 = record { 0 = 0 } }
 
 -- ---- latches that are not due
-
--- the latch that drives a net is its source
-latch_source : (net : RawNet) → HasOneDriver net → (k : ℕ) (d : Latch) → k < length net.latches → source_of net (get_or net.latches k d).output.0 ≡ OfLatch k
-latch_source net one k d lt = by (source_of net id) refl
-  where
-    id : ℕ
-    id = (get_or net.latches k d).output.0
-
-    by : (src : Source) → src ≡ source_of net id → source_of net id ≡ OfLatch k
-    by Input e = absurd ((known net one id Input e).1 k d lt refl)
-    by Free e = absurd ((known net one id Free e).1 k d lt refl)
-    by (OfGate g) e = absurd ((known net one id (OfGate g) e).2 k d lt refl)
-    by (OfLatch l) e =
-        let f : Facts net id (OfLatch l) = known net one id (OfLatch l) e in
-        sym e ∙ ap OfLatch (one_latch net.latches one.latches l k d f.0 lt (f.1 d))
 
 -- where the latches that drive cut nets are due, the outputs of the others have the references of their inputs
 pub all_carried : (s : Store) (net : RawNet) (frame : Frame) (asked : List NodeId) (mid due : Vec Bool) → HasOneDriver net → IsFrame s net frame → AreReady net frame → length mid.items ≡ length frame.board.due.items

@@ -70,7 +70,7 @@ blank_is s net frame gs nets due full asked none listed room = record {
     marked k lt = ap (λ (xs : List Bool). flag_at xs k) due ∙ at_replicate (length net.gates + length net.latches) k true false lt
 
 -- no two latches drive one net
-pub one_latch : (latches : List Latch) → AllPairs (λ one other. one.output.0 ≢ other.output.0) latches → (j k : ℕ) (d : Latch) → j < length latches → k < length latches → (get_or latches j d).output.0 ≡ (get_or latches k d).output.0 → j ≡ k
+one_latch : (latches : List Latch) → AllPairs (λ one other. one.output.0 ≢ other.output.0) latches → (j k : ℕ) (d : Latch) → j < length latches → k < length latches → (get_or latches j d).output.0 ≡ (get_or latches k d).output.0 → j ≡ k
 one_latch latches apart j k d l m same = elim (cases_lt j k) [
   | inl less ↦ absurd (apart j k d less m same)
   | inr more ↦ elim (cases_lt k j) [
@@ -79,20 +79,24 @@ one_latch latches apart j k d l m same = elim (cases_lt j k) [
   ]
 ]
 
--- the set of a latch's output before its cuts
-pub latch_before : (net : RawNet) → HasOneDriver net → (ls : List SymbolicSet) (sets : ℕ → SymbolicSet) (l : ℕ) (d : Latch) → l < length net.latches → uncut net ls sets (get_or net.latches l d).output.0 ≡ get_or ls l everything
-latch_before net one ls sets l d lt = by (source_of net id) refl
+-- the latch that drives a net is its source
+pub latch_source : (net : RawNet) → HasOneDriver net → (k : ℕ) (d : Latch) → k < length net.latches → source_of net (get_or net.latches k d).output.0 ≡ OfLatch k
+latch_source net one k d lt = by (source_of net id) refl
   where
     id : ℕ
-    id = (get_or net.latches l d).output.0
+    id = (get_or net.latches k d).output.0
 
-    by : (src : Source) → src ≡ source_of net id → uncut net ls sets id ≡ get_or ls l everything
-    by Input e = absurd ((known net one id Input e).1 l d lt refl)
-    by Free e = absurd ((known net one id Free e).1 l d lt refl)
-    by (OfGate g) e = absurd ((known net one id (OfGate g) e).2 l d lt refl)
-    by (OfLatch k) e =
-        let f : Facts net id (OfLatch k) = known net one id (OfLatch k) e in
-        before_by net ls sets id (OfLatch k) e ∙ ap (λ (i : ℕ). get_or ls i everything) (one_latch net.latches one.latches k l d f.0 lt (f.1 d))
+    by : (src : Source) → src ≡ source_of net id → source_of net id ≡ OfLatch k
+    by Input e = absurd ((known net one id Input e).1 k d lt refl)
+    by Free e = absurd ((known net one id Free e).1 k d lt refl)
+    by (OfGate g) e = absurd ((known net one id (OfGate g) e).2 k d lt refl)
+    by (OfLatch l) e =
+        let f : Facts net id (OfLatch l) = known net one id (OfLatch l) e in
+        sym e ∙ ap OfLatch (one_latch net.latches one.latches l k d f.0 lt (f.1 d))
+
+-- the set of a latch's output before its cuts
+pub latch_before : (net : RawNet) → HasOneDriver net → (ls : List SymbolicSet) (sets : ℕ → SymbolicSet) (l : ℕ) (d : Latch) → l < length net.latches → uncut net ls sets (get_or net.latches l d).output.0 ≡ get_or ls l everything
+latch_before net one ls sets l d lt = before_by net ls sets (get_or net.latches l d).output.0 (OfLatch l) (sym (latch_source net one l d lt))
 
 -- ---- one net is written
 
