@@ -122,6 +122,15 @@ AreRight-merged k j k' recent is right g g' was = let united = unites_of k j k' 
 pub united-keeps : (k j k' : SessionValue) → k' ≡ session_union k j → HeldStays j k' → Keeps (store_of k) (store_of k')
 united-keeps k j k' is right = let united = unites_of k j k' is right in record { grows = united.left; vars = united.vars; table = united.table }
 
+pub other-keeps : (k o j k' : SessionValue) (q : ℕ) → j ≡ gets_quota q o → k' ≡ session_union k j → HeldStays j k' → (store_of o).table ≡ (store_of k).table → k.vars ≡ o.vars → Keeps (store_of o) (store_of k')
+other-keeps k o j k' q part is right table vars =
+    let united = unites_of k j k' is right in
+    record {
+      grows = subst (λ (x : SessionValue). Grows (store_of x).held (store_of k').held) part united.right;
+      vars = united.vars ∙ vars;
+      table = united.table ∙ sym table;
+    }
+
 pub AreRight-entries : (k : SessionValue) (old new : Recent) → entries_of new ≡ entries_of old → AreRight k old → AreRight k new
 AreRight-entries k old new same right = record { each = λ e has. right.each e (subst (λ (xs : List Joined). Contains xs e) same has) }
 

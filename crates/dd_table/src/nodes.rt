@@ -172,11 +172,12 @@ impl<'a> Nodes for TableNodes<'a> {
     }
 
     /// It holds all that the other holds then. It is three loads at most.
-    fn learn(&mut self, other: &mut Self) {
+    fn learn(&mut self, other: &mut Self) -> bool {
         let same = self.session.vars() == other.session.vars();
         let session = split_off(other.table, &mut other.session, 0);
         take_in(self.table, &mut self.session, session);
         self.recent.take_over(other.recent.take(), same);
+        same
     }
 
     fn used(&self) -> u32 {

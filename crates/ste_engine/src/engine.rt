@@ -1,31 +1,32 @@
 //! The engine; begin with `check_ste`.
 
-ghost use Rattle.std.specs.Prelude.{◌≡◌, ◌≢◌, ◌<◌, ◌≤◌, ℕ, List, All, IfOk, map};
+ghost use Rattle.std.specs.Prelude.{◌≡◌, ◌≢◌, ◌<◌, ◌≤◌, ℕ, List, All, IfOk, IfSome, OnOk, map};
 ghost use Rattle.dd_nodes.specs.Functions.{IsCofactorOf};
 ghost use Rattle.dd_nodes.specs.Stores.{Builds, Keeps};
 ghost use Rattle.net_core.specs.Work.{SymbolicSet};
 ghost use Rattle.dual_rail.specs.Rail.{Built};
 ghost use Rattle.sym_step.specs.Step.{rows_of};
+ghost use Rattle.sym_step.specs.private.Frames.{IsFrame, next_of};
 ghost use Rattle.ste_model.specs.declared.verdict.Verdict.TheVariants.{Budget};
 ghost use Rattle.ste_model.specs.Need.{IsWholeTable, ReadBelow};
 ghost use Rattle.ste_model.specs.Report.{IsReportOf, budget_report};
 ghost use Rattle.ste_model.specs.Work.{quints_work, task_work};
 ghost use Rattle.ste_engine.specs.Engine.{IsBudget, IsKept};
-ghost use Rattle.ste_engine.specs.private.Turns.{AreResults, IsLine};
+ghost use Rattle.ste_engine.specs.private.Turns.{AreResults, IsLine, first_rails};
 
 use crate::asks::asks_of;
 use crate::finish::finish;
 use crate::reports::{budget_report, report_of};
 use crate::results::Results;
 use crate::timeline::Timeline;
-use crate::turn::{at_start, first_frame, turn};
+use crate::turn::{at_start, frame_from, turn};
 use dd_nodes::Nodes;
 use dd_ops::{OpFault, Ops};
 use net_core::Net;
 use std::alloc::{AllocError, Global};
 use ste_base::Time;
 use ste_model::{Assertion, Quint, Report, depth};
-use sym_step::GateRows;
+use sym_step::{Frame, GateRows};
 
 /// The references of quintuples, as a timeline before time 0.
 fn line_of<N: Nodes>(
@@ -47,7 +48,8 @@ fn line_of<N: Nodes>(
     }
 }
 
-/// The strong, the weak and the contradictory assignments. Every guard and value is built before the first time.
+/// The strong, the weak and the contradictory assignments, with the frame before time 0, which is then that of the last
+/// time. Every guard and value is built before the first time.
 fn results<N: Nodes>(
     alloc: Global,
     ops: &Ops,
@@ -55,25 +57,26 @@ fn results<N: Nodes>(
     net: &Net,
     rows: &GateRows,
     task: &Assertion,
+    frame: &mut Frame,
 ) -> Result<Results, OpFault>
     requires rows { rows.now.covers ≡ map rows_of net.now.raw.covers }
     requires ant { All (λ quint. quint.node.0 < net.now.raw.nets) task.now.ant }
     requires con { All (λ quint. quint.node.0 < net.now.raw.nets) task.now.con }
     requires reads_ant { ReadBelow (N.store nodes.old).vars task.now.ant }
     requires reads_con { ReadBelow (N.store nodes.old).vars task.now.con }
-    ensures { (table : ℕ → ℕ → SymbolicSet)
+    requires frame { IsFrame (N.store nodes.old) net.now.raw frame.old }
+    requires first { next_of net.now.raw frame.old
+        ≡ map (first_rails task.now.reset) net.now.raw.latches }
+    ensures built { (table : ℕ → ℕ → SymbolicSet)
         → IsWholeTable net.now.raw (N.store nodes.old).vars task.now table
         → Built (task_work net.now.raw task.now table) (AreResults net.now.raw task.now table)
         (N.store nodes.old) (N.store nodes.new) result }
+    ensures frame { OnOk result (IsFrame (N.store nodes.new) net.now.raw frame.new) }
 {
     let depth = depth(task);
     let mut ant = line_of(alloc, ops, nodes, task.ant.as_slice(), depth)?;
     let mut con = line_of(alloc, ops, nodes, task.con.as_slice(), depth)?;
     let mut reached = at_start();
-    let mut frame = match first_frame(alloc, net, task.reset) {
-        Ok(frame) => frame,
-        Err(_) => return Err(OpFault::OutOfMemory),
-    };
     for t in 0..depth {
         let asked = match ant.cuts_at(alloc, t) {
             Ok(cuts) => cuts,
@@ -92,7 +95,7 @@ fn results<N: Nodes>(
             asked.as_slice(),
             wanted.as_slice(),
             &reached,
-            &mut frame,
+            frame,
         )?;
     }
     finish(ops, nodes, reached.contradictory, reached.found)
@@ -140,9 +143,58 @@ pub fn check_ste<N: Nodes>(
     ensures kept { IfOk result (λ report. report.verdict ≢ Budget
         → IsKept net.now.raw task.now (N.store nodes.new)) }
 {
+    check_ste_from(alloc, nodes, net, rows, task, cubes, &mut None)
+}
+
+/// As `check_ste`, and begins with the last frame of another assertion on the net, where there is one: what stays the same
+/// is not evaluated again. It leaves that of this one, but none where steps or memory are out.
+pub fn check_ste_from<N: Nodes>(
+    alloc: Global,
+    nodes: &mut N,
+    net: &Net,
+    rows: &GateRows,
+    task: &Assertion,
+    cubes: u32,
+    last: &mut Option<Frame>,
+) -> Result<Report, AllocError>
+    requires rows { rows.now.covers ≡ map rows_of net.now.raw.covers }
+    requires ant { All (λ quint. quint.node.0 < net.now.raw.nets) task.now.ant }
+    requires con { All (λ quint. quint.node.0 < net.now.raw.nets) task.now.con }
+    requires reads_ant { ReadBelow (N.store nodes.old).vars task.now.ant }
+    requires reads_con { ReadBelow (N.store nodes.old).vars task.now.con }
+    requires last { IfSome last.old (IsFrame (N.store nodes.old) net.now.raw) }
+
+    // The report is that of the definition, with at most so many cubes in each list.
+    ensures report { IfOk result (λ report. report.verdict ≢ Budget
+        → IsReportOf net.now.raw (N.store nodes.old).vars cubes task.now report) }
+
+    // There is none where steps were out, and they were too few.
+    ensures budget { IfOk result (λ report. report.verdict ≡ Budget
+        → (report ≡ budget_report task.now.name)
+        × IsBudget net.now.raw task.now (N.store nodes.old) (N.store nodes.new)) }
+
+    // What was held stays, and so does the limit; only nodes of the work functions are made.
+    ensures keeps { Keeps (N.store nodes.old) (N.store nodes.new) }
+    ensures limit { (N.store nodes.new).limit ≡ (N.store nodes.old).limit }
+    ensures builds { (table : ℕ → ℕ → SymbolicSet)
+        → IsWholeTable net.now.raw (N.store nodes.old).vars task.now table
+        → Builds (IsCofactorOf (N.store nodes.old).vars (task_work net.now.raw task.now table))
+        (N.store nodes.old) (N.store nodes.new) }
+
+    // The nodes of the kept functions are there.
+    ensures kept { IfOk result (λ report. report.verdict ≢ Budget
+        → IsKept net.now.raw task.now (N.store nodes.new)) }
+
+    // The frame that is left is one.
+    ensures last { IfSome last.new (IsFrame (N.store nodes.new) net.now.raw) }
+{
     let ops = Ops::new(alloc);
-    match results(alloc, &ops, nodes, net, rows, task) {
-        Ok(r) => report_of(alloc, &ops, nodes, net, rows, task, r, cubes),
+    let mut frame = frame_from(alloc, net, task.reset, last.take())?;
+    match results(alloc, &ops, nodes, net, rows, task, &mut frame) {
+        Ok(r) => {
+            *last = Some(frame);
+            report_of(alloc, &ops, nodes, net, rows, task, r, cubes)
+        }
         Err(OpFault::StepsOut) => budget_report(alloc, &task.name),
         Err(OpFault::OutOfMemory) => Err(AllocError),
     }

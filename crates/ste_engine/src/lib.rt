@@ -17,4 +17,4 @@ mod shown;
 mod timeline;
 mod turn;
 
-pub use engine::check_ste;
+pub use engine::{check_ste, check_ste_from};

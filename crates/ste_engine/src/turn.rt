@@ -1,6 +1,6 @@
 //! One time of an assertion; begin with `turn`.
 
-ghost use Rattle.std.specs.Prelude.{◌≡◌, ℕ, List, All, IfOk, OnOk, map};
+ghost use Rattle.std.specs.Prelude.{◌≡◌, ℕ, List, All, IfOk, IfSome, OnOk, map};
 ghost use Rattle.std.specs.List.{AllZip};
 ghost use Rattle.dd_nodes.specs.Diagram.{Function, IsDiagram};
 ghost use Rattle.dd_nodes.specs.Stores.{Means, Store};
@@ -63,6 +63,27 @@ pub fn first_frame(alloc: Global, net: &Net, reset: bool) -> Result<Frame, Alloc
     let first = first_sets(alloc, net, reset)?;
     let frame = Frame::starting(alloc, net, first)?;
     Ok(frame)
+}
+
+/// The frame before time 0, which goes on from the last frame of another task, where there is one.
+pub fn frame_from(
+    alloc: Global,
+    net: &Net,
+    reset: bool,
+    last: Option<Frame>,
+) -> Result<Frame, AllocError>
+    ensures frame { IfOk result (λ frame. (s : Store) → IsDiagram s.held s.vars
+        → IfSome last (IsFrame s net.now.raw) → IsFrame s net.now.raw frame) }
+    ensures next { IfOk result (λ frame.
+        next_of net.now.raw frame ≡ map (first_rails reset) net.now.raw.latches) }
+{
+    match last {
+        Some(frame) => {
+            let first = first_sets(alloc, net, reset)?;
+            Ok(frame.restarted(first))
+        }
+        None => first_frame(alloc, net, reset),
+    }
 }
 
 /// What there is before time 0.

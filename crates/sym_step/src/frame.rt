@@ -3,6 +3,7 @@
 ghost use Rattle.std.specs.Prelude.{◌≡◌, ◌<◌, ◌≤◌, ℕ, IfOk, IsTrue, OnOk, All, length, map};
 ghost use Rattle.dd_nodes.specs.Diagram.{IsDiagram};
 ghost use Rattle.dd_nodes.specs.Stores.{Store};
+ghost use Rattle.net_core.specs.declared.raw.RawNet.{RawNet};
 ghost use Rattle.dual_rail.specs.Rail.{AreRefs};
 ghost use Rattle.sym_step.specs.Step.{rails_at};
 ghost use Rattle.sym_step.specs.private.Boards.{AreFull};
@@ -69,6 +70,16 @@ impl Frame {
         let mut frame = Frame::blank(alloc, net)?;
         frame.first = Some(first);
         Ok(frame)
+    }
+
+    /// This frame before a first time, at which the latches have these sets. What the frame keeps is not evaluated again.
+    pub fn restarted(mut self, first: Items<Rails>) -> Frame
+        ensures frame { (s : Store) (net : RawNet) → IsFrame s net self
+            → length first ≡ length net.latches → All (AreRefs s) first → IsFrame s net result }
+        ensures next { (net : RawNet) → next_of net result ≡ first }
+    {
+        self.first = Some(first);
+        self
     }
 
     /// The set of a net at the time of the frame.

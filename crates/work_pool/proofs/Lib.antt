@@ -5,3 +5,4 @@ pub mod Agreeing
 pub mod Shared
 pub mod Numbers
 pub mod Runs
+pub mod Frames

@@ -1,7 +1,6 @@
 -- A run of jobs that are done one after another, as far as the i-th.
 use Rattle.std.proofs.Common.{◌≡◌, ◌≢◌, ◌<◌, ◌≤◌, ◌+◌, ◌-◌, ◌++◌, ◌∙◌, ℕ, List, [], length, get_or, set, refl, sym, ap, subst, inl, inr, arith}
-use Rattle.std.specs.Prelude.{◌⊎◌, IfSome, Option, Some, Result}
-use Rattle.std.specs.Bool.{IsTrue}
+use Rattle.std.specs.Prelude.{Result}
 use Rattle.std.specs.declared.alloc.AllocError.{AllocError}
 use Rattle.std.proofs.lemmas.Bool.Decides.{eqb_tells}
 use Rattle.std.proofs.lemmas.Bool.{cases_lt}
@@ -113,6 +112,16 @@ module _ {X : Type 0} (store : X → Store) (place : X → ℕ) (outcome : X →
       stores = λ k d lt le. by_place (λ m a b. m ≤ i → store b ≡ store a) (λ _ z le. refl) (λ le. sx) (λ le. absurd (omega (arith, le))) k d le;
       like = λ k d lt. by_place (λ _ a b. IsLike (store a) (store b)) (λ _ z. IsLike-refl (store z)) (subst (λ (s : Store). IsLike (store r) s) (sym sx) (IsLike-refl (store r))) sy k d;
     }
+
+    -- of the last of the one part as it was, and of the first of the other one as it is
+    pub over_parts : (P : X → X → Type 0) → P r y → (d : X) → P (get_or old i d) (get_or (set front i x ++ set back 0 y) (i + 1) d)
+    over_parts P both d =
+        subst (λ (xs : List X). P (get_or xs i d) (get_or (set front i x ++ set back 0 y) (i + 1) d)) (sym is)
+        (subst (λ (z : X). P z (get_or (set front i x ++ set back 0 y) (i + 1) d)) (sym (get_or_append_left front back d i (omega (arith, long))))
+        (subst (λ (z : X). P z (get_or (set front i x ++ set back 0 y) (i + 1) d)) (at_x ∙ get_or_default front i r d (omega (arith, long)))
+        (subst (λ (z : X). P r z) (sym (get_or-append_right (set front i x) (set back 0 y) (i + 1) (i + 1) d wide (omega arith)))
+        (let at : 0 ≡ (i + 1) - (i + 1) = omega arith in
+        subst (λ (n : ℕ). P r (get_or (set back 0 y) n d)) at (subst (P r) (sym (get_or-set_same back 0 y d some)) both)))))
 
   -- the job that is done and the one behind it stand on one table
   pub one_table : (first jobs : List X) (i : ℕ) (r new : X) → length jobs ≡ length first → i < length first

@@ -1,12 +1,14 @@
 //! The work on tasks, over any store that can be shared out; begin with `pooled_tasks`.
 
-ghost use Rattle.std.specs.Prelude.{◌≡◌, ℕ, ◌+◌, ◌*◌, ◌^◌, ◌<◌, ◌≤◌, List, [], length, map, All, IfOk, IfSome, get_or};
+ghost use Rattle.std.specs.Prelude.{◌≡◌, ℕ, ◌+◌, ◌*◌, ◌^◌, ◌<◌, ◌≤◌, List, [], length, map, All, IfOk, IfSome, IsTrue, get_or};
 ghost use Rattle.std.specs.List.{AllZip};
 ghost use Rattle.std.specs.List.Sorted.{IsNonDecreasingBy, IsPermutation};
-ghost use Rattle.dd_nodes.specs.Stores.{gives_up};
+ghost use Rattle.dd_nodes.specs.Stores.{Keeps, gives_up};
 ghost use Rattle.net_core.specs.declared.raw.RawNet.{RawNet};
+ghost use Rattle.net_core.specs.Flat.{IsInRange};
 ghost use Rattle.ste_model.specs.declared.task.Task.{Task as ATask};
 ghost use Rattle.sym_step.specs.Step.{rows_of};
+ghost use Rattle.sym_step.specs.private.Frames.{IsFrame};
 ghost use Rattle.work_pool.specs.Pool.{IsPooled, IsTaskOver};
 ghost use Rattle.work_pool.specs.private.Jobs.{AreDone, AreJobs, HandsOn, IsDone, IsReady, tasks_at};
 
@@ -18,9 +20,9 @@ use net_core::Net;
 use std::alloc::{AllocError, Global};
 use std::thread;
 use std::thread::Threads;
-use ste_engine::check_ste;
+use ste_engine::check_ste_from;
 use ste_model::{Report, Task};
-use sym_step::GateRows;
+use sym_step::{Frame, GateRows};
 
 /// The work on the task whose number stands at this place: a store of its own, and what came out.
 #[derive(Drop)]
@@ -30,7 +32,8 @@ pub(crate) struct Job<N> {
     pub(crate) outcome: Result<Report, AllocError>,
 }
 
-/// The report of a task over a store that made nothing yet.
+/// The report of a task over a store that made nothing yet, from the last frame of another one, where there is one; it
+/// leaves one for the next, where there is one.
 fn check<N: Nodes>(
     alloc: Global,
     nodes: &mut N,
@@ -38,15 +41,18 @@ fn check<N: Nodes>(
     rows: &GateRows,
     task: &Task,
     cubes: u32,
+    last: &mut Option<Frame>,
 ) -> Result<Report, AllocError>
     requires rows { rows.now.covers ≡ map rows_of net.now.raw.covers }
     requires made { (N.store nodes.old).made ≡ [] }
     requires over { IsTaskOver net.now.raw (N.store nodes.old).vars task.now }
-    ensures { IsDone net.now.raw (N.store nodes.old).limit cubes task.now (N.store nodes.old)
+    requires last { IfSome last.old (IsFrame (N.store nodes.old) net.now.raw) }
+    ensures done { IsDone net.now.raw (N.store nodes.old).limit cubes task.now (N.store nodes.old)
         (N.store nodes.new) result }
+    ensures last { IfSome last.new (IsFrame (N.store nodes.new) net.now.raw) }
 {
     match task {
-        Task::Ste(assertion) => check_ste(alloc, nodes, net, rows, assertion, cubes),
+        Task::Ste(assertion) => check_ste_from(alloc, nodes, net, rows, assertion, cubes, last),
         Task::Gste(graph) => check_graph(alloc, nodes, net, rows, graph, cubes),
     }
 }
@@ -59,40 +65,53 @@ fn work<N: Nodes>(
     task: &Task,
     cubes: u32,
     job: &mut Job<N>,
+    last: &mut Option<Frame>,
 )
     requires rows { rows.now.covers ≡ map rows_of net.now.raw.covers }
     requires made { (N.store job.old.nodes).made ≡ [] }
     requires over { IsTaskOver net.now.raw (N.store job.old.nodes).vars task.now }
+    requires last { IfSome last.old (IsFrame (N.store job.old.nodes) net.now.raw) }
     ensures place { job.new.place ≡ job.old.place }
     ensures done { IsDone net.now.raw (N.store job.old.nodes).limit cubes task.now
         (N.store job.old.nodes) (N.store job.new.nodes) job.new.outcome }
+    ensures last { IfSome last.new (IsFrame (N.store job.new.nodes) net.now.raw) }
 {
-    job.outcome = check(alloc, &mut job.nodes, net, rows, task, cubes);
+    job.outcome = check(alloc, &mut job.nodes, net, rows, task, cubes, last);
 }
 
-/// The store of the job behind the i-th takes over what that one's store remembers.
-fn hand_over<N: Nodes>(jobs: &mut [Job<N>], i: usize)
+/// The store of the job behind the i-th takes over what that one's store remembers; the result is whether it holds all that
+/// that one held.
+fn hand_over<N: Nodes>(jobs: &mut [Job<N>], i: usize) -> bool
     requires within { i + 1 < length jobs.old }
     requires table { (job : Job N) → (N.store (get_or jobs.old i job).nodes).table
         ≡ (N.store (get_or jobs.old (i + 1) job).nodes).table }
-    ensures { HandsOn (λ job. N.store job.nodes) (λ job. job.place) (λ job. job.outcome)
+    ensures hands { HandsOn (λ job. N.store job.nodes) (λ job. job.place) (λ job. job.outcome)
         i jobs.old jobs.new }
+    ensures all { IsTrue result → (job : Job N) → Keeps
+        (N.store (get_or jobs.old i job).nodes) (N.store (get_or jobs.new (i + 1) job).nodes) }
 {
     let (front, back) = jobs.split_at_mut(i + 1);
-    back[0].nodes.learn(&mut front[i].nodes);
+    back[0].nodes.learn(&mut front[i].nodes)
 }
 
-/// The same, where there is a job behind the i-th.
-fn hand_on<N: Nodes>(jobs: &mut [Job<N>], i: usize)
+/// The same, where there is a job behind the i-th; and the last frame goes over to that job, where its store holds what the
+/// frame refers to.
+fn hand_on<N: Nodes>(jobs: &mut [Job<N>], i: usize, last: &mut Option<Frame>)
     requires within { i < length jobs.old }
     requires table { (job : Job N) → i + 1 < length jobs.old
         → (N.store (get_or jobs.old i job).nodes).table
         ≡ (N.store (get_or jobs.old (i + 1) job).nodes).table }
-    ensures { HandsOn (λ job. N.store job.nodes) (λ job. job.place) (λ job. job.outcome)
+    ensures hands { HandsOn (λ job. N.store job.nodes) (λ job. job.place) (λ job. job.outcome)
         i jobs.old jobs.new }
+    ensures last { (net : RawNet) (job : Job N) → IsInRange net → i + 1 < length jobs.old
+        → IfSome last.old (IsFrame (N.store (get_or jobs.old i job).nodes) net)
+        → IfSome last.new (IsFrame (N.store (get_or jobs.new (i + 1) job).nodes) net) }
 {
-    if i + 1 < jobs.len() {
-        hand_over(jobs, i);
+    if i + 1 >= jobs.len() {
+        return;
+    }
+    if !hand_over(jobs, i) {
+        *last = None;
     }
 }
 
@@ -106,6 +125,7 @@ fn work_at<N: Nodes, G: Gate>(
     cubes: u32,
     job: &mut Job<N>,
     gate: &G,
+    last: &mut Option<Frame>,
 )
     requires rows { rows.now.covers ≡ map rows_of net.now.raw.covers }
     requires numbers { All (λ number. number < length tasks.now) numbers.now }
@@ -113,18 +133,21 @@ fn work_at<N: Nodes, G: Gate>(
     requires made { (N.store job.old.nodes).made ≡ [] }
     requires over { (task : ATask) → IsTaskOver net.now.raw (N.store job.old.nodes).vars
         (get_or tasks.now (get_or numbers.now job.old.place 0) task) }
+    requires last { IfSome last.old (IsFrame (N.store job.old.nodes) net.now.raw) }
     ensures place { job.new.place ≡ job.old.place }
     ensures done { (task : ATask) → IsDone net.now.raw (N.store job.old.nodes).limit cubes
         (get_or tasks.now (get_or numbers.now job.old.place 0) task)
         (N.store job.old.nodes) (N.store job.new.nodes) job.new.outcome }
     ensures table { (N.store job.new.nodes).table ≡ (N.store job.old.nodes).table }
+    ensures last { IfSome last.new (IsFrame (N.store job.new.nodes) net.now.raw) }
 {
     let number = numbers[job.place as usize];
     gate.at_task(number);
-    work(alloc, net, rows, &tasks[number as usize], cubes, job);
+    work(alloc, net, rows, &tasks[number as usize], cubes, job, last);
 }
 
-/// Each of these jobs is done once, one after another. What the store of one remembers goes over to that of the next.
+/// Each of these jobs is done once, one after another. What the store of one remembers goes over to that of the next, and so
+/// does the last frame.
 fn work_run<N: Nodes, G: Gate>(
     alloc: Global,
     net: &Net,
@@ -141,9 +164,20 @@ fn work_run<N: Nodes, G: Gate>(
     ensures { AreDone (λ job. N.store job.nodes) (λ job. job.place) (λ job. job.outcome)
         net.now.raw cubes tasks.now numbers.now jobs.old jobs.new }
 {
+    let mut last = None;
     for i in 0..jobs.len() {
-        work_at(alloc, net, rows, tasks, numbers, cubes, &mut jobs[i], gate);
-        hand_on(jobs, i);
+        work_at(
+            alloc,
+            net,
+            rows,
+            tasks,
+            numbers,
+            cubes,
+            &mut jobs[i],
+            gate,
+            &mut last,
+        );
+        hand_on(jobs, i, &mut last);
     }
 }
 

@@ -1,8 +1,10 @@
 use Rattle.std.proofs.Common.{◌≡◌, ◌<◌, ◌≤◌, ◌+◌, List, All, Ok, Err, sym, ◌∙◌, ap, subst, arith}
+use Rattle.std.specs.Prelude.{OnOk, Result}
 use Rattle.std.specs.List.{AllZip}
 use Rattle.dd_nodes.specs.Diagram.{Function}
 use Rattle.dd_nodes.specs.Stores.{Store, Means}
 use Rattle.dd_nodes.proofs.Spending.{zero_means}
+use Rattle.dd_nodes.proofs.Stores.{Keeps-trans}
 use Rattle.net_core.specs.Run.{IsSettled}
 use Rattle.net_core.proofs.Ordered.{settled_by_order}
 use Rattle.dual_rail.specs.declared.rails.Rails.{Rails}
@@ -14,6 +16,7 @@ use Rattle.ste_model.specs.Asked.{depth}
 use Rattle.ste_model.specs.Work.{latches_at, quints_work, task_work}
 use Rattle.ste_model.proofs.Needs.{whole_exists}
 use Rattle.sym_step.specs.private.Frames.{next_of}
+use Rattle.sym_step.proofs.Framing.{frame_keeps}
 use Rattle.ste_engine.specs.declared.results.Found.{Found}
 use Rattle.ste_engine.specs.declared.timeline.Timeline.{Timeline}
 use Rattle.ste_engine.specs.declared.turn.Turned.{Turned}
@@ -25,6 +28,10 @@ use Rattle.ste_engine.proofs.Asked.{Asks-keep}
 use Rattle.ste_engine.proofs.Times.{IsTurnedAt, ReachedAt, ant_in, con_in, empty_sum, firsts_are, last_in, reached_next, strong_sum, time_call, time_turn, turned_refs, weak_sum}
 use Rattle.ste_engine.proofs.engine.results.Goals as goal
 
+on_ok : {T E P : Type 0} (r : Result T E) → P → OnOk r P
+on_ok (Ok x) p = p
+on_ok (Err e) p = tt
+
 pub line_of-requires-clause-within : goal.line_of-requires-clause-within
 line_of-requires-clause-within g c =
     let task : Assertion = c.args.task.now in
@@ -35,8 +42,8 @@ line_of-requires-2-clause-within g c =
     let task : Assertion = c.args.task.now in
     subst (λ (xs : List Quint). All (λ quint. quint.to ≤ c.depth-depth.result) xs) (sym c.as_slice-2.ensures) (subst (λ m. All (λ quint. quint.to ≤ m) task.con) (sym c.depth-depth.ensures) (con_within task))
 
-pub returns-in_err-ant : goal.returns-in_err-ant
-returns-in_err-ant g c = λ table whole.
+pub returns-in_err-ant-clause-built : goal.returns-in_err-ant-clause-built
+returns-in_err-ant-clause-built g c = λ table whole.
     let s : Store = g.N.Nodes.store c.args.nodes.now in
     let gs = g.met.N.Nodes.diagram c.args.nodes.now in
     let net = c.args.net.now in
@@ -50,8 +57,8 @@ returns-in_err-ant g c = λ table whole.
     let a : Built (quints_work task.ant) AntLine s t1 (Err fault) = subst (λ (xs : List Quint). Built (quints_work xs) (λ t line. IsLine t xs n 0 line) s t1 (Err fault)) c.as_slice.ensures c.in_err-ant.ensures in
     pass work AntLine (AreResults net.raw task table) s s t1 fault c.from_residual.result gs g1 (So-start work s) (Built-wider work (quints_work task.ant) AntLine s t1 (Err fault) (ant_in net.raw task table) a) c.from_residual.ensures.1
 
-pub returns-in_err-con : goal.returns-in_err-con
-returns-in_err-con g c = λ table whole.
+pub returns-in_err-con-clause-built : goal.returns-in_err-con-clause-built
+returns-in_err-con-clause-built g c = λ table whole.
     let s : Store = g.N.Nodes.store c.args.nodes.now in
     let gs = g.met.N.Nodes.diagram c.args.nodes.now in
     let net = c.args.net.now in
@@ -69,24 +76,6 @@ returns-in_err-con g c = λ table whole.
     let b : Built (quints_work task.con) ConLine t1 t2 (Err fault) = subst (λ (xs : List Quint). Built (quints_work xs) (λ t line. IsLine t xs n 0 line) t1 t2 (Err fault)) c.as_slice-2.ensures c.in_err-con.ensures in
     pass work ConLine (AreResults net.raw task table) s t1 t2 fault c.from_residual-in_err-con.result g1 g2 (first work AntLine s t1 (Ok c.in_ok-ant.ant) (Built-wider work (quints_work task.ant) AntLine s t1 (Ok c.in_ok-ant.ant) (ant_in net.raw task table) a)) (Built-wider work (quints_work task.con) ConLine t1 t2 (Err fault) (con_in net.raw task table) b) c.from_residual-in_err-con.ensures.1
 
-pub returns-in-Err : goal.returns-in-Err
-returns-in-Err g c = λ table whole.
-    let s : Store = g.N.Nodes.store c.args.nodes.now in
-    let gs = g.met.N.Nodes.diagram c.args.nodes.now in
-    let net = c.args.net.now in
-    let task : Assertion = c.args.task.now in
-    let n = c.depth-depth.result in
-    let t1 : Store = g.N.Nodes.store c.line_of.new.nodes in
-    let g1 = g.met.N.Nodes.diagram c.line_of.new.nodes in
-    let work : List Function = task_work net.raw task table in
-    let AntLine : Store → Timeline → Type 0 = λ t line. IsLine t task.ant n 0 line in
-    let a : Built (quints_work task.ant) AntLine s t1 (Ok c.in_ok-ant.ant) = subst (λ (xs : List Quint). Built (quints_work xs) (λ t line. IsLine t xs n 0 line) s t1 (Ok c.in_ok-ant.ant)) c.as_slice.ensures c.in_ok-ant.ensures in
-    let t2 : Store = g.N.Nodes.store c.line_of-2.new.nodes in
-    let g2 = g.met.N.Nodes.diagram c.line_of-2.new.nodes in
-    let ConLine : Store → Timeline → Type 0 = λ t line. IsLine t task.con n 0 line in
-    let b : Built (quints_work task.con) ConLine t1 t2 (Ok c.in_ok-con.con) = subst (λ (xs : List Quint). Built (quints_work xs) (λ t line. IsLine t xs n 0 line) t1 t2 (Ok c.in_ok-con.con)) c.as_slice-2.ensures c.in_ok-con.ensures in
-    Built-lost work (AreResults net.raw task table) s t2 (more work ConLine s t1 t2 (Ok c.in_ok-con.con) g1 g2 (first work AntLine s t1 (Ok c.in_ok-ant.ant) (Built-wider work (quints_work task.ant) AntLine s t1 (Ok c.in_ok-ant.ant) (ant_in net.raw task table) a)) (Built-wider work (quints_work task.con) ConLine t1 t2 (Ok c.in_ok-con.con) (con_in net.raw task table) b))
-
 pub loop-t-init : goal.loop-t-init
 loop-t-init g c =
     let s : Store = g.N.Nodes.store c.args.nodes.now in
@@ -103,30 +92,29 @@ loop-t-init g c =
     let ConLine : Store → Timeline → Type 0 = λ t line. IsLine t task.con n 0 line in
     let b : Built (quints_work task.con) ConLine t1 t2 (Ok c.in_ok-con.con) = subst (λ (xs : List Quint). Built (quints_work xs) (λ t line. IsLine t xs n 0 line) t1 t2 (Ok c.in_ok-con.con)) c.as_slice-2.ensures c.in_ok-con.ensures in
     let start = c.at_start-reached.ensures in
-    let begun = c.in-Ok.ensures in
     record {
       ant = Line-keeps t1 t2 task.ant n 0 c.in_ok-ant.ant g1 g2 b.spends.keeps a.ok;
       con = b.ok;
-      frame = begun.frame t2 g2;
+      frame = frame_keeps s t2 net.raw c.args.frame.now net.in_range gs g2 (Keeps-trans s t1 t2 a.spends.keeps b.spends.keeps) c.requires.frame;
       reached = λ table whole.
           let work : List Function = task_work net.raw task table in
           record {
             so = more work ConLine s t1 t2 (Ok c.in_ok-con.con) g1 g2 (first work AntLine s t1 (Ok c.in_ok-ant.ant) (Built-wider work (quints_work task.ant) AntLine s t1 (Ok c.in_ok-ant.ant) (ant_in net.raw task table) a)) (Built-wider work (quints_work task.con) ConLine t1 t2 (Ok c.in_ok-con.con) (con_in net.raw task table) b);
-            next = subst (λ (xs : List Rails). AllZip (AreRails t2) (latches_at net.raw task table 0) xs) (sym begun.next) (firsts_are t2 task.reset net.raw.latches g2);
+            next = subst (λ (xs : List Rails). AllZip (AreRails t2) (latches_at net.raw task table 0) xs) (sym c.requires.first) (firsts_are t2 task.reset net.raw.latches g2);
             contradictory = subst (λ r. Means t2 (empty_sum net.raw table 0) r) (sym (ap (λ (r : Turned). r.contradictory) start)) (zero_means t2 g2);
             found = subst (λ (r : Found). AreFound (strong_sum task table 0) (weak_sum task table 0) t2 r) (sym (ap (λ (r : Turned). r.found) start)) (record { strong = zero_means t2 g2; weak = zero_means t2 g2 });
             nets = λ k id lt inside. absurd (omega (arith, lt));
           };
     }
 
-pub returns-in-Err-cuts_at : goal.returns-in-Err-cuts_at
-returns-in-Err-cuts_at g c = λ table whole.
+pub returns-in-Err-clause-built : goal.returns-in-Err-clause-built
+returns-in-Err-clause-built g c = λ table whole.
     let s : Store = g.N.Nodes.store c.args.nodes.now in
     let t : Store = g.N.Nodes.store c.loop-t.nodes in
     Built-lost (task_work c.args.net.now.raw c.args.task.now table) (AreResults c.args.net.now.raw c.args.task.now table) s t (c.loop-t.invariant.reached table whole).so
 
-pub returns-in-Err-cuts_at-2 : goal.returns-in-Err-cuts_at-2
-returns-in-Err-cuts_at-2 g c = λ table whole.
+pub returns-in-Err-cuts_at-clause-built : goal.returns-in-Err-cuts_at-clause-built
+returns-in-Err-cuts_at-clause-built g c = λ table whole.
     let s : Store = g.N.Nodes.store c.args.nodes.now in
     let t : Store = g.N.Nodes.store c.loop-t.nodes in
     Built-lost (task_work c.args.net.now.raw c.args.task.now table) (AreResults c.args.net.now.raw c.args.task.now table) s t (c.loop-t.invariant.reached table whole).so
@@ -143,8 +131,8 @@ loop-t-preserved g c =
     let p = c.loop-t.invariant in
     let k = c.loop-t.t in
     let below : k < depth task = subst (λ m. k < m) c.depth-depth.ensures c.loop-t-test.true in
-    let ant : IsNextLine t net.raw task.ant n k c.cuts_at.new.self c.as_slice-in-loop-t.result.now = next_line t net.raw task.ant n k c.loop-t.ant c.cuts_at.new.self c.in-Ok-cuts_at.cuts.items c.as_slice-in-loop-t.result.now p.ant c.loop-t-test.true c.requires.ant c.as_slice-in-loop-t.ensures.value c.in-Ok-cuts_at.ensures in
-    let con : IsNextLine t net.raw task.con n k c.cuts_at-in-loop-t.new.self c.as_slice-in-loop-t-2.result.now = next_line t net.raw task.con n k c.loop-t.con c.cuts_at-in-loop-t.new.self c.in-Ok-cuts_at-2.cuts.items c.as_slice-in-loop-t-2.result.now p.con c.loop-t-test.true c.requires.con c.as_slice-in-loop-t-2.ensures.value c.in-Ok-cuts_at-2.ensures in
+    let ant : IsNextLine t net.raw task.ant n k c.cuts_at.new.self c.as_slice-in-loop-t.result.now = next_line t net.raw task.ant n k c.loop-t.ant c.cuts_at.new.self c.in-Ok.cuts.items c.as_slice-in-loop-t.result.now p.ant c.loop-t-test.true c.requires.ant c.as_slice-in-loop-t.ensures.value c.in-Ok.ensures in
+    let con : IsNextLine t net.raw task.con n k c.cuts_at-in-loop-t.new.self c.as_slice-in-loop-t-2.result.now = next_line t net.raw task.con n k c.loop-t.con c.cuts_at-in-loop-t.new.self c.in-Ok-cuts_at.cuts.items c.as_slice-in-loop-t-2.result.now p.con c.loop-t-test.true c.requires.con c.as_slice-in-loop-t-2.ensures.value c.in-Ok-cuts_at.ensures in
     let u : Store = g.N.Nodes.store c.turn.new.nodes in
     let gu = g.met.N.Nodes.diagram c.turn.new.nodes in
     let settled : IsSettled net.raw = settled_by_order net.raw net.settled net.in_order in
@@ -162,8 +150,8 @@ loop-t-preserved g c =
           reached_next net.raw task table s t u k (next_of net.raw c.loop-t.frame) (next_of net.raw c.turn.new.frame) c.loop-t.reached after gt gu keeps before (first (task_work net.raw task table) (IsTurnedAt net.raw task table k (next_of net.raw c.turn.new.frame)) s u (Ok after) b) b.ok;
     }
 
-pub returns-in_err-reached : goal.returns-in_err-reached
-returns-in_err-reached g c = λ table whole.
+pub returns-in_err-reached-clause-built : goal.returns-in_err-reached-clause-built
+returns-in_err-reached-clause-built g c = λ table whole.
     let s : Store = g.N.Nodes.store c.args.nodes.now in
     let gs = g.met.N.Nodes.diagram c.args.nodes.now in
     let net = c.args.net.now in
@@ -174,8 +162,8 @@ returns-in_err-reached g c = λ table whole.
     let p = c.loop-t.invariant in
     let k = c.loop-t.t in
     let below : k < depth task = subst (λ m. k < m) c.depth-depth.ensures c.loop-t-test.true in
-    let ant : IsNextLine t net.raw task.ant n k c.cuts_at.new.self c.as_slice-in-loop-t.result.now = next_line t net.raw task.ant n k c.loop-t.ant c.cuts_at.new.self c.in-Ok-cuts_at.cuts.items c.as_slice-in-loop-t.result.now p.ant c.loop-t-test.true c.requires.ant c.as_slice-in-loop-t.ensures.value c.in-Ok-cuts_at.ensures in
-    let con : IsNextLine t net.raw task.con n k c.cuts_at-in-loop-t.new.self c.as_slice-in-loop-t-2.result.now = next_line t net.raw task.con n k c.loop-t.con c.cuts_at-in-loop-t.new.self c.in-Ok-cuts_at-2.cuts.items c.as_slice-in-loop-t-2.result.now p.con c.loop-t-test.true c.requires.con c.as_slice-in-loop-t-2.ensures.value c.in-Ok-cuts_at-2.ensures in
+    let ant : IsNextLine t net.raw task.ant n k c.cuts_at.new.self c.as_slice-in-loop-t.result.now = next_line t net.raw task.ant n k c.loop-t.ant c.cuts_at.new.self c.in-Ok.cuts.items c.as_slice-in-loop-t.result.now p.ant c.loop-t-test.true c.requires.ant c.as_slice-in-loop-t.ensures.value c.in-Ok.ensures in
+    let con : IsNextLine t net.raw task.con n k c.cuts_at-in-loop-t.new.self c.as_slice-in-loop-t-2.result.now = next_line t net.raw task.con n k c.loop-t.con c.cuts_at-in-loop-t.new.self c.in-Ok-cuts_at.cuts.items c.as_slice-in-loop-t-2.result.now p.con c.loop-t-test.true c.requires.con c.as_slice-in-loop-t-2.ensures.value c.in-Ok-cuts_at.ensures in
     let u : Store = g.N.Nodes.store c.turn.new.nodes in
     let gu = g.met.N.Nodes.diagram c.turn.new.nodes in
     let work : List Function = task_work net.raw task table in
@@ -196,7 +184,7 @@ turn-requires-clause-ant g c =
     let p = c.loop-t.invariant in
     let k = c.loop-t.t in
     let below : k < depth task = subst (λ m. k < m) c.depth-depth.ensures c.loop-t-test.true in
-    let ant : IsNextLine t net.raw task.ant n k c.cuts_at.new.self c.as_slice-in-loop-t.result.now = next_line t net.raw task.ant n k c.loop-t.ant c.cuts_at.new.self c.in-Ok-cuts_at.cuts.items c.as_slice-in-loop-t.result.now p.ant c.loop-t-test.true c.requires.ant c.as_slice-in-loop-t.ensures.value c.in-Ok-cuts_at.ensures in
+    let ant : IsNextLine t net.raw task.ant n k c.cuts_at.new.self c.as_slice-in-loop-t.result.now = next_line t net.raw task.ant n k c.loop-t.ant c.cuts_at.new.self c.in-Ok.cuts.items c.as_slice-in-loop-t.result.now p.ant c.loop-t-test.true c.requires.ant c.as_slice-in-loop-t.ensures.value c.in-Ok.ensures in
     ant.of
 
 pub turn-requires-clause-con : goal.turn-requires-clause-con
@@ -211,7 +199,7 @@ turn-requires-clause-con g c =
     let p = c.loop-t.invariant in
     let k = c.loop-t.t in
     let below : k < depth task = subst (λ m. k < m) c.depth-depth.ensures c.loop-t-test.true in
-    let con : IsNextLine t net.raw task.con n k c.cuts_at-in-loop-t.new.self c.as_slice-in-loop-t-2.result.now = next_line t net.raw task.con n k c.loop-t.con c.cuts_at-in-loop-t.new.self c.in-Ok-cuts_at-2.cuts.items c.as_slice-in-loop-t-2.result.now p.con c.loop-t-test.true c.requires.con c.as_slice-in-loop-t-2.ensures.value c.in-Ok-cuts_at-2.ensures in
+    let con : IsNextLine t net.raw task.con n k c.cuts_at-in-loop-t.new.self c.as_slice-in-loop-t-2.result.now = next_line t net.raw task.con n k c.loop-t.con c.cuts_at-in-loop-t.new.self c.in-Ok-cuts_at.cuts.items c.as_slice-in-loop-t-2.result.now p.con c.loop-t-test.true c.requires.con c.as_slice-in-loop-t-2.ensures.value c.in-Ok-cuts_at.ensures in
     con.of
 
 pub turn-requires-clause-before : goal.turn-requires-clause-before
@@ -257,8 +245,8 @@ finish-requires-clause-found g c =
     let f = (p.reached w.0 w.1).found in
     record { strong = f.strong.ref; weak = f.weak.ref }
 
-pub returns : goal.returns
-returns g c = λ table whole.
+pub returns-clause-built : goal.returns-clause-built
+returns-clause-built g c = λ table whole.
     let s : Store = g.N.Nodes.store c.args.nodes.now in
     let net = c.args.net.now in
     let task : Assertion = c.args.task.now in
@@ -284,3 +272,19 @@ returns g c = λ table whole.
       kept = kept_refs net.raw task table u p.ant.asks p.con.asks r.strong r.weak r.contradictory (Asks-keep t u 0 task.ant p.ant.asks gt gu keeps p.ant.fit) (Asks-keep t u 0 task.con p.con.asks gt gu keeps p.con.fit)
           (λ j id lt inside. let x = q.nets j id lt inside in (x.0, Rails-keep t u (table j id) x.0 gt gu keeps x.1)) h.strong h.weak h.contradictory;
     }) made)
+
+pub returns-clause-frame : goal.returns-clause-frame
+returns-clause-frame g c =
+    let s : Store = g.N.Nodes.store c.args.nodes.now in
+    let net = c.args.net.now in
+    let task : Assertion = c.args.task.now in
+    let t : Store = g.N.Nodes.store c.loop-t.nodes in
+    let gt = g.met.N.Nodes.diagram c.loop-t.nodes in
+    let p = c.loop-t.invariant in
+    let u : Store = g.N.Nodes.store c.finish.new.nodes in
+    let gu = g.met.N.Nodes.diagram c.finish.new.nodes in
+    let settled : IsSettled net.raw = settled_by_order net.raw net.settled net.in_order in
+    let w = whole_exists net.raw s.vars task settled in
+    let q = p.reached w.0 w.1 in
+    let keeps = (c.finish.ensures (empty_sum net.raw w.0 c.loop-t.t) (strong_sum task w.0 c.loop-t.t) (weak_sum task w.0 c.loop-t.t) q.contradictory q.found).spends.keeps in
+    on_ok c.finish.result (frame_keeps t u net.raw c.loop-t.frame net.in_range gt gu keeps p.frame)

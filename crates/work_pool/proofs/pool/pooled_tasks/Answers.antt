@@ -1,4 +1,4 @@
-use Rattle.std.proofs.Common.{ℕ, ◌≡◌, ◌∙◌, ◌<◌, [], All, length, get_or, sym, subst}
+use Rattle.std.proofs.Common.{◌∙◌, sym, subst}
 use Rattle.work_pool.specs.private.Jobs.{AreJobs, tasks_at}
 use Rattle.work_pool.proofs.Gathering.{all_done, all_jobs, written}
 use Rattle.work_pool.proofs.pool.pooled_tasks.Goals as goal

@@ -1,4 +1,7 @@
-use Rattle.std.proofs.Common.{◌∙◌, arith}
+use Rattle.std.proofs.Common.{arith, subst, sym}
+use Rattle.std.specs.Prelude.{IfSome}
+use Rattle.std.proofs.lemmas.List.{get_or-set_same, length-set}
+use Rattle.sym_step.specs.private.Frames.{IsFrame}
 use Rattle.work_pool.proofs.Runs.{done_next, long_next, one_table, rest_next, same_next}
 use Rattle.work_pool.proofs.pool.work_run.Goals as goal
 
@@ -15,10 +18,15 @@ loop-i-preserved g c =
     let lt = c.loop-i-test.true in
     let at = c.index-jobs-i.is in
     record {
-      long = long_next (λ j. g.N.Nodes.store j.nodes) (λ j. j.place) (λ j. j.outcome) c.args.net.now.raw c.args.cubes c.args.tasks.now c.args.numbers.now first jobs next i r new was.long lt at was.same was.done was.rest one.place one.done c.hand_on.ensures;
-      same = same_next (λ j. g.N.Nodes.store j.nodes) (λ j. j.place) (λ j. j.outcome) c.args.net.now.raw c.args.cubes c.args.tasks.now c.args.numbers.now first jobs next i r new was.long lt at was.same was.done was.rest one.place one.done c.hand_on.ensures;
-      done = done_next (λ j. g.N.Nodes.store j.nodes) (λ j. j.place) (λ j. j.outcome) c.args.net.now.raw c.args.cubes c.args.tasks.now c.args.numbers.now first jobs next i r new was.long lt at was.same was.done was.rest one.place one.done c.hand_on.ensures;
-      rest = rest_next (λ j. g.N.Nodes.store j.nodes) (λ j. j.place) (λ j. j.outcome) c.args.net.now.raw c.args.cubes c.args.tasks.now c.args.numbers.now first jobs next i r new was.long lt at was.same was.done was.rest one.place one.done c.hand_on.ensures;
+      long = long_next (λ j. g.N.Nodes.store j.nodes) (λ j. j.place) (λ j. j.outcome) c.args.net.now.raw c.args.cubes c.args.tasks.now c.args.numbers.now first jobs next i r new was.long lt at was.same was.done was.rest one.place one.done c.hand_on.ensures.hands;
+      same = same_next (λ j. g.N.Nodes.store j.nodes) (λ j. j.place) (λ j. j.outcome) c.args.net.now.raw c.args.cubes c.args.tasks.now c.args.numbers.now first jobs next i r new was.long lt at was.same was.done was.rest one.place one.done c.hand_on.ensures.hands;
+      done = done_next (λ j. g.N.Nodes.store j.nodes) (λ j. j.place) (λ j. j.outcome) c.args.net.now.raw c.args.cubes c.args.tasks.now c.args.numbers.now first jobs next i r new was.long lt at was.same was.done was.rest one.place one.done c.hand_on.ensures.hands;
+      frame = λ j more.
+          let long = was.long in
+          let e = length-set jobs i new in
+          c.hand_on.ensures.last c.args.net.now.raw j c.args.net.now.in_range (omega (arith, more, long, e))
+          (subst (λ (job : _). IfSome c.work_at.new.last (IsFrame (g.N.Nodes.store job.nodes) c.args.net.now.raw)) (sym (get_or-set_same jobs i new j (omega (arith, lt, long)))) one.last);
+      rest = rest_next (λ j. g.N.Nodes.store j.nodes) (λ j. j.place) (λ j. j.outcome) c.args.net.now.raw c.args.cubes c.args.tasks.now c.args.numbers.now first jobs next i r new was.long lt at was.same was.done was.rest one.place one.done c.hand_on.ensures.hands;
     }
 
 pub hand_on-requires-clause-table : goal.hand_on-requires-clause-table
@@ -31,3 +39,6 @@ returns g c =
     let was = c.loop-i.invariant in
     let long = was.long in
     record { long = long; same = was.same; done = λ k task job lt. was.done k task job (omega (arith, out, long, lt)) lt }
+
+pub work_at-requires-clause-last : goal.work_at-requires-clause-last
+work_at-requires-clause-last g c = c.loop-i.invariant.frame c.index-jobs-i.result c.loop-i-test.true

@@ -2,7 +2,7 @@ use Rattle.std.proofs.Common.{◌≡◌, nat_eq, sym, ◌∙◌, ap, subst}
 use Rattle.std.proofs.lemmas.Bool.{eqb-true}
 use Rattle.dd_table.specs.Recent.{AreRight}
 use Rattle.dd_table.specs.Sessions.{SessionValue, gets_quota}
-use Rattle.dd_table.proofs.Remembering.{AreRight-entries, AreRight-given, AreRight-united, united-keeps}
+use Rattle.dd_table.proofs.Remembering.{AreRight-entries, AreRight-given, AreRight-united, other-keeps, united-keeps}
 use Rattle.dd_table.proofs.nodes.TableNodesNodes.learn.Goals as goal
 
 pub invariant_of-self-clause-right : goal.invariant_of-self-clause-right
@@ -18,3 +18,8 @@ invariant_of-self-clause-right c =
 
 pub returns-clause-keeps : goal.returns-clause-keeps
 returns-clause-keeps c = united-keeps c.args.self.now.session c.split_off-session.result c.take_in.new.session c.take_in.ensures.both c.take_in.ensures.right
+
+pub returns-clause-all : goal.returns-clause-all
+returns-clause-all c = λ told.
+    other-keeps c.args.self.now.session c.args.other.now.session c.split_off-session.result c.take_in.new.session 0 c.split_off-session.ensures.new c.take_in.ensures.both c.take_in.ensures.right c.requires
+    (sym c.vars.ensures ∙ eqb-true c.vars.result c.vars-2.result told ∙ c.vars-2.ensures)
