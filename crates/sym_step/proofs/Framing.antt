@@ -167,7 +167,7 @@ inputs_refs s nets (x ∷ xs) refs inside = All-cons (AreRefs s) (input_rails ne
     (refs x.input.0 _ (All-head (λ (latch : Latch). latch.input.0 < length nets) x xs inside)) (inputs_refs s nets xs refs (All-tail (λ (latch : Latch). latch.input.0 < length nets) x xs inside))
 
 -- the latches' inputs are nets of a frame
-pub inputs_inside : (s : Store) (net : RawNet) (frame : Frame) → IsInRange net → IsFrame s net frame → All (λ latch. latch.input.0 < length (nets_of frame)) net.latches
+inputs_inside : (s : Store) (net : RawNet) (frame : Frame) → IsInRange net → IsFrame s net frame → All (λ latch. latch.input.0 < length (nets_of frame)) net.latches
 inputs_inside s net frame range f k d lt = subst (λ (n : ℕ). (get_or net.latches k d).input.0 < n) (sym (length-map frame.board.nets.items bare ∙ f.long)) (range.latch_inputs k d lt)
 
 -- the sets that the latches have at the time behind a frame are held, one for each

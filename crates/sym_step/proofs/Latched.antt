@@ -103,7 +103,7 @@ sets_held s net next asked nets sets range long first refs are j d lt =
 
 module _ (net : RawNet) (range : IsInRange net) (one : HasOneDriver net) (ls : List SymbolicSet) (ds : List SymbolicCut) (family : ℕ → SymbolicSet) where
   -- each set is what its net has before its cuts, and the latches that have none among them have theirs already
-  pub given_by : (s : Store) (next : List Rails) (cuts : List Cut) (asked : List NodeId) (nets : List NetRails) (sets : List LatchSet) → length next ≡ length net.latches → length nets ≡ net.nets → All (AreNetRefs s) nets
+  given_by : (s : Store) (next : List Rails) (cuts : List Cut) (asked : List NodeId) (nets : List NetRails) (sets : List LatchSet) → length next ≡ length net.latches → length nets ≡ net.nets → All (AreNetRefs s) nets
       → AllZip (AreRails s) ls next → ArePossibleEach s.vars net ls (asks ds) family → AllZip (IsCutBy s) ds cuts → asked ≡ map (λ (c : Cut). c.node) cuts → AreLatchSets net next asked nets sets → AreGiven s net ls family sets nets
   given_by s next cuts asked nets sets size long refs zip possible zipc is are = record {
     long = count;
