@@ -5,7 +5,7 @@ ghost use Rattle.command_line.specs.Bounds.{IsBounded};
 ghost use Rattle.sym_step.specs.Step.{rows_of};
 ghost use Rattle.ste_program.specs.Check.{is_pass};
 ghost use Rattle.ste_program.specs.private.Made.{IsCheckable};
-ghost use Rattle.ste_program.specs.private.Tries.{budget_numbers, first_steps, is_budget, next_steps, says_budget, woven};
+ghost use Rattle.ste_program.specs.private.Tries.{budget_numbers, first_steps, is_budget, most_first_steps, next_steps, says_budget, woven};
 ghost use Rattle.work_pool.specs.Told.{IsSharedCount, IsToldOf};
 
 use command_line::Command;
@@ -44,27 +44,36 @@ fn some_budget(reports: &[Report]) -> bool
     reports.iter().any(|report| is_budget(report.verdict))
 }
 
+/// The most node steps of a task over so many variables that are tried first: where these are few, nodes are few.
+fn most_first_steps(vars: u32) -> u32
+    ensures { result ≡ most_first_steps vars }
+{
+    if vars < 9 { 4096 } else { 2097152 }
+}
+
 /// The node steps of each of so many tasks that are tried first: for all tasks together eight for each net and task, but at
-/// least 131,072, which is a table of 2 MB, and at most 2,097,152; and at least 1,024 for each task.
-fn first_steps(nets: u32, tasks: u32, steps: u32) -> u32
+/// least 131,072, which is a table of 2 MB, and at most 2,097,152; for each task at most 4,096 where there are up to eight
+/// variables, and at least 1,024.
+fn first_steps(nets: u32, tasks: u32, vars: u32, steps: u32) -> u32
     requires { (1 ≤ tasks) × (1 ≤ steps) }
-    ensures exact { result ≡ first_steps nets tasks steps }
+    ensures exact { result ≡ first_steps nets tasks vars steps }
     ensures within { (1 ≤ result) × (result ≤ steps) }
 {
     let each = (nets as u64).saturating_mul(8);
     let all = each.saturating_mul(tasks as u64).clamp(131072, 2097152);
     let share = (all as u32) / tasks;
-    share.max(1024).min(steps)
+    share.min(most_first_steps(vars)).max(1024).min(steps)
 }
 
 /// The node steps of each of so many tasks that are tried next: four times those that were tried, and at least an equal
-/// share of 524,288, which is a table of 8 MB.
+/// share of 524,288, which is a table of 8 MB, but no more than 32 times those that were tried.
 fn next_steps(tried: u32, tasks: u32, steps: u32) -> u32
     requires { (1 ≤ tasks) × (1 ≤ tried) }
     ensures exact { result ≡ next_steps tried tasks steps }
     ensures more { tried < steps → (tried < result) × (result ≤ steps) }
 {
-    tried.saturating_mul(4).max(524288 / tasks).min(steps)
+    let share = (524288 / tasks).min(tried.saturating_mul(32));
+    tried.saturating_mul(4).max(share).min(steps)
 }
 
 /// Whether the report of this number says budget.
@@ -131,7 +140,8 @@ pub fn reports_of<R: Threads + Sync, G: Gate + Sync>(
     ensures counted { IfOk result (λ told. IfSome told.shared (IsSharedCount net.now.raw
         (length tasks.now.vars) steps tasks.now.tasks told.reports.items)) }
 {
-    let mut tried = first_steps(net.nets(), tasks.tasks.len() as u32, steps);
+    let count = tasks.tasks.len() as u32;
+    let mut tried = first_steps(net.nets(), count, tasks.vars.len() as u32, steps);
     let mut told = told_within(rt, alloc, asked, net, rows, tasks, tried, gate)?;
     while tried < steps {
         if !some_budget(&told.reports) {

@@ -1,5 +1,5 @@
 -- For private functions. With how many node steps tasks are tried, which are tried again, and where what is told of them goes.
-use Rattle.std.specs.Prelude.{◌/◌, ◌*◌, ℕ, Bool, true, false, min, max, List, [], ◌∷◌, filter, length, set, Option, Some, None, slice_get}
+use Rattle.std.specs.Prelude.{◌/◌, ◌*◌, ℕ, Bool, true, false, if◌then◌else◌, min, max, nat_lt, List, [], ◌∷◌, filter, length, set, Option, Some, None, slice_get}
 use Rattle.std.specs.List.{range_with_len}
 use Rattle.ste_model.specs.declared.report.Report.{Report}
 use Rattle.ste_model.specs.declared.verdict.Verdict.{Verdict}
@@ -10,13 +10,17 @@ abbrev pub is_budget : Verdict → Bool
 is_budget Budget = true
 is_budget other = false
 
--- the node steps of each of so many tasks over so many nets that are tried first, where so many are granted
-abbrev pub first_steps : ℕ → ℕ → ℕ → ℕ
-first_steps nets tasks steps = min (max (min (max (8 * nets * tasks) 131072) 2097152 / tasks) 1024) steps
+-- the most node steps of a task over so many variables that are tried first
+abbrev pub most_first_steps : ℕ → ℕ
+most_first_steps vars = if nat_lt vars 9 then 4096 else 2097152
+
+-- the node steps of each of so many tasks over so many nets and variables that are tried first, where so many are granted
+abbrev pub first_steps : ℕ → ℕ → ℕ → ℕ → ℕ
+first_steps nets tasks vars steps = min (max (min (min (max (8 * nets * tasks) 131072) 2097152 / tasks) (most_first_steps vars)) 1024) steps
 
 -- the node steps of each of so many tasks that are tried behind so many, where so many are granted
 abbrev pub next_steps : ℕ → ℕ → ℕ → ℕ
-next_steps tried tasks steps = min (max (4 * tried) (524288 / tasks)) steps
+next_steps tried tasks steps = min (max (4 * tried) (min (524288 / tasks) (32 * tried))) steps
 
 -- there is a report, and it says budget
 abbrev pub is_budget_report : Option Report → Bool
