@@ -115,6 +115,21 @@ fn hand_on<N: Nodes>(jobs: &mut [Job<N>], i: usize, last: &mut Option<Frame>)
     }
 }
 
+/// The most nets of a net whose last frame goes on to another task. That of a larger one leaves the processor's cache
+/// meanwhile, and to mark what is due by its lists takes longer than to evaluate all.
+const MOST_NETS: u32 = 32768;
+
+/// Lets the last frame go where it is that of a large net.
+fn let_go<N: Nodes>(net: &Net, job: &Job<N>, last: &mut Option<Frame>)
+    requires { IfSome last.old (IsFrame (N.store job.now.nodes) net.now.raw) }
+    ensures { IfSome last.new (IsFrame (N.store job.now.nodes) net.now.raw) }
+{
+    let _ = job;
+    if net.nets() > MOST_NETS {
+        *last = None;
+    }
+}
+
 /// Does a job.
 fn work_at<N: Nodes, G: Gate>(
     alloc: Global,
@@ -144,6 +159,7 @@ fn work_at<N: Nodes, G: Gate>(
     let number = numbers[job.place as usize];
     gate.at_task(number);
     work(alloc, net, rows, &tasks[number as usize], cubes, job, last);
+    let_go(net, job, last);
 }
 
 /// Each of these jobs is done once, one after another. What the store of one remembers goes over to that of the next, and so
