@@ -9,9 +9,12 @@ use Rattle.dd_nodes.proofs.Stores.{IsGood}
 use Rattle.net_core.specs.declared.bit_set.BitSet.{BitSet}
 use Rattle.net_core.specs.declared.raw.Latch.{Latch}
 use Rattle.net_core.specs.declared.raw.RawNet.{RawNet}
+use Rattle.net_core.specs.Flat.{IsInRange}
 use Rattle.net_core.specs.Run.{IsSettled}
 use Rattle.net_core.specs.Sets.{first_set}
 use Rattle.net_core.specs.Work.{SymbolicSet, set_at}
+use Rattle.sym_step.specs.private.Frames.{IsFrame}
+use Rattle.sym_step.proofs.Framing.{frame_keeps}
 use Rattle.ste_model.specs.declared.task.Edge.{Edge}
 use Rattle.ste_model.specs.declared.task.Graph.{Graph}
 use Rattle.ste_model.specs.GraphNeed.{AreWholeRounds}
@@ -40,9 +43,9 @@ use Rattle.gste_engine.proofs.SumsStay.{sum_stays}
 -- ---- behind a round
 
 module _ (net : RawNet) (graph : Graph) (table : List State) (long : length table ≡ length graph.vertices) where
-  pub turn_between : (t u : Store) (wave : Wave) (sweep : Sweep) → IsGood t → IsGood u → Keeps t u → AreEdgesOver net t.vars (length graph.vertices) graph.edges → AreGivenFrom t net graph.edges table wave.givens.items → AreSeen t net graph.edges table wave.seen.items → IsSwept u net graph wave.givens.items table [] sweep
-      → IsBetween u net graph (record { table = sweep.table; givens = wave.givens; seen = wave.seen; changed = sweep.changed; flags = sweep.flags })
-  turn_between t u wave sweep gt gu keeps over q z p = record {
+  pub turn_between : (t u : Store) (wave : Wave) (sweep : Sweep) → IsGood t → IsGood u → Keeps t u → AreEdgesOver net t.vars (length graph.vertices) graph.edges → AreGivenFrom t net graph.edges table wave.givens.items → AreSeen t net graph.edges table wave.seen.items → IsInRange net → IsFrame t net wave.frame → IsSwept u net graph wave.givens.items table [] sweep
+      → IsBetween u net graph (record { table = sweep.table; givens = wave.givens; seen = wave.seen; changed = sweep.changed; flags = sweep.flags; frame = wave.frame })
+  turn_between t u wave sweep gt gu keeps over q z range framed p = record {
     long = p.long;
     refs = p.refs;
     given = record {
@@ -64,6 +67,7 @@ module _ (net : RawNet) (graph : Graph) (table : List State) (long : length tabl
     inside = p.inside;
     flags = p.flags;
     clear = λ v h. Contains-none v (p.clear v h);
+    frame = frame_keeps t u net wave.frame range gt gu keeps framed;
   }
 
   pub turn_has : (u : Store) (givens : List State) (sweep : Sweep) (states : ℕ → SymbolicState) (sets : Edge → ℕ → SymbolicSet) → IsSettled net → AreEdgesOver net u.vars (length graph.vertices) graph.edges → HasStates states (length graph.vertices) u table → ArePossibleOn u.vars net states sets graph.edges → AreGivenFrom u net graph.edges table givens → IsSwept u net graph givens table [] sweep
@@ -215,6 +219,7 @@ module _ (t : Store) (net : RawNet) (graph : Graph) (r : Progress) (settled : Is
     inside = subst (λ (xs : List ℕ). All (λ v. v < length graph.vertices) xs) (sym start.changed) (All-cons (λ v. v < length graph.vertices) 0 [] over.sound.some (All-nil (λ v. v < length graph.vertices)));
     flags = ap (λ (xs : List Bool). length xs) start.flags ∙ length-replicate (length graph.vertices) false;
     clear = λ v h. no_flag v (subst (λ (xs : List Bool). IsTrue (get_or xs v false)) start.flags h);
+    frame = start.frame t gt;
   }
 
   -- it is the table of round 1

@@ -8,6 +8,8 @@ use Rattle.dd_nodes.specs.Stores.{Store, Keeps}
 use Rattle.dd_nodes.proofs.Members.{Contains-cons_cases, Contains-none}
 use Rattle.dd_nodes.proofs.Stores.{IsGood}
 use Rattle.net_core.specs.declared.raw.RawNet.{RawNet}
+use Rattle.sym_step.specs.declared.frame.Frame.{Frame}
+use Rattle.sym_step.specs.private.Frames.{IsFrame}
 use Rattle.dual_rail.specs.declared.rails.Rails.{Rails}
 use Rattle.ste_model.specs.declared.task.Edge.{Edge}
 use Rattle.ste_model.specs.declared.task.Graph.{Graph}
@@ -65,6 +67,7 @@ module _ (net : RawNet) (graph : Graph) (table : List State) where
     waiting = p.waiting;
     flags = p.flags;
     sums = p.sums;
+    frame = p.frame;
   }
 
   -- behind the last one
@@ -75,11 +78,12 @@ module _ (net : RawNet) (graph : Graph) (table : List State) where
     waiting = p.waiting;
     flags = p.flags;
     sums = p.sums;
+    frame = p.frame;
   }
 
-  -- one more edge
-  module _ (t u : Store) (stale : List ℕ) (v k next : ℕ) (edge : Edge) (source given : State) (sets : List Rails) (old new : Wave) (gt : IsGood t) (gu : IsGood u) (keeps : Keeps t u) (lt : k < length graph.edges) (is : edge ≡ get_or graph.edges k edge) (start : edge.from < length table)
-      (is_source : source ≡ get_or table edge.from source) (made : IsGivenFrom u net edge source given) (seen : IsSeenFrom u net edge source sets) (more : IsWithGiven old k edge.to given sets new) (ahead : IsNextAt From graph.edges v (k + 1) next) (p : IsWave t net graph table stale v k old) where
+  -- one more edge, which leaves this frame
+  module _ (t u : Store) (stale : List ℕ) (v k next : ℕ) (edge : Edge) (source given : State) (sets : List Rails) (old new : Wave) (now : Frame) (gt : IsGood t) (gu : IsGood u) (keeps : Keeps t u) (lt : k < length graph.edges) (is : edge ≡ get_or graph.edges k edge) (start : edge.from < length table)
+      (is_source : source ≡ get_or table edge.from source) (made : IsGivenFrom u net edge source given) (seen : IsSeenFrom u net edge source sets) (framed : IsFrame u net now) (more : IsWithGiven (record old { frame = now }) k edge.to given sets new) (ahead : IsNextAt From graph.edges v (k + 1) next) (p : IsWave t net graph table stale v k old) where
     this : (j : ℕ) (d : Edge) → j ≡ k → get_or graph.edges j d ≡ edge
     this j d same = ap (λ (n : ℕ). get_or graph.edges n d) same ∙ get_or_default graph.edges k d edge lt ∙ sym is
 
@@ -149,4 +153,5 @@ module _ (net : RawNet) (graph : Graph) (table : List State) where
           let not_before : ¬ Contains old.waiting.list.items w = λ has. none (more.others w has) in
           sum_moves u net graph old.givens.items new.givens.items w (get_or table w d) (same_into w none)
           (Sum-keeps t u net graph old.givens.items w (get_or table w d) gt gu keeps (p.sums w d l not_before));
+      frame = subst (IsFrame u net) (sym more.frame) framed;
     }

@@ -19,7 +19,7 @@ use std::alloc::{AllocError, Global};
 use ste_base::{Items, NodeId, Time};
 use ste_engine::shared::Failure;
 use ste_model::Graph;
-use sym_step::GateRows;
+use sym_step::{Frame, GateRows};
 
 /// The path that a failure shows under an assignment that is found so, by the numbers of its edges. The only error is want
 /// of memory, and a graph of 2^32 vertices or edges counts as such.
@@ -87,7 +87,10 @@ pub fn place_on<N: Nodes>(
     let time = path.len() - 1;
     let edge = &graph.edges.as_slice()[path[time] as usize];
     let source = &table[edge.from as usize];
-    let told = taken_on(alloc, nodes, net, rows, edge, source, bits, failure)?;
+    let mut frame = Frame::blank(alloc, net)?;
+    let told = taken_on(
+        alloc, nodes, net, rows, edge, source, bits, failure, &mut frame,
+    )?;
     match told.first {
         Some(node) => Ok((node, time as u32)),
         // The last edge of the path has a consequent that fails so.

@@ -1,7 +1,8 @@
 //! What is known of each edge under one assignment; begin with `hops_of`.
 
-ghost use Rattle.std.specs.Prelude.{◌≡◌, ◌<◌, ℕ, All, IfOk, length, map};
+ghost use Rattle.std.specs.Prelude.{◌≡◌, ◌<◌, ℕ, All, IfOk, OnOk, length, map};
 ghost use Rattle.sym_step.specs.Step.{rows_of};
+ghost use Rattle.sym_step.specs.private.Frames.{IsFrame};
 ghost use Rattle.ste_engine.specs.private.Places.{FailsBy, MakesNothing};
 ghost use Rattle.ste_model.specs.GraphHops.{AreEdgeHops, IsEdgeHop};
 ghost use Rattle.ste_model.specs.GraphWork.{SymbolicState};
@@ -16,9 +17,9 @@ use net_core::Net;
 use std::alloc::{AllocError, Global};
 use ste_engine::shared::Failure;
 use ste_model::{Edge, Graph};
-use sym_step::GateRows;
+use sym_step::{Frame, GateRows};
 
-/// What is known of an edge under an assignment, from the state of its source.
+/// What is known of an edge under an assignment, from the state of its source and a frame of any time.
 fn hop_of<N: Nodes>(
     alloc: Global,
     nodes: &mut N,
@@ -28,19 +29,22 @@ fn hop_of<N: Nodes>(
     source: &State,
     bits: &[bool],
     failure: Failure,
+    frame: &mut Frame,
 ) -> Result<Hop, AllocError>
     requires rows { rows.now.covers ≡ map rows_of net.now.raw.covers }
     requires ant { All (λ bind. bind.node.0 < net.now.raw.nets) edge.now.ant }
     requires con { All (λ bind. bind.node.0 < net.now.raw.nets) edge.now.con }
     requires source { AreStateRefs (N.store nodes.old) net.now.raw source.now }
     requires long { length bits.now ≡ (N.store nodes.old).vars }
+    requires frame { IsFrame (N.store nodes.old) net.now.raw frame.old }
     ensures hop { IfOk result (λ hop. (states : ℕ → SymbolicState)
         → IsState (N.store nodes.old) (states edge.now.from) source.now
         → IsEdgeHop (FailsBy failure) net.now.raw bits.now (table_at bits.now states)
         edge.now hop) }
     ensures same { MakesNothing (N.store nodes.old) (N.store nodes.new) }
+    ensures frame { OnOk result (IsFrame (N.store nodes.new) net.now.raw frame.new) }
 {
-    let told = taken_on(alloc, nodes, net, rows, edge, source, bits, failure)?;
+    let told = taken_on(alloc, nodes, net, rows, edge, source, bits, failure, frame)?;
     Ok(Hop {
         from: edge.from,
         to: edge.to,
@@ -75,10 +79,13 @@ pub fn hops_of<N: Nodes>(
 {
     let edges = graph.edges.as_slice();
     let mut hops = Vec::new(alloc);
+    let mut frame = Frame::blank(alloc, net)?;
     for k in 0..edges.len() {
         let edge = &edges[k];
         let source = &table[edge.from as usize];
-        let hop = hop_of(alloc, nodes, net, rows, edge, source, bits, failure)?;
+        let hop = hop_of(
+            alloc, nodes, net, rows, edge, source, bits, failure, &mut frame,
+        )?;
         hops.push(hop)?;
     }
     Ok(hops)

@@ -31,7 +31,7 @@ use std::alloc::Global;
 use ste_base::Items;
 use ste_engine::shared::{Results, but_not};
 use ste_model::{Edge, Graph};
-use sym_step::{Cut, GateRows};
+use sym_step::{Cut, Frame, GateRows};
 
 /// The table of the round that settles, and the strong, the weak and the contradictory assignments on it.
 #[derive(Debug, Drop)]
@@ -96,7 +96,8 @@ fn with_edge<N: Nodes>(
     if source.reached != Ref::FALSE {
         return with_found(&ops, nodes, seen, cuts, given.reached, found);
     }
-    let made = edge_found(alloc, nodes, net, rows, edge, source)?;
+    let mut frame = Frame::blank(alloc, net)?;
+    let made = edge_found(alloc, nodes, net, rows, edge, source, &mut frame)?;
     let sets = match seen_by(alloc, made.nets.as_slice(), edge.con.as_slice()) {
         Ok(sets) => sets,
         Err(_) => return Err(OpFault::OutOfMemory),

@@ -31,15 +31,16 @@ use net_core::{Net, settles};
 use std::alloc::{AllocError, Global};
 use ste_base::Items;
 use ste_model::{Edge, Graph};
-use sym_step::GateRows;
+use sym_step::{Frame, GateRows};
 
 /// What each edge gives, by number, the sets of the nets that its consequents name, where it has been evaluated, and the
-/// vertices to which an edge gives something else than before.
+/// vertices to which an edge gives something else than before; beside them the frame of the edge that was evaluated last.
 #[derive(Drop)]
 struct Wave {
     givens: Vec<State>,
     seen: Vec<Items<Rails>>,
     waiting: Waiting,
+    frame: Frame,
 }
 
 /// The same where the edge `k` gives this to a vertex, which waits from then on if that is something else than before.
@@ -129,7 +130,7 @@ fn renewed<N: Nodes>(
     while k < edges.len() {
         let edge = &edges[k];
         let source = &table[edge.from as usize];
-        let found = edge_found(alloc, nodes, net, rows, edge, source)?;
+        let found = edge_found(alloc, nodes, net, rows, edge, source, &mut wave.frame)?;
         wave = match with_edge(alloc, edge, k, found, wave) {
             Ok(more) => more,
             Err(_) => return Err(OpFault::OutOfMemory),
@@ -237,7 +238,7 @@ fn swept<N: Nodes>(
 }
 
 /// A table, what each edge gives and what is seen of it but for those from vertices that changed in the last round, these
-/// vertices, and a flag for each vertex, which is not set.
+/// vertices, a flag for each vertex, which is not set, and the frame of the edge that was evaluated last.
 #[derive(Drop)]
 struct Progress {
     table: Vec<State>,
@@ -245,6 +246,7 @@ struct Progress {
     seen: Vec<Items<Rails>>,
     changed: Vec<usize>,
     flags: Vec<bool>,
+    frame: Frame,
 }
 
 /// The table of the next round, from what each edge gives on a table: the vertices that wait are summed again.
@@ -277,6 +279,7 @@ fn resummed<N: Nodes>(
         givens,
         seen,
         waiting,
+        frame,
     } = wave;
     let Waiting { flags, list } = waiting;
     let start = Sweep {
@@ -300,6 +303,7 @@ fn resummed<N: Nodes>(
         seen,
         changed: sweep.changed,
         flags: sweep.flags,
+        frame,
     })
 }
 
@@ -355,6 +359,7 @@ fn round<N: Nodes>(
         givens: start.givens,
         seen: start.seen,
         waiting,
+        frame: start.frame,
     };
     let table = start.table;
     let wave = refreshed(
@@ -392,12 +397,14 @@ fn started(alloc: Global, net: &Net, graph: &Graph) -> Result<Progress, AllocErr
     let seen = nothing_seen(alloc, graph)?;
     let changed = vec![in alloc; 0; 1]?;
     let flags = vec![in alloc; false; graph.vertices.len()]?;
+    let frame = Frame::blank(alloc, net)?;
     Ok(Progress {
         table,
         givens,
         seen,
         changed,
         flags,
+        frame,
     })
 }
 
@@ -475,6 +482,7 @@ fn known_on<N: Nodes>(
         givens: last.givens,
         seen: last.seen,
         waiting,
+        frame: last.frame,
     };
     let table = last.table;
     let wave = refreshed(

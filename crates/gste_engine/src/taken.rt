@@ -1,9 +1,10 @@
 //! One edge under one assignment, by constants; begin with `taken_on`.
 
-ghost use Rattle.std.specs.Prelude.{◌≡◌, ◌<◌, ℕ, All, IfOk, length, map};
+ghost use Rattle.std.specs.Prelude.{◌≡◌, ◌<◌, ℕ, All, IfOk, OnOk, length, map};
 ghost use Rattle.dd_nodes.specs.Stores.{function};
 ghost use Rattle.dual_rail.specs.Rail.{AreRefs, set_of};
 ghost use Rattle.sym_step.specs.Step.{rows_of};
+ghost use Rattle.sym_step.specs.private.Frames.{IsFrame};
 ghost use Rattle.ste_engine.specs.private.Places.{MakesNothing};
 ghost use Rattle.ste_model.specs.GraphWork.{SymbolicState};
 ghost use Rattle.gste_engine.specs.Tables.{AreStateRefs, IsState};
@@ -20,7 +21,7 @@ use std::alloc::{AllocError, Global};
 use ste_base::NodeId;
 use ste_engine::shared::{Failure, constant, first_failing};
 use ste_model::{Bind, Edge};
-use sym_step::{Cut, GateRows, Step, step};
+use sym_step::{Cut, Frame, GateRows, Step, advance};
 
 /// What is known of an edge under an assignment: whether it is feasible, and the net of its first consequent that fails.
 #[derive(Clone, Copy, Debug, PartialEq, Eq, Drop)]
@@ -84,7 +85,8 @@ fn fixed_binds(alloc: Global, binds: &[Bind], bits: &[bool]) -> Result<Vec<Cut>,
     Ok(cuts)
 }
 
-/// The sets of an edge under an assignment, from the state of its source. All is constant, so no node is made.
+/// The sets of an edge under an assignment, from the state of its source and a frame of any time. All that is asked is
+/// constant, so no node is made.
 fn stepped<N: Nodes>(
     alloc: Global,
     nodes: &mut N,
@@ -93,20 +95,23 @@ fn stepped<N: Nodes>(
     edge: &Edge,
     source: &State,
     bits: &[bool],
+    frame: &mut Frame,
 ) -> Result<Step, AllocError>
     requires rows { rows.now.covers ≡ map rows_of net.now.raw.covers }
     requires nets { All (λ bind. bind.node.0 < net.now.raw.nets) edge.now.ant }
     requires source { AreStateRefs (N.store nodes.old) net.now.raw source.now }
     requires long { length bits.now ≡ (N.store nodes.old).vars }
+    requires frame { IsFrame (N.store nodes.old) net.now.raw frame.old }
     ensures step { IfOk result (λ made. IsStepOn net.now.raw bits.now
         (map (set_of (N.store nodes.old) bits.now) source.now.latches) edge.now
         (N.store nodes.new) made) }
     ensures same { MakesNothing (N.store nodes.old) (N.store nodes.new) }
+    ensures frame { OnOk result (IsFrame (N.store nodes.new) net.now.raw frame.new) }
 {
     let latches = fixed_sets(alloc, nodes, source.latches.as_slice(), bits)?;
     let cuts = fixed_binds(alloc, edge.ant.as_slice(), bits)?;
     let ops = Ops::new(alloc);
-    match step(
+    match advance(
         alloc,
         &ops,
         nodes,
@@ -114,6 +119,7 @@ fn stepped<N: Nodes>(
         rows,
         latches.as_slice(),
         cuts.as_slice(),
+        frame,
     ) {
         Ok(made) => Ok(made),
         Err(OpFault::OutOfMemory) => Err(AllocError),
@@ -122,9 +128,9 @@ fn stepped<N: Nodes>(
     }
 }
 
-/// What is known of an edge under an assignment, from the state of its source: whether it is feasible, and the net of its
-/// first consequent that fails so. The edge is done once more, with constants in the place of guards, values and sets, so
-/// that no node is made. The only error is want of memory.
+/// What is known of an edge under an assignment, from the state of its source and a frame of any time: whether it is
+/// feasible, and the net of its first consequent that fails so. The edge is done once more, with constants in the place of
+/// guards, values and sets, so that no node is made. The only error is want of memory; the frame is then not to be used.
 pub fn taken_on<N: Nodes>(
     alloc: Global,
     nodes: &mut N,
@@ -134,16 +140,19 @@ pub fn taken_on<N: Nodes>(
     source: &State,
     bits: &[bool],
     failure: Failure,
+    frame: &mut Frame,
 ) -> Result<Taken, AllocError>
     requires rows { rows.now.covers ≡ map rows_of net.now.raw.covers }
     requires ant { All (λ bind. bind.node.0 < net.now.raw.nets) edge.now.ant }
     requires con { All (λ bind. bind.node.0 < net.now.raw.nets) edge.now.con }
     requires source { AreStateRefs (N.store nodes.old) net.now.raw source.now }
     requires long { length bits.now ≡ (N.store nodes.old).vars }
+    requires frame { IsFrame (N.store nodes.old) net.now.raw frame.old }
     ensures taken { IfOk result (λ told. (states : ℕ → SymbolicState)
         → IsState (N.store nodes.old) (states edge.now.from) source.now
         → IsTaken failure net.now.raw bits.now (table_at bits.now states) edge.now told) }
     ensures same { MakesNothing (N.store nodes.old) (N.store nodes.new) }
+    ensures frame { OnOk result (IsFrame (N.store nodes.new) net.now.raw frame.new) }
 {
     settles(net);
     let nothing = Taken {
@@ -153,7 +162,7 @@ pub fn taken_on<N: Nodes>(
     if !eval(nodes, source.reached, bits) {
         return Ok(nothing);
     }
-    let made = stepped(alloc, nodes, net, rows, edge, source, bits)?;
+    let made = stepped(alloc, nodes, net, rows, edge, source, bits, frame)?;
     if made.contradictory == Ref::TRUE {
         return Ok(nothing);
     }

@@ -1,11 +1,12 @@
 -- For private functions. The work functions of one round as it is done, and how far the rounds are.
 use Rattle.std.specs.Prelude.{◌≡◌, ◌<◌, ◌⊎◌, ℕ, false, List, [], ◌∷◌, ◌++◌, All, Contains, IsTrue, get_or, length, replicate, set}
 use Rattle.std.specs.List.{flat_map}
-use Rattle.dd_nodes.specs.Diagram.{Function}
+use Rattle.dd_nodes.specs.Diagram.{Function, IsDiagram}
 use Rattle.dd_nodes.specs.Stores.{Store}
 use Rattle.net_core.specs.declared.raw.RawNet.{RawNet}
 use Rattle.net_core.specs.Work.{ArePossibleEach, SymbolicSet}
 use Rattle.dual_rail.specs.declared.rails.Rails.{Rails}
+use Rattle.sym_step.specs.private.Frames.{IsFrame}
 use Rattle.ste_model.specs.declared.task.Edge.{Edge}
 use Rattle.ste_model.specs.declared.task.Graph.{Graph}
 use Rattle.ste_model.specs.GraphTable.{enough}
@@ -53,7 +54,8 @@ pub record AreGivenBut (t : Store) (net : RawNet) (edges : List Edge) (table : L
       ((get_or edges k d).from ≡ vertex → k < m) →
       IsGivenFrom t net (get_or edges k d) (get_or table (get_or edges k d).from e) (get_or givens k f)
 
--- What each edge gives on a table, but for those; and where a vertex does not wait, its state is the sum of what comes.
+-- What each edge gives on a table, but for those; and where a vertex does not wait, its state is the sum of what comes. The
+-- frame is one of some time.
 pub record IsWave (t : Store) (net : RawNet) (graph : Graph) (table : List State) (stale : List ℕ) (vertex m : ℕ) (r : Wave) : Type 0 where
   pub given : AreGivenBut t net graph.edges table stale vertex m r.givens.items
   pub seen : AreSeenBut t net graph.edges table stale vertex m r.seen.items
@@ -61,6 +63,7 @@ pub record IsWave (t : Store) (net : RawNet) (graph : Graph) (table : List State
   pub flags : length r.waiting.flags.items ≡ length graph.vertices
   pub sums : (v : ℕ) (d : State) → v < length graph.vertices → ¬ Contains r.waiting.list.items v →
       IsSumOf t net graph r.givens.items v (get_or table v d)
+  pub frame : IsFrame t net r.frame
 
 -- edge k gives this, with these sets, and where it gave something else, the vertex waits
 pub record IsWithGiven (old : Wave) (k to : ℕ) (given : State) (rails : List Rails) (new : Wave) : Type 0 where
@@ -70,6 +73,7 @@ pub record IsWithGiven (old : Wave) (k to : ℕ) (given : State) (rails : List R
   pub flags : length new.waiting.flags.items ≡ length old.waiting.flags.items
   pub others : (v : ℕ) → Contains old.waiting.list.items v → Contains new.waiting.list.items v
   pub moved : (new.givens.items ≡ old.givens.items) ⊎ Contains new.waiting.list.items to
+  pub frame : new.frame ≡ old.frame
 
 -- A table that was another one: where a vertex is not left to be summed, its state is the sum of what comes, and where it is
 -- not listed as changed, its state is the one that it was.
@@ -102,6 +106,7 @@ pub record IsBetween (t : Store) (net : RawNet) (graph : Graph) (r : Progress) :
   pub inside : All (λ v. v < length graph.vertices) r.changed.items
   pub flags : length r.flags.items ≡ length graph.vertices
   pub clear : (v : ℕ) → ¬ IsTrue (get_or r.flags.items v false)
+  pub frame : IsFrame t net r.frame
 
 -- the table of the sums of what each edge gives on these states, with these sets
 pub record IsTurn (net : RawNet) (graph : Graph) (states : ℕ → SymbolicState) (sets : Edge → ℕ → SymbolicSet) (t : Store) (r : Progress) : Type 0 where
@@ -109,13 +114,14 @@ pub record IsTurn (net : RawNet) (graph : Graph) (states : ℕ → SymbolicState
   pub has : HasStates (summed_at net graph.reset (λ edge. given_by net (states edge.from) (sets edge)) graph.edges)
       (length graph.vertices) t r.table.items
 
--- vertex 0 is reached and has changed, and nothing is given
+-- vertex 0 is reached and has changed, and nothing is given; the frame is of no time
 pub record AtStart (net : RawNet) (graph : Graph) (r : Progress) : Type 0 where
   pub table : r.table.items ≡ begun net graph.reset (length graph.vertices)
   pub givens : r.givens.items ≡ replicate (length graph.edges) (unreached net)
   pub seen : length r.seen.items ≡ length graph.edges
   pub changed : r.changed.items ≡ 0 ∷ []
   pub flags : r.flags.items ≡ replicate (length graph.vertices) false
+  pub frame : (s : Store) → IsDiagram s.held s.vars → IsFrame s net r.frame
 
 -- the edges at each vertex, by both ends
 pub record AreEnds (graph : Graph) (r : Ends) : Type 0 where

@@ -4,7 +4,9 @@ use Rattle.dd_nodes.specs.Diagram.{Function}
 use Rattle.dd_nodes.specs.Stores.{Store}
 use Rattle.dd_nodes.proofs.Stores.{Keeps-trans, Means-keeps}
 use Rattle.dd_nodes.proofs.Walks.{IsFrom-grows}
+use Rattle.net_core.specs.Run.{IsSettled}
 use Rattle.net_core.specs.Work.{ArePossibleEach, SymbolicSet, time_work}
+use Rattle.net_core.proofs.Ordered.{settled_by_order}
 use Rattle.ste_model.specs.declared.task.Bind.{Bind}
 use Rattle.ste_model.specs.declared.task.Edge.{Edge}
 use Rattle.ste_model.specs.GraphWork.{SymbolicState, binds_work, edge_work, symbolic_asked_on, symbolic_binds}
@@ -15,11 +17,15 @@ use Rattle.dual_rail.proofs.Works.{Built-wider, So-start, first, last, more, pas
 use Rattle.sym_step.specs.declared.cut.Cut.{Cut}
 use Rattle.sym_step.specs.declared.made.Step.{Step}
 use Rattle.sym_step.specs.Step.{IsCutBy, IsCutOf, IsStep}
+use Rattle.sym_step.proofs.Framing.{frame_keeps}
+use Rattle.sym_step.proofs.Whole.{sets_exist}
+use Rattle.gste_engine.specs.declared.edge.EdgeFound.{EdgeFound}
 use Rattle.gste_engine.specs.declared.state.State.{State}
-use Rattle.gste_engine.specs.Tables.{IsEdgeFound}
+use Rattle.gste_engine.specs.Tables.{AreStateRefs, IsEdgeFound, IsState}
 use Rattle.gste_engine.specs.private.Given.{given_work}
 use Rattle.gste_engine.proofs.CutLists.{cuts_of_net}
 use Rattle.gste_engine.proofs.EdgeParts.{binds_in, given_in, time_in}
+use Rattle.gste_engine.proofs.StateRefs.{StateRefs-keep, own_is, own_long, own_state}
 use Rattle.gste_engine.proofs.edge.edge_found.Goals as goal
 
 abbrev AreCuts : List Bind → Store → Vec Cut Global → Type 0
@@ -28,8 +34,8 @@ AreCuts binds t cuts = AllZip (IsCutBy t) (symbolic_binds binds) cuts.items
 abbrev state_of : Function → List SymbolicSet → SymbolicState
 state_of r ls = record { reached = r; latches = ls }
 
-pub returns-in_err-cuts : goal.returns-in_err-cuts
-returns-in_err-cuts g c = λ r ls sets mr zip family.
+pub returns-in_err-cuts-clause-found : goal.returns-in_err-cuts-clause-found
+returns-in_err-cuts-clause-found g c = λ r ls sets mr zip family.
     let s : Store = g.N.Nodes.store c.args.nodes.now in
     let t : Store = g.N.Nodes.store c.cuts_of.new.nodes in
     let gs = g.met.N.Nodes.diagram c.args.nodes.now in
@@ -43,8 +49,8 @@ returns-in_err-cuts g c = λ r ls sets mr zip family.
     pass work (AreCuts edge.ant) (IsEdgeFound net.raw (state_of r ls) sets) s s t fault c.from_residual.result gs gt (So-start work s)
     (Built-wider work (binds_work edge.ant) (AreCuts edge.ant) s t (Err fault) (binds_in net.raw (state_of r ls) sets edge) a) c.from_residual.ensures.1
 
-pub returns-in_err-made : goal.returns-in_err-made
-returns-in_err-made g c = λ r ls sets mr zip family.
+pub returns-in_err-made-clause-found : goal.returns-in_err-made-clause-found
+returns-in_err-made-clause-found g c = λ r ls sets mr zip family.
     let s : Store = g.N.Nodes.store c.args.nodes.now in
     let t : Store = g.N.Nodes.store c.cuts_of.new.nodes in
     let gs = g.met.N.Nodes.diagram c.args.nodes.now in
@@ -55,8 +61,8 @@ returns-in_err-made g c = λ r ls sets mr zip family.
     let work : List Function = edge_work net.raw edge (state_of r ls) sets in
     let cuts : Vec Cut Global = c.in_ok-cuts.cuts in
     let a : Built (binds_work edge.ant) (AreCuts edge.ant) s t (Ok cuts) = subst (λ (xs : List Bind). Built (binds_work xs) (AreCuts xs) s t (Ok cuts)) c.as_slice.ensures c.in_ok-cuts.ensures in
-    let u : Store = g.N.Nodes.store c.step.new.nodes in
-    let gu = g.met.N.Nodes.diagram c.step.new.nodes in
+    let u : Store = g.N.Nodes.store c.advance.new.nodes in
+    let gu = g.met.N.Nodes.diagram c.advance.new.nodes in
     let so1 = first work (AreCuts edge.ant) s t (Ok cuts) (Built-wider work (binds_work edge.ant) (AreCuts edge.ant) s t (Ok cuts) (binds_in net.raw (state_of r ls) sets edge) a) in
     let latches : AllZip (AreRails t) ls c.as_slice-2.result.now = subst (λ (xs : List Rails). AllZip (AreRails t) ls xs) (sym c.as_slice-2.ensures) (Zip-keep s t ls source.latches gs gt a.spends.keeps zip) in
     let asks : AllZip (IsCutBy t) (symbolic_binds edge.ant) c.as_slice-3.result.now = subst (λ (xs : List Cut). AllZip (IsCutBy t) (symbolic_binds edge.ant) xs) (sym c.as_slice-3.ensures.value) a.ok in
@@ -66,8 +72,8 @@ returns-in_err-made g c = λ r ls sets mr zip family.
     pass work (IsStep net.raw sets) (IsEdgeFound net.raw (state_of r ls) sets) s t u fault c.from_residual-in_err-made.result gt gu so1
     (Built-wider work time (IsStep net.raw sets) t u (Err fault) (time_in net.raw (state_of r ls) sets edge) (c.in_err-made.ensures.built ls (symbolic_asked_on edge) sets latches asks here)) c.from_residual-in_err-made.ensures.1
 
-pub returns : goal.returns
-returns g c = λ r ls sets mr zip family.
+pub returns-in_err-found-clause-found : goal.returns-in_err-found-clause-found
+returns-in_err-found-clause-found g c = λ r ls sets mr zip family.
     let s : Store = g.N.Nodes.store c.args.nodes.now in
     let t : Store = g.N.Nodes.store c.cuts_of.new.nodes in
     let gs = g.met.N.Nodes.diagram c.args.nodes.now in
@@ -78,8 +84,8 @@ returns g c = λ r ls sets mr zip family.
     let work : List Function = edge_work net.raw edge (state_of r ls) sets in
     let cuts : Vec Cut Global = c.in_ok-cuts.cuts in
     let a : Built (binds_work edge.ant) (AreCuts edge.ant) s t (Ok cuts) = subst (λ (xs : List Bind). Built (binds_work xs) (AreCuts xs) s t (Ok cuts)) c.as_slice.ensures c.in_ok-cuts.ensures in
-    let u : Store = g.N.Nodes.store c.step.new.nodes in
-    let gu = g.met.N.Nodes.diagram c.step.new.nodes in
+    let u : Store = g.N.Nodes.store c.advance.new.nodes in
+    let gu = g.met.N.Nodes.diagram c.advance.new.nodes in
     let so1 = first work (AreCuts edge.ant) s t (Ok cuts) (Built-wider work (binds_work edge.ant) (AreCuts edge.ant) s t (Ok cuts) (binds_in net.raw (state_of r ls) sets edge) a) in
     let latches : AllZip (AreRails t) ls c.as_slice-2.result.now = subst (λ (xs : List Rails). AllZip (AreRails t) ls xs) (sym c.as_slice-2.ensures) (Zip-keep s t ls source.latches gs gt a.spends.keeps zip) in
     let asks : AllZip (IsCutBy t) (symbolic_binds edge.ant) c.as_slice-3.result.now = subst (λ (xs : List Cut). AllZip (IsCutBy t) (symbolic_binds edge.ant) xs) (sym c.as_slice-3.ensures.value) a.ok in
@@ -90,15 +96,45 @@ returns g c = λ r ls sets mr zip family.
     let so2 = more work (IsStep net.raw sets) s t u (Ok made) gt gu so1 b in
     let v : Store = g.N.Nodes.store c.given.new.nodes in
     let gv = g.met.N.Nodes.diagram c.given.new.nodes in
-    last work (IsEdgeFound net.raw (state_of r ls) sets) s u v c.given.result gu gv so2
-    (Built-wider work (given_work net.raw (state_of r ls) sets) (IsEdgeFound net.raw (state_of r ls) sets) u v c.given.result (given_in net.raw (state_of r ls) sets edge)
-    (c.given.ensures net.raw (state_of r ls) sets (Means-keeps s u r source.reached gs gu so2.keeps mr) b.ok))
+    let fault = c.in_err-found.field-0.0 in
+    pass work (IsEdgeFound net.raw (state_of r ls) sets) (IsEdgeFound net.raw (state_of r ls) sets) s u v fault c.from_residual-in_err-found.result gu gv so2
+    (Built-wider work (given_work net.raw (state_of r ls) sets) (IsEdgeFound net.raw (state_of r ls) sets) u v (Err fault) (given_in net.raw (state_of r ls) sets edge)
+    (c.in_err-found.ensures net.raw (state_of r ls) sets (Means-keeps s u r source.reached gs gu so2.keeps mr) b.ok)) c.from_residual-in_err-found.ensures.1
 
-pub step-requires-clause-long : goal.step-requires-clause-long
-step-requires-clause-long g c = ap (λ (xs : List Rails). length xs) c.as_slice-2.ensures ∙ c.requires.source.long
+pub returns-clause-found : goal.returns-clause-found
+returns-clause-found g c = λ r ls sets mr zip family.
+    let s : Store = g.N.Nodes.store c.args.nodes.now in
+    let t : Store = g.N.Nodes.store c.cuts_of.new.nodes in
+    let gs = g.met.N.Nodes.diagram c.args.nodes.now in
+    let gt = g.met.N.Nodes.diagram c.cuts_of.new.nodes in
+    let net = c.args.net.now in
+    let edge : Edge = c.args.edge.now in
+    let source : State = c.args.source.now in
+    let work : List Function = edge_work net.raw edge (state_of r ls) sets in
+    let cuts : Vec Cut Global = c.in_ok-cuts.cuts in
+    let a : Built (binds_work edge.ant) (AreCuts edge.ant) s t (Ok cuts) = subst (λ (xs : List Bind). Built (binds_work xs) (AreCuts xs) s t (Ok cuts)) c.as_slice.ensures c.in_ok-cuts.ensures in
+    let u : Store = g.N.Nodes.store c.advance.new.nodes in
+    let gu = g.met.N.Nodes.diagram c.advance.new.nodes in
+    let so1 = first work (AreCuts edge.ant) s t (Ok cuts) (Built-wider work (binds_work edge.ant) (AreCuts edge.ant) s t (Ok cuts) (binds_in net.raw (state_of r ls) sets edge) a) in
+    let latches : AllZip (AreRails t) ls c.as_slice-2.result.now = subst (λ (xs : List Rails). AllZip (AreRails t) ls xs) (sym c.as_slice-2.ensures) (Zip-keep s t ls source.latches gs gt a.spends.keeps zip) in
+    let asks : AllZip (IsCutBy t) (symbolic_binds edge.ant) c.as_slice-3.result.now = subst (λ (xs : List Cut). AllZip (IsCutBy t) (symbolic_binds edge.ant) xs) (sym c.as_slice-3.ensures.value) a.ok in
+    let here = subst (λ v. ArePossibleEach v net.raw ls (symbolic_asked_on edge) sets) (sym a.spends.keeps.vars) family in
+    let time : List Function = time_work net.raw ls (symbolic_asked_on edge) sets in
+    let made : Step = c.in_ok-made.made in
+    let b : Built work (IsStep net.raw sets) t u (Ok made) = Built-wider work time (IsStep net.raw sets) t u (Ok made) (time_in net.raw (state_of r ls) sets edge) (c.in_ok-made.ensures.built ls (symbolic_asked_on edge) sets latches asks here) in
+    let so2 = more work (IsStep net.raw sets) s t u (Ok made) gt gu so1 b in
+    let v : Store = g.N.Nodes.store c.given.new.nodes in
+    let gv = g.met.N.Nodes.diagram c.given.new.nodes in
+    let found : EdgeFound = c.in_ok-found.found in
+    last work (IsEdgeFound net.raw (state_of r ls) sets) s u v (Ok found) gu gv so2
+    (Built-wider work (given_work net.raw (state_of r ls) sets) (IsEdgeFound net.raw (state_of r ls) sets) u v (Ok found) (given_in net.raw (state_of r ls) sets edge)
+    (c.in_ok-found.ensures net.raw (state_of r ls) sets (Means-keeps s u r source.reached gs gu so2.keeps mr) b.ok))
 
-pub step-requires-clause-latches : goal.step-requires-clause-latches
-step-requires-clause-latches g c =
+pub advance-requires-clause-long : goal.advance-requires-clause-long
+advance-requires-clause-long g c = ap (λ (xs : List Rails). length xs) c.as_slice-2.ensures ∙ c.requires.source.long
+
+pub advance-requires-clause-latches : goal.advance-requires-clause-latches
+advance-requires-clause-latches g c =
     let s : Store = g.N.Nodes.store c.args.nodes.now in
     let t : Store = g.N.Nodes.store c.cuts_of.new.nodes in
     let gs = g.met.N.Nodes.diagram c.args.nodes.now in
@@ -110,8 +146,8 @@ step-requires-clause-latches g c =
     let a : Built (binds_work edge.ant) (AreCuts edge.ant) s t (Ok cuts) = subst (λ (xs : List Bind). Built (binds_work xs) (AreCuts xs) s t (Ok cuts)) c.as_slice.ensures c.in_ok-cuts.ensures in
     subst (λ (xs : List Rails). All (AreRefs t) xs) (sym c.as_slice-2.ensures) (All-refs-keep s t source.latches a.spends.keeps c.requires.source.latches)
 
-pub step-requires-clause-cuts : goal.step-requires-clause-cuts
-step-requires-clause-cuts g c =
+pub advance-requires-clause-cuts : goal.advance-requires-clause-cuts
+advance-requires-clause-cuts g c =
     let s : Store = g.N.Nodes.store c.args.nodes.now in
     let t : Store = g.N.Nodes.store c.cuts_of.new.nodes in
     let gs = g.met.N.Nodes.diagram c.args.nodes.now in
@@ -134,5 +170,40 @@ given-requires-clause-reached g c =
     let source : State = c.args.source.now in
     let cuts : Vec Cut Global = c.in_ok-cuts.cuts in
     let a : Built (binds_work edge.ant) (AreCuts edge.ant) s t (Ok cuts) = subst (λ (xs : List Bind). Built (binds_work xs) (AreCuts xs) s t (Ok cuts)) c.as_slice.ensures c.in_ok-cuts.ensures in
-    let u : Store = g.N.Nodes.store c.step.new.nodes in
+    let u : Store = g.N.Nodes.store c.advance.new.nodes in
     IsFrom-grows s.held u.held 0 source.reached (Keeps-trans s t u a.spends.keeps c.in_ok-made.ensures.keeps).grows c.requires.source.reached
+
+pub advance-requires-clause-frame : goal.advance-requires-clause-frame
+advance-requires-clause-frame g c =
+    let s : Store = g.N.Nodes.store c.args.nodes.now in
+    let t : Store = g.N.Nodes.store c.cuts_of.new.nodes in
+    let gs = g.met.N.Nodes.diagram c.args.nodes.now in
+    let gt = g.met.N.Nodes.diagram c.cuts_of.new.nodes in
+    let net = c.args.net.now in
+    frame_keeps s t net.raw c.args.frame.now net.in_range gs gt c.in_ok-cuts.ensures.spends.keeps c.requires.frame
+
+pub returns-clause-frame : goal.returns-clause-frame
+returns-clause-frame g c =
+    let s : Store = g.N.Nodes.store c.args.nodes.now in
+    let t : Store = g.N.Nodes.store c.cuts_of.new.nodes in
+    let u : Store = g.N.Nodes.store c.advance.new.nodes in
+    let v : Store = g.N.Nodes.store c.given.new.nodes in
+    let gs = g.met.N.Nodes.diagram c.args.nodes.now in
+    let gt = g.met.N.Nodes.diagram c.cuts_of.new.nodes in
+    let gu = g.met.N.Nodes.diagram c.advance.new.nodes in
+    let gv = g.met.N.Nodes.diagram c.given.new.nodes in
+    let net = c.args.net.now in
+    let edge : Edge = c.args.edge.now in
+    let source : State = c.args.source.now in
+    let settled : IsSettled net.raw = settled_by_order net.raw net.settled net.in_order in
+    let cuts : Vec Cut Global = c.in_ok-cuts.cuts in
+    let a : Built (binds_work edge.ant) (AreCuts edge.ant) s t (Ok cuts) = subst (λ (xs : List Bind). Built (binds_work xs) (AreCuts xs) s t (Ok cuts)) c.as_slice.ensures c.in_ok-cuts.ensures in
+    let refs : AreStateRefs t net.raw source = StateRefs-keep s t net.raw source a.spends.keeps c.requires.source in
+    let x : SymbolicState = own_state t source in
+    let is : IsState t x source = own_is t net.raw source refs in
+    let family = sets_exist net.raw t.vars x.latches (symbolic_asked_on edge) settled (own_long t net.raw source refs) in
+    let latches : AllZip (AreRails t) x.latches c.as_slice-2.result.now = subst (λ (xs : List Rails). AllZip (AreRails t) x.latches xs) (sym c.as_slice-2.ensures) is.latches in
+    let asks : AllZip (IsCutBy t) (symbolic_binds edge.ant) c.as_slice-3.result.now = subst (λ (xs : List Cut). AllZip (IsCutBy t) (symbolic_binds edge.ant) xs) (sym c.as_slice-3.ensures.value) a.ok in
+    let b = c.in_ok-made.ensures.built x.latches (symbolic_asked_on edge) family.0 latches asks family.1 in
+    let d = c.in_ok-found.ensures net.raw x family.0 (Means-keeps t u x.reached source.reached gt gu b.spends.keeps is.reached) b.ok in
+    frame_keeps u v net.raw c.advance.new.frame net.in_range gu gv d.spends.keeps c.in_ok-made.ensures.frame

@@ -48,6 +48,7 @@ loop-k-preserved g c =
     let p = c.loop-k.invariant in
     record {
       same = nothing_more s t u p.same c.in_ok-hop.ensures.same;
+      frame = c.in_ok-hop.ensures.frame;
       so = λ states has.
           let R : Edge → Hop → Type 0 = IsEdgeHop (FailsBy c.args.failure) net bits (table_at bits states) in
           let one : R edge hop = c.in_ok-hop.ensures.hop states (source_is s t gs gt p.same states (length c.args.graph.now.vertices) table has edge.from source inside c.index-table-edge.is) in

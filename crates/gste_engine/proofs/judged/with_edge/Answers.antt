@@ -11,12 +11,12 @@ use Rattle.net_core.specs.Work.{ArePossibleEach, SymbolicCut, SymbolicSet}
 use Rattle.net_core.proofs.Ordered.{settled_by_order}
 use Rattle.ste_model.specs.declared.task.Bind.{Bind}
 use Rattle.ste_model.specs.declared.task.Edge.{Edge}
-use Rattle.ste_model.specs.GraphNeed.{bind_functions}
+use Rattle.ste_model.specs.GraphNeed.{BindsReadBelow, bind_functions}
 use Rattle.ste_model.specs.GraphWork.{SymbolicState, edge_work, feasible_where, symbolic_asked_on, symbolic_binds}
 use Rattle.dual_rail.specs.declared.rails.Rails.{Rails}
 use Rattle.dual_rail.specs.Rail.{AreRails, AreRefs, Built}
 use Rattle.dual_rail.proofs.Turns.{Zip-keep, zip_long}
-use Rattle.dual_rail.proofs.Works.{Built-lost, Built-wider, So-start, first, more, pass}
+use Rattle.dual_rail.proofs.Works.{Built-lost, Built-wider, So-start, first, lost, more, pass}
 use Rattle.sym_step.specs.declared.cut.Cut.{Cut}
 use Rattle.sym_step.specs.Step.{IsCutBy, IsCutOf, rails_at}
 use Rattle.sym_step.proofs.Cutting.{demands_long}
@@ -63,6 +63,22 @@ returns-in_err-wanted g c = λ r ls sets f h e mr zip family sums.
     pass work (AreAsked edge) (IsWithEdge net edge x sets f h e) s s t fault c.from_residual.result gs gt (So-start work s)
     (Built-wider work (asked_work edge) (AreAsked edge) s t (Err fault) (asked_in net edge x sets f h e) c.in_err-wanted.ensures) c.from_residual.ensures.1
 
+pub returns-in_err-frame : goal.returns-in_err-frame
+returns-in_err-frame g c = λ r ls sets f h e mr zip family sums.
+    let s : Store = g.N.Nodes.store c.args.nodes.now in
+    let t : Store = g.N.Nodes.store c.asked_on.new.nodes in
+    let net : RawNet = c.args.net.now.raw in
+    let edge : Edge = c.args.edge.now in
+    let x : SymbolicState = state_of r ls in
+    let work : List Function = with_edge_work net edge x sets f h e in
+    let wanted : Vec Cut Global = c.in_ok-wanted.wanted in
+    let a : Built (asked_work edge) (AreAsked edge) s t (Ok wanted) = c.in_ok-wanted.ensures in
+    let so1 = first work (AreAsked edge) s t (Ok wanted) (Built-wider work (asked_work edge) (AreAsked edge) s t (Ok wanted) (asked_in net edge x sets f h e) a) in
+    lost work (IsWithEdge net edge x sets f h e) s t c.from_residual-in_err-frame.result so1 c.from_residual-in_err-frame.ensures.1
+
+pub edge_found-requires-clause-reads : goal.edge_found-requires-clause-reads
+edge_found-requires-clause-reads g c = subst (λ v. BindsReadBelow v c.args.edge.now.ant) (sym c.in_ok-wanted.ensures.spends.keeps.vars) c.requires.reads
+
 pub returns-in_err-made : goal.returns-in_err-made
 returns-in_err-made g c = λ r ls sets f h e mr zip family sums.
     let s : Store = g.N.Nodes.store c.args.nodes.now in
@@ -84,7 +100,7 @@ returns-in_err-made g c = λ r ls sets f h e mr zip family sums.
     let hx : IsState t x source = record { reached = Means-keeps s t r source.reached gs gt a.spends.keeps mr; latches = Zip-keep s t ls source.latches gs gt a.spends.keeps zip } in
     let fault = c.in_err-made.field-0.0 in
     pass work (IsEdgeFound net x sets) (IsWithEdge net edge x sets f h e) s t u fault c.from_residual-in_err-made.result gt gu so1
-    (Built-wider work (edge_work net edge x sets) (IsEdgeFound net x sets) t u (Err fault) (edge_in net edge x sets f h e) (c.in_err-made.ensures r ls sets hx.reached hx.latches here)) c.from_residual-in_err-made.ensures.1
+    (Built-wider work (edge_work net edge x sets) (IsEdgeFound net x sets) t u (Err fault) (edge_in net edge x sets f h e) (c.in_err-made.ensures.found r ls sets hx.reached hx.latches here)) c.from_residual-in_err-made.ensures.1
 
 pub returns-in-Err : goal.returns-in-Err
 returns-in-Err g c = λ r ls sets f h e mr zip family sums.
@@ -106,7 +122,7 @@ returns-in-Err g c = λ r ls sets f h e mr zip family sums.
     let here = subst (λ v. ArePossibleEach v net ls (symbolic_asked_on edge) sets) (sym a.spends.keeps.vars) family in
     let hx : IsState t x source = record { reached = Means-keeps s t r source.reached gs gt a.spends.keeps mr; latches = Zip-keep s t ls source.latches gs gt a.spends.keeps zip } in
     let given : EdgeFound = c.in_ok-made.made in
-    let b : Built work (IsEdgeFound net x sets) t u (Ok given) = Built-wider work (edge_work net edge x sets) (IsEdgeFound net x sets) t u (Ok given) (edge_in net edge x sets f h e) (c.in_ok-made.ensures r ls sets hx.reached hx.latches here) in
+    let b : Built work (IsEdgeFound net x sets) t u (Ok given) = Built-wider work (edge_work net edge x sets) (IsEdgeFound net x sets) t u (Ok given) (edge_in net edge x sets f h e) (c.in_ok-made.ensures.found r ls sets hx.reached hx.latches here) in
     let so2 = more work (IsEdgeFound net x sets) s t u (Ok given) gt gu so1 b in
     Built-lost work (IsWithEdge net edge x sets f h e) s u so2
 
@@ -159,7 +175,7 @@ returns g c = λ r ls sets f h e mr zip family sums.
     let here = subst (λ v. ArePossibleEach v net ls (symbolic_asked_on edge) sets) (sym a.spends.keeps.vars) family in
     let hx : IsState t x source = record { reached = Means-keeps s t r source.reached gs gt a.spends.keeps mr; latches = Zip-keep s t ls source.latches gs gt a.spends.keeps zip } in
     let given : EdgeFound = c.in_ok-made.made in
-    let b : Built work (IsEdgeFound net x sets) t u (Ok given) = Built-wider work (edge_work net edge x sets) (IsEdgeFound net x sets) t u (Ok given) (edge_in net edge x sets f h e) (c.in_ok-made.ensures r ls sets hx.reached hx.latches here) in
+    let b : Built work (IsEdgeFound net x sets) t u (Ok given) = Built-wider work (edge_work net edge x sets) (IsEdgeFound net x sets) t u (Ok given) (edge_in net edge x sets f h e) (c.in_ok-made.ensures.found r ls sets hx.reached hx.latches here) in
     let so2 = more work (IsEdgeFound net x sets) s t u (Ok given) gt gu so1 b in
     let v : Store = g.N.Nodes.store c.with_found-2.new.nodes in
     let gv = g.met.N.Nodes.diagram c.with_found-2.new.nodes in
@@ -286,7 +302,7 @@ with_found-requires-2-clause-seen g c =
     let a : Built (asked_work edge) (AreAsked edge) s t (Ok wanted) = c.in_ok-wanted.ensures in
     let settled : IsSettled net = settled_by_order net c.args.net.now.settled c.args.net.now.in_order in
     let given : EdgeFound = c.in_ok-made.made in
-    let mine = edge_left t u net edge source (Ok given) settled (StateRefs-keep s t net source a.spends.keeps c.requires.source) c.in_ok-made.ensures in
+    let mine = edge_left t u net edge source (Ok given) settled (StateRefs-keep s t net source a.spends.keeps c.requires.source) c.in_ok-made.ensures.found in
     let x = mine.0 in
     let sets = mine.1 in
     let b : Built (edge_work net edge x sets) (IsEdgeFound net x sets) t u (Ok given) = mine.2 in
@@ -309,7 +325,7 @@ with_found-requires-2-clause-long g c =
     let a : Built (asked_work edge) (AreAsked edge) s t (Ok wanted) = c.in_ok-wanted.ensures in
     let settled : IsSettled net = settled_by_order net c.args.net.now.settled c.args.net.now.in_order in
     let given : EdgeFound = c.in_ok-made.made in
-    let mine = edge_left t u net edge source (Ok given) settled (StateRefs-keep s t net source a.spends.keeps c.requires.source) c.in_ok-made.ensures in
+    let mine = edge_left t u net edge source (Ok given) settled (StateRefs-keep s t net source a.spends.keeps c.requires.source) c.in_ok-made.ensures.found in
     let x = mine.0 in
     let sets = mine.1 in
     let b : Built (edge_work net edge x sets) (IsEdgeFound net x sets) t u (Ok given) = mine.2 in
@@ -334,7 +350,7 @@ with_found-requires-2-clause-guards g c =
     let a : Built (asked_work edge) (AreAsked edge) s t (Ok wanted) = c.in_ok-wanted.ensures in
     let settled : IsSettled net = settled_by_order net c.args.net.now.settled c.args.net.now.in_order in
     let given : EdgeFound = c.in_ok-made.made in
-    let mine = edge_left t u net edge source (Ok given) settled (StateRefs-keep s t net source a.spends.keeps c.requires.source) c.in_ok-made.ensures in
+    let mine = edge_left t u net edge source (Ok given) settled (StateRefs-keep s t net source a.spends.keeps c.requires.source) c.in_ok-made.ensures.found in
     let x = mine.0 in
     let sets = mine.1 in
     let b : Built (edge_work net edge x sets) (IsEdgeFound net x sets) t u (Ok given) = mine.2 in
@@ -357,7 +373,7 @@ with_found-requires-2-clause-values g c =
     let a : Built (asked_work edge) (AreAsked edge) s t (Ok wanted) = c.in_ok-wanted.ensures in
     let settled : IsSettled net = settled_by_order net c.args.net.now.settled c.args.net.now.in_order in
     let given : EdgeFound = c.in_ok-made.made in
-    let mine = edge_left t u net edge source (Ok given) settled (StateRefs-keep s t net source a.spends.keeps c.requires.source) c.in_ok-made.ensures in
+    let mine = edge_left t u net edge source (Ok given) settled (StateRefs-keep s t net source a.spends.keeps c.requires.source) c.in_ok-made.ensures.found in
     let x = mine.0 in
     let sets = mine.1 in
     let b : Built (edge_work net edge x sets) (IsEdgeFound net x sets) t u (Ok given) = mine.2 in
@@ -380,7 +396,7 @@ with_found-requires-2-clause-gate g c =
     let a : Built (asked_work edge) (AreAsked edge) s t (Ok wanted) = c.in_ok-wanted.ensures in
     let settled : IsSettled net = settled_by_order net c.args.net.now.settled c.args.net.now.in_order in
     let given : EdgeFound = c.in_ok-made.made in
-    let mine = edge_left t u net edge source (Ok given) settled (StateRefs-keep s t net source a.spends.keeps c.requires.source) c.in_ok-made.ensures in
+    let mine = edge_left t u net edge source (Ok given) settled (StateRefs-keep s t net source a.spends.keeps c.requires.source) c.in_ok-made.ensures.found in
     let x = mine.0 in
     let sets = mine.1 in
     let b : Built (edge_work net edge x sets) (IsEdgeFound net x sets) t u (Ok given) = mine.2 in
@@ -401,7 +417,7 @@ with_found-requires-2-clause-found g c =
     let a : Built (asked_work edge) (AreAsked edge) s t (Ok wanted) = c.in_ok-wanted.ensures in
     let settled : IsSettled net = settled_by_order net c.args.net.now.settled c.args.net.now.in_order in
     let given : EdgeFound = c.in_ok-made.made in
-    let mine = edge_left t u net edge source (Ok given) settled (StateRefs-keep s t net source a.spends.keeps c.requires.source) c.in_ok-made.ensures in
+    let mine = edge_left t u net edge source (Ok given) settled (StateRefs-keep s t net source a.spends.keeps c.requires.source) c.in_ok-made.ensures.found in
     let x = mine.0 in
     let sets = mine.1 in
     let b : Built (edge_work net edge x sets) (IsEdgeFound net x sets) t u (Ok given) = mine.2 in

@@ -87,7 +87,7 @@ loop-k-preserved g c =
     let possible : ArePossibleOn t.vars net states sets graph.edges = own_possible t net table gt refs settled graph.edges in
     let found : EdgeFound = c.in_ok-found.found in
     let given : State = record { reached = found.feasible; latches = found.next } in
-    let b : Built (edges_work net states sets graph.edges) (IsEdgeFound net (states edge.from) (sets edge)) t u (Ok found) = edge_built net states sets graph.edges table t u k edge source (Ok found) gt gu lt is start is_source has possible c.in_ok-found.ensures in
+    let b : Built (edges_work net states sets graph.edges) (IsEdgeFound net (states edge.from) (sets edge)) t u (Ok found) = edge_built net states sets graph.edges table t u k edge source (Ok found) gt gu lt is start is_source has possible c.in_ok-found.ensures.found in
     let keeps = b.spends.keeps in
     let made : IsGivenFrom u net edge source given = edge_given net states sets graph.edges table t u k edge source found gt gu lt is start is_source has possible keeps b.ok in
     let seen : IsSeenFrom u net edge source (map (rails_of found.nets) edge.con) = edge_seen net states sets graph.edges table t u k edge source found gt gu lt is start is_source has possible keeps b.ok in
@@ -98,10 +98,10 @@ loop-k-preserved g c =
     record {
       keeps = Keeps-trans s t u p.keeps keeps;
       here = at.here;
-      wave = wave_turn net graph table t u (drop (i + 1) changed) v k next edge source given (map (rails_of found.nets) edge.con) old new gt gu keeps lt is start is_source made seen c.in-Ok.ensures at p.wave;
+      wave = wave_turn net graph table t u (drop (i + 1) changed) v k next edge source given (map (rails_of found.nets) edge.con) old new c.edge_found.new.frame gt gu keeps lt is start is_source made seen c.in_ok-found.ensures.frame c.in-Ok.ensures at p.wave;
       so = λ states sets has possible.
           let there : ArePossibleOn t.vars net states sets graph.edges = subst (λ v. ArePossibleOn v net states sets graph.edges) (sym p.keeps.vars) possible in
-          let mine = edge_built net states sets graph.edges table t u k edge source (Ok found) gt gu lt is start is_source (States-keep states (length table) s t table gs gt p.keeps has) there c.in_ok-found.ensures in
+          let mine = edge_built net states sets graph.edges table t u k edge source (Ok found) gt gu lt is start is_source (States-keep states (length table) s t table gs gt p.keeps has) there c.in_ok-found.ensures.found in
           more (edges_work net states sets graph.edges) (IsEdgeFound net (states edge.from) (sets edge)) s t u (Ok found) gt gu (p.so states sets has possible) mine;
     }
 
@@ -137,7 +137,7 @@ returns-in_err-found g c = λ states sets has possible.
     let here : HasStates states (length table) t table = States-keep states (length table) s t table gs gt p.keeps has in
     let fault = c.in_err-found.field-0.0 in
     pass work (IsEdgeFound net (states edge.from) (sets edge)) Last s t u fault c.from_residual.result gt gu (p.so states sets has possible)
-    (edge_built net states sets graph.edges table t u k edge source (Err fault) gt gu lt is start is_source here there c.in_err-found.ensures) c.from_residual.ensures.1
+    (edge_built net states sets graph.edges table t u k edge source (Err fault) gt gu lt is start is_source here there c.in_err-found.ensures.found) c.from_residual.ensures.1
 
 pub returns-in-Err : goal.returns-in-Err
 returns-in-Err g c = λ states sets has possible.
@@ -170,7 +170,7 @@ returns-in-Err g c = λ states sets has possible.
     let there : ArePossibleOn t.vars net states sets graph.edges = subst (λ v. ArePossibleOn v net states sets graph.edges) (sym p.keeps.vars) possible in
     let here : HasStates states (length table) t table = States-keep states (length table) s t table gs gt p.keeps has in
     let found : EdgeFound = c.in_ok-found.found in
-    let mine = edge_built net states sets graph.edges table t u k edge source (Ok found) gt gu lt is start is_source here there c.in_ok-found.ensures in
+    let mine = edge_built net states sets graph.edges table t u k edge source (Ok found) gt gu lt is start is_source here there c.in_ok-found.ensures.found in
     Built-lost work Last s u (more work (IsEdgeFound net (states edge.from) (sets edge)) s t u (Ok found) gt gu (p.so states sets has possible) mine)
 
 pub returns : goal.returns
@@ -198,3 +198,21 @@ loop-k-smaller g c =
     let at = next_of graph c.args.from.now (get_or c.args.changed.now c.args.i 0) k c.index-k-in-loop-k.result.now c.requires.from lt (c.loop-k.invariant.here no_edge lt) c.index-k-in-loop-k.ensures in
     let low = at.low in
     omega (arith, low, lt)
+
+pub edge_found-requires-clause-source : goal.edge_found-requires-clause-source
+edge_found-requires-clause-source g c =
+    let s : Store = g.N.Nodes.store c.args.nodes.now in
+    let t : Store = g.N.Nodes.store c.loop-k.nodes in
+    let net : RawNet = c.args.net.now.raw in
+    let graph : Graph = c.args.graph.now in
+    let table : List State = c.args.table.now in
+    let k = c.loop-k.k in
+    let es : c.as_slice-edges.result.now ≡ graph.edges = c.as_slice-edges.ensures in
+    let lt : k < length graph.edges = subst (λ (xs : List Edge). k < length xs) es c.loop-k-test.true in
+    let edge : Edge = c.index-edges-k.result in
+    let is : edge ≡ get_or graph.edges k edge = subst (λ (xs : List Edge). edge ≡ get_or xs k edge) es c.index-edges-k.is in
+    let start : edge.from < length graph.vertices = (subst (IsEdgeOver net s.vars (length graph.vertices)) (sym is) (c.requires.graph.edges k edge lt)).start in
+    let source : State = c.index-table-edge.result in
+    let refs : All (AreStateRefs t net) table = All-states-keep s t net table c.loop-k.invariant.keeps c.requires.table in
+    let long = c.requires.long in
+    subst (AreStateRefs t net) (sym c.index-table-edge.is) (refs edge.from source (omega (arith, long, start)))

@@ -76,10 +76,10 @@ returns g c = λ states sets has possible.
     let call : GivesSweep net graph table s u (Ok sweep) givens = subst (GivesSweep net graph table s u (Ok sweep)) c.as_slice.ensures.value c.in_ok-sweep.ensures in
     let b : Built work (IsDone net graph table givens) s u (Ok sweep) = call (given_of net states sets) zip in
     let keeps = b.spends.keeps in
-    let made : Progress = record { table = sweep.table; givens = wave.givens; seen = wave.seen; changed = sweep.changed; flags = sweep.flags } in
+    let made : Progress = record { table = sweep.table; givens = wave.givens; seen = wave.seen; changed = sweep.changed; flags = sweep.flags; frame = wave.frame } in
     Built-made work (IsTurn net graph states sets) s u made (first work (IsDone net graph table givens) s u (Ok sweep) b)
     (record {
-      between = turn_between net graph table long s u wave sweep gs gu keeps over known (wave_seen s net graph table wave c.requires.known) b.ok;
+      between = turn_between net graph table long s u wave sweep gs gu keeps over known (wave_seen s net graph table wave c.requires.known) c.args.net.now.in_range c.requires.known.frame b.ok;
       has = turn_has net graph table long u givens sweep states sets settled (subst (λ v. AreEdgesOver net v (length graph.vertices) graph.edges) (sym keeps.vars) over)
           (record { long = long; each = (States-keep states (length table) s u table gs gu keeps here).each }) (subst (λ v. ArePossibleOn v net states sets graph.edges) (sym keeps.vars) possible) (Givens-keep s u net graph.edges table givens gs gu keeps known) b.ok;
     })

@@ -8,8 +8,8 @@ use Rattle.gste_engine.specs.private.Taken.{fixed_bind, fixed_rails}
 use Rattle.gste_engine.proofs.FixedSteps.{all_goes, all_makes, cuts_as, cuts_inside, held_as, held_refs, on_edge}
 use Rattle.gste_engine.proofs.taken.stepped.Goals as goal
 
-pub step-requires-clause-latches : goal.step-requires-clause-latches
-step-requires-clause-latches g c =
+pub advance-requires-clause-latches : goal.advance-requires-clause-latches
+advance-requires-clause-latches g c =
     let s : Store = g.N.Nodes.store c.args.nodes.now in
     let t : Store = g.N.Nodes.store c.fixed_sets.new.nodes in
     let gt = g.met.N.Nodes.diagram c.fixed_sets.new.nodes in
@@ -19,8 +19,8 @@ step-requires-clause-latches g c =
     let cuts_are : c.as_slice-4.result.now ≡ map (fixed_bind c.args.bits.now) c.args.edge.now.ant = cuts_as c.args.bits.now c.as_slice-4.result.now c.in_ok-cuts.cuts.items c.as_slice-2.result.now c.args.edge.now.ant c.as_slice-4.ensures.value c.in_ok-cuts.ensures c.as_slice-2.ensures in
     held_refs net settled c.args.bits.now c.args.edge.now s t t c.args.source.now.latches c.as_slice-3.result.now c.as_slice-4.result.now (Err OutOfMemory) gt c.in_ok-latches.ensures.store held_is cuts_are
 
-pub step-requires-clause-cuts : goal.step-requires-clause-cuts
-step-requires-clause-cuts g c =
+pub advance-requires-clause-cuts : goal.advance-requires-clause-cuts
+advance-requires-clause-cuts g c =
     let s : Store = g.N.Nodes.store c.args.nodes.now in
     let t : Store = g.N.Nodes.store c.fixed_sets.new.nodes in
     let gt = g.met.N.Nodes.diagram c.fixed_sets.new.nodes in
@@ -34,8 +34,8 @@ pub returns-in-Ok-clause-step : goal.returns-in-Ok-clause-step
 returns-in-Ok-clause-step g c =
     let s : Store = g.N.Nodes.store c.args.nodes.now in
     let t : Store = g.N.Nodes.store c.fixed_sets.new.nodes in
-    let u : Store = g.N.Nodes.store c.step.new.nodes in
-    let gu = g.met.N.Nodes.diagram c.step.new.nodes in
+    let u : Store = g.N.Nodes.store c.advance.new.nodes in
+    let gu = g.met.N.Nodes.diagram c.advance.new.nodes in
     let gt = g.met.N.Nodes.diagram c.fixed_sets.new.nodes in
     let net : RawNet = c.args.net.now.raw in
     let settled : IsSettled net = settled_by_order net c.args.net.now.settled c.args.net.now.in_order in
@@ -47,37 +47,37 @@ pub returns-in-Ok-clause-same : goal.returns-in-Ok-clause-same
 returns-in-Ok-clause-same g c =
     let s : Store = g.N.Nodes.store c.args.nodes.now in
     let t : Store = g.N.Nodes.store c.fixed_sets.new.nodes in
-    let u : Store = g.N.Nodes.store c.step.new.nodes in
-    let gu = g.met.N.Nodes.diagram c.step.new.nodes in
+    let u : Store = g.N.Nodes.store c.advance.new.nodes in
+    let gu = g.met.N.Nodes.diagram c.advance.new.nodes in
     let gt = g.met.N.Nodes.diagram c.fixed_sets.new.nodes in
     let net : RawNet = c.args.net.now.raw in
     let settled : IsSettled net = settled_by_order net c.args.net.now.settled c.args.net.now.in_order in
     let held_is : c.as_slice-3.result.now ≡ map (fixed_rails s c.args.bits.now) c.args.source.now.latches = held_as s c.args.bits.now c.as_slice-3.result.now c.in_ok-latches.latches.items c.as_slice.result.now c.args.source.now.latches c.as_slice-3.ensures.value c.in_ok-latches.ensures.fixed c.as_slice.ensures in
     let cuts_are : c.as_slice-4.result.now ≡ map (fixed_bind c.args.bits.now) c.args.edge.now.ant = cuts_as c.args.bits.now c.as_slice-4.result.now c.in_ok-cuts.cuts.items c.as_slice-2.result.now c.args.edge.now.ant c.as_slice-4.ensures.value c.in_ok-cuts.ensures c.as_slice-2.ensures in
-    all_makes net settled c.args.bits.now c.args.edge.now s t u c.args.source.now.latches c.as_slice-3.result.now c.as_slice-4.result.now (Ok c.in-Ok.made) gt c.in_ok-latches.ensures.store held_is cuts_are c.in-Ok.ensures.built c.requires.source.long gu (g.met.N.Nodes.made_held c.step.new.nodes)
+    all_makes net settled c.args.bits.now c.args.edge.now s t u c.args.source.now.latches c.as_slice-3.result.now c.as_slice-4.result.now (Ok c.in-Ok.made) gt c.in_ok-latches.ensures.store held_is cuts_are c.in-Ok.ensures.built c.requires.source.long gu (g.met.N.Nodes.made_held c.advance.new.nodes)
 
 pub returns-in-Err-OutOfMemory-clause-same : goal.returns-in-Err-OutOfMemory-clause-same
 returns-in-Err-OutOfMemory-clause-same g c =
     let s : Store = g.N.Nodes.store c.args.nodes.now in
     let t : Store = g.N.Nodes.store c.fixed_sets.new.nodes in
-    let u : Store = g.N.Nodes.store c.step.new.nodes in
-    let gu = g.met.N.Nodes.diagram c.step.new.nodes in
+    let u : Store = g.N.Nodes.store c.advance.new.nodes in
+    let gu = g.met.N.Nodes.diagram c.advance.new.nodes in
     let gt = g.met.N.Nodes.diagram c.fixed_sets.new.nodes in
     let net : RawNet = c.args.net.now.raw in
     let settled : IsSettled net = settled_by_order net c.args.net.now.settled c.args.net.now.in_order in
     let held_is : c.as_slice-3.result.now ≡ map (fixed_rails s c.args.bits.now) c.args.source.now.latches = held_as s c.args.bits.now c.as_slice-3.result.now c.in_ok-latches.latches.items c.as_slice.result.now c.args.source.now.latches c.as_slice-3.ensures.value c.in_ok-latches.ensures.fixed c.as_slice.ensures in
     let cuts_are : c.as_slice-4.result.now ≡ map (fixed_bind c.args.bits.now) c.args.edge.now.ant = cuts_as c.args.bits.now c.as_slice-4.result.now c.in_ok-cuts.cuts.items c.as_slice-2.result.now c.args.edge.now.ant c.as_slice-4.ensures.value c.in_ok-cuts.ensures c.as_slice-2.ensures in
-    all_makes net settled c.args.bits.now c.args.edge.now s t u c.args.source.now.latches c.as_slice-3.result.now c.as_slice-4.result.now (Err c.in-Err-OutOfMemory.field-0) gt c.in_ok-latches.ensures.store held_is cuts_are c.in-Err-OutOfMemory.ensures.built c.requires.source.long gu (g.met.N.Nodes.made_held c.step.new.nodes)
+    all_makes net settled c.args.bits.now c.args.edge.now s t u c.args.source.now.latches c.as_slice-3.result.now c.as_slice-4.result.now (Err c.in-Err-OutOfMemory.field-0) gt c.in_ok-latches.ensures.store held_is cuts_are c.in-Err-OutOfMemory.ensures.built c.requires.source.long gu (g.met.N.Nodes.made_held c.advance.new.nodes)
 
 pub unreachable-requires : goal.unreachable-requires
 unreachable-requires g c =
     let s : Store = g.N.Nodes.store c.args.nodes.now in
     let t : Store = g.N.Nodes.store c.fixed_sets.new.nodes in
-    let u : Store = g.N.Nodes.store c.step.new.nodes in
-    let gu = g.met.N.Nodes.diagram c.step.new.nodes in
+    let u : Store = g.N.Nodes.store c.advance.new.nodes in
+    let gu = g.met.N.Nodes.diagram c.advance.new.nodes in
     let gt = g.met.N.Nodes.diagram c.fixed_sets.new.nodes in
     let net : RawNet = c.args.net.now.raw in
     let settled : IsSettled net = settled_by_order net c.args.net.now.settled c.args.net.now.in_order in
     let held_is : c.as_slice-3.result.now ≡ map (fixed_rails s c.args.bits.now) c.args.source.now.latches = held_as s c.args.bits.now c.as_slice-3.result.now c.in_ok-latches.latches.items c.as_slice.result.now c.args.source.now.latches c.as_slice-3.ensures.value c.in_ok-latches.ensures.fixed c.as_slice.ensures in
     let cuts_are : c.as_slice-4.result.now ≡ map (fixed_bind c.args.bits.now) c.args.edge.now.ant = cuts_as c.args.bits.now c.as_slice-4.result.now c.in_ok-cuts.cuts.items c.as_slice-2.result.now c.args.edge.now.ant c.as_slice-4.ensures.value c.in_ok-cuts.ensures c.as_slice-2.ensures in
-    all_goes net settled c.args.bits.now c.args.edge.now s t u c.args.source.now.latches c.as_slice-3.result.now c.as_slice-4.result.now (Err c.in-Err-StepsOut.field-0) gt c.in_ok-latches.ensures.store held_is cuts_are c.in-Err-StepsOut.ensures.built c.requires.source.long gu (g.met.N.Nodes.made_held c.step.new.nodes) (ap Err c.in-Err-StepsOut.field-0-is)
+    all_goes net settled c.args.bits.now c.args.edge.now s t u c.args.source.now.latches c.as_slice-3.result.now c.as_slice-4.result.now (Err c.in-Err-StepsOut.field-0) gt c.in_ok-latches.ensures.store held_is cuts_are c.in-Err-StepsOut.ensures.built c.requires.source.long gu (g.met.N.Nodes.made_held c.advance.new.nodes) (ap Err c.in-Err-StepsOut.field-0-is)
