@@ -51,28 +51,27 @@ fn most_first_steps(vars: u32) -> u32
     if vars < 9 { 4096 } else { 2097152 }
 }
 
-/// The node steps of each of so many tasks that are tried first: for all tasks together eight for each net and task, but at
-/// least 131,072, which is a table of 2 MB, and at most 2,097,152; for each task at most 4,096 where there are up to eight
-/// variables, and at least 1,024.
+/// The node steps of each of so many tasks that are tried first: twelve for each net, but at least 20,480, and for all tasks
+/// together at most 2,097,152, which is a table of 32 MB; at most 4,096 where there are up to eight variables, and at least
+/// 1,024.
 fn first_steps(nets: u32, tasks: u32, vars: u32, steps: u32) -> u32
     requires { (1 ≤ tasks) × (1 ≤ steps) }
     ensures exact { result ≡ first_steps nets tasks vars steps }
     ensures within { (1 ≤ result) × (result ≤ steps) }
 {
-    let each = (nets as u64).saturating_mul(8);
-    let all = each.saturating_mul(tasks as u64).clamp(131072, 2097152);
-    let share = (all as u32) / tasks;
+    let each = nets.saturating_mul(12).max(20480);
+    let share = each.min(2097152 / tasks);
     share.min(most_first_steps(vars)).max(1024).min(steps)
 }
 
-/// The node steps of each of so many tasks that are tried next: four times those that were tried, and at least an equal
-/// share of 524,288, which is a table of 8 MB, but no more than 32 times those that were tried.
+/// The node steps of each of so many tasks that are tried next: twelve times those that were tried, but for all tasks
+/// together at most 2,097,152, where these are more than four times as many for each.
 fn next_steps(tried: u32, tasks: u32, steps: u32) -> u32
     requires { (1 ≤ tasks) × (1 ≤ tried) }
     ensures exact { result ≡ next_steps tried tasks steps }
     ensures more { tried < steps → (tried < result) × (result ≤ steps) }
 {
-    let share = (524288 / tasks).min(tried.saturating_mul(32));
+    let share = (2097152 / tasks).min(tried.saturating_mul(12));
     tried.saturating_mul(4).max(share).min(steps)
 }
 
