@@ -1,7 +1,6 @@
 //! Laws over the definitions alone, each the contract of a function that does nothing.
 ghost use Rattle.ste_program.specs.Order.{OneRefusal, ReportedIsNotRefused};
 ghost use Rattle.ste_program.specs.Reading.{OneReading};
-ghost use Rattle.ste_program.specs.Report.{OneReport};
 
 /// Two texts have one reading at most, but for the numbers of covers and where expressions lie in memory.
 pub fn one_reading()
@@ -16,10 +15,4 @@ pub fn one_refusal()
 /// What is reported is not refused.
 pub fn reported_is_not_refused()
     ensures { ReportedIsNotRefused }
-{}
-
-/// Two reports on the same texts, of commands that ask for the same with whatever workers and steps, differ in what one of them tells
-/// as budget, and in the number of shared nodes, and in nothing else.
-pub fn one_report()
-    ensures { OneReport }
 {}

@@ -29,10 +29,10 @@ use Rattle.ste_model.specs.Runs.{HasRows, run_of}
 use Rattle.ste_model.specs.Shown.{IsBindable, IsFilled, IsFirst}
 use Rattle.ste_model.specs.Trees.{BindTree, EdgeTree, bind_tree, edge_tree, task_tree}
 use Rattle.report_text.specs.Text.{names_net}
-use Rattle.ste_program.proofs.SameInputs.{run_moved, undriven_moved}
-use Rattle.ste_program.proofs.SameMoved.{cubes_moved, least_moved}
+use Rattle.report_laws.proofs.SameRuns.{run_moved, undriven_moved}
+use Rattle.report_laws.proofs.SameMoved.{cubes_moved, least_moved}
 use Rattle.ste_program.proofs.SameNets.{AreSame}
-use Rattle.ste_program.proofs.SameVerdicts.{possible_moved, verdict_alike}
+use Rattle.report_laws.proofs.SameVerdicts.{possible_moved, verdict_alike}
 
 -- ---- edges that say the same
 

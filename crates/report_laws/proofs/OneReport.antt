@@ -20,13 +20,14 @@ use Rattle.ste_program.specs.Command.{net_file, second_file}
 use Rattle.ste_program.specs.Info.{IsInfo, count_line, free_below, info_text, is_free}
 use Rattle.ste_io.specs.Outside.{FilesState}
 use Rattle.report_text.specs.Text.{nodes_line}
-use Rattle.ste_program.specs.Report.{AgreeOn, AreOne, AskAlike, IsReport, IsWritten, OneReport, Told, end_in, shared_in, text_at, told_in, told_in_check}
+use Rattle.ste_program.specs.Report.{IsReport, IsWritten, text_at}
+use Rattle.report_laws.specs.OneReport.{AgreeOn, AreOne, AskAlike, OneReport, Told, end_in, shared_in, told_in, told_in_check}
 use Rattle.ste_program.specs.Simulated.{IsSimulated, sim_text}
 use Rattle.ste_program.proofs.Fetched.{read_told}
 use Rattle.ste_program.proofs.NetlistText.{one_netlist}
-use Rattle.ste_program.proofs.SameInputs.{outputs_same}
+use Rattle.report_laws.proofs.SameRuns.{outputs_same}
 use Rattle.ste_program.proofs.SameNets.{AreAlike, AreSame, flats_same, sources_same}
-use Rattle.ste_program.proofs.SameReports.{lines_same, lines_told, reports_agree}
+use Rattle.report_laws.proofs.SameReports.{lines_same, lines_told, reports_agree}
 use Rattle.ste_program.proofs.TextStages.{one_reading}
 
 -- what two reports on the same texts have in common

@@ -33,13 +33,13 @@ use Rattle.ste_model.proofs.GraphReports.{one_graph_report_of}
 use Rattle.ste_model.proofs.Reports.{one_report_of}
 use Rattle.report_text.specs.Text.{fails_line, guards_text, least_line, names_net, net_line, path_line, run_text, task_text, verdict_words}
 use Rattle.work_pool.specs.Told.{Agree, IsToldOf}
-use Rattle.ste_program.specs.Report.{AgreeOn, Told, told_at, told_on}
+use Rattle.report_laws.specs.OneReport.{AgreeOn, Told, told_at, told_on}
 use Rattle.ste_program.specs.Check.{IsReportOn, is_pass}
-use Rattle.ste_program.proofs.SameInputs.{run_moved, undriven_moved}
-use Rattle.ste_program.proofs.SameGraphs.{GraphSaysSame, graph_named_alike, graph_report_moved, graph_says_same}
-use Rattle.ste_program.proofs.SameMoved.{cubes_moved, least_moved}
+use Rattle.report_laws.proofs.SameRuns.{run_moved, undriven_moved}
+use Rattle.report_laws.proofs.SameGraphs.{GraphSaysSame, graph_named_alike, graph_report_moved, graph_says_same}
+use Rattle.report_laws.proofs.SameMoved.{cubes_moved, least_moved}
 use Rattle.ste_program.proofs.SameNets.{AreSame, flats_same}
-use Rattle.ste_program.proofs.SameVerdicts.{SaysSame, back_says, of_contradictory, of_table, says_same, strong_moved, verdict_moved, weak_moved}
+use Rattle.report_laws.proofs.SameVerdicts.{SaysSame, back_says, of_contradictory, of_table, says_same, strong_moved, verdict_moved, weak_moved}
 
 -- ---- what is told, moved to a net that is the same and an assertion that says the same
 
