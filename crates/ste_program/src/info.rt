@@ -1,9 +1,12 @@
 //! What `info` writes: the counts of a net.
-ghost use Rattle.std.specs.Prelude.{◌≡◌, ◌≤◌, ◌++◌, true, IfOk, MatchResult, length};
+ghost use Rattle.std.specs.Prelude.{◌≡◌, ◌≤◌, ◌++◌, ℕ, List, true, IfOk, MatchResult, length};
+ghost use Rattle.blif_syntax.specs.declared.models.Model.{Model};
 ghost use Rattle.net_core.specs.declared.source.Source.{Source};
 ghost use Rattle.ste_program.specs.Info.{IsInfo, count_line, free_below, info_text, is_free};
+ghost use Rattle.ste_program.specs.Netlist.{IsNetlist};
 ghost use Rattle.ste_program.specs.Order.{IsFirst, info_stages};
 ghost use Rattle.ste_program.specs.Report.{greatest};
+ghost use Rattle.ste_program.specs.private.Made.{IsNetOf};
 ghost use Rattle.ste_program.specs.private.Texts.{OrMemory};
 
 use crate::netlist::{FlatNet, netlist_of};
@@ -67,6 +70,22 @@ fn info_text(alloc: Global, name: &[u8], net: &Net) -> Result<Vec<u8>, AllocErro
     Ok(text)
 }
 
+/// What `info` writes on a flat net with the names of its nets.
+fn counts_of(alloc: Global, flat: &FlatNet) -> Result<Written, Refusal>
+    ensures { (text : List ℕ) (models : List Model) → IsNetlist text models →
+        IsNetOf models flat.now.net.raw flat.now.names → MatchResult result
+        (λ report. (report.passes ≡ true) × IsInfo text report.bytes)
+        (λ found. OrMemory (IsFirst (info_stages text)) found) }
+{
+    match info_text(alloc, flat.names.top().bytes(), &flat.net) {
+        Ok(bytes) => Ok(Written {
+            bytes: bytes.into(),
+            passes: true,
+        }),
+        Err(_) => Err(Refusal::OutOfMemory),
+    }
+}
+
 /// What `info` writes on the text of a netlist.
 pub fn info(alloc: Global, text: Vec<u8>) -> Result<Written, Refusal>
     requires { length text.items ≤ greatest }
@@ -74,15 +93,9 @@ pub fn info(alloc: Global, text: Vec<u8>) -> Result<Written, Refusal>
         (λ report. (report.passes ≡ true) × IsInfo text.items report.bytes)
         (λ found. OrMemory (IsFirst (info_stages text.items)) found) }
 {
-    let FlatNet { net, names } = match netlist_of(alloc, text) {
+    let flat = match netlist_of(alloc, text) {
         Ok(flat) => flat,
         Err(found) => return Err(found),
     };
-    match info_text(alloc, names.top().bytes(), &net) {
-        Ok(bytes) => Ok(Written {
-            bytes: bytes.into(),
-            passes: true,
-        }),
-        Err(_) => Err(Refusal::OutOfMemory),
-    }
+    counts_of(alloc, &flat)
 }

@@ -1,10 +1,13 @@
 //! What `sim` writes: the outputs of the run on given inputs.
-ghost use Rattle.std.specs.Prelude.{◌≡◌, ◌≤◌, ◌<◌, ◌++◌, Bool, List, All, IfOk, IsTrue, MatchResult, true, length, flat_map};
+ghost use Rattle.std.specs.Prelude.{◌≡◌, ◌≤◌, ◌<◌, ◌++◌, ℕ, Bool, List, All, IfOk, IsTrue, MatchResult, true, length, flat_map};
+ghost use Rattle.blif_syntax.specs.declared.models.Model.{Model};
 ghost use Rattle.clock_step.specs.Order.{is_undriven};
 ghost use Rattle.clock_step.specs.Simulation.{AreOutputs};
+ghost use Rattle.ste_program.specs.Netlist.{IsNetlist};
 ghost use Rattle.ste_program.specs.Order.{IsFirst, sim_stages};
 ghost use Rattle.ste_program.specs.Report.{greatest};
 ghost use Rattle.ste_program.specs.Simulated.{IsSimulated, name_part, row_line, sim_text};
+ghost use Rattle.ste_program.specs.private.Made.{IsNetOf};
 ghost use Rattle.ste_program.specs.private.Simulated.{AreGiven, AreNotGiven, own_names};
 ghost use Rattle.ste_program.specs.private.Texts.{OrMemory};
 
@@ -89,6 +92,28 @@ fn text_of(alloc: Global, flat: &FlatNet, inputs: Inputs) -> Result<Vec<u8>, All
     sim_text(alloc, &flat.names, flat.net.outputs(), rows.as_slice())
 }
 
+/// What `sim` writes on a flat net with the names of its nets, and the text of an input file.
+fn outputs_of(alloc: Global, flat: &FlatNet, input_text: Vec<u8>) -> Result<Written, Refusal>
+    requires named { length flat.now.names.own ≡ flat.now.net.raw.nets }
+    requires inputs { length input_text.items ≤ greatest }
+    ensures { (net_text : List ℕ) (models : List Model) → IsNetlist net_text models →
+        IsNetOf models flat.now.net.raw flat.now.names → MatchResult result
+        (λ report. (report.passes ≡ true) × IsSimulated net_text input_text.items report.bytes)
+        (λ found. OrMemory (IsFirst (sim_stages net_text input_text.items)) found) }
+{
+    let inputs = match inputs_of(alloc, flat, input_text) {
+        Ok(inputs) => inputs,
+        Err(found) => return Err(found),
+    };
+    match text_of(alloc, flat, inputs) {
+        Ok(bytes) => Ok(Written {
+            bytes: bytes.into(),
+            passes: true,
+        }),
+        Err(_) => Err(Refusal::OutOfMemory),
+    }
+}
+
 /// What `sim` writes on the texts of a netlist and of an input file.
 pub fn simulated(alloc: Global, net_text: Vec<u8>, input_text: Vec<u8>) -> Result<Written, Refusal>
     requires net { length net_text.items ≤ greatest }
@@ -102,15 +127,5 @@ pub fn simulated(alloc: Global, net_text: Vec<u8>, input_text: Vec<u8>) -> Resul
         Ok(flat) => flat,
         Err(found) => return Err(found),
     };
-    let inputs = match inputs_of(alloc, &flat, input_text) {
-        Ok(inputs) => inputs,
-        Err(found) => return Err(found),
-    };
-    match text_of(alloc, &flat, inputs) {
-        Ok(bytes) => Ok(Written {
-            bytes: bytes.into(),
-            passes: true,
-        }),
-        Err(_) => Err(Refusal::OutOfMemory),
-    }
+    outputs_of(alloc, &flat, input_text)
 }
