@@ -64,15 +64,15 @@ fn first_steps(nets: u32, tasks: u32, vars: u32, steps: u32) -> u32
     share.min(most_first_steps(vars)).max(1024).min(steps)
 }
 
-/// The node steps of each of so many tasks that are tried next: twelve times those that were tried, but for all tasks
-/// together at most 2,097,152, where these are more than four times as many for each.
+/// The node steps of each of so many tasks that are tried next: six times those that were tried, and at least an equal
+/// share of 262,144, which is a table of 4 MB, but no more than twelve times those that were tried.
 fn next_steps(tried: u32, tasks: u32, steps: u32) -> u32
     requires { (1 ≤ tasks) × (1 ≤ tried) }
     ensures exact { result ≡ next_steps tried tasks steps }
     ensures more { tried < steps → (tried < result) × (result ≤ steps) }
 {
-    let share = (2097152 / tasks).min(tried.saturating_mul(12));
-    tried.saturating_mul(4).max(share).min(steps)
+    let share = (262144 / tasks).min(tried.saturating_mul(12));
+    tried.saturating_mul(6).max(share).min(steps)
 }
 
 /// Whether the report of this number says budget.

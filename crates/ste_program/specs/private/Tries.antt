@@ -20,7 +20,7 @@ first_steps nets tasks vars steps = min (max (min (min (max (12 * nets) 20480) (
 
 -- the node steps of each of so many tasks that are tried behind so many, where so many are granted
 abbrev pub next_steps : ℕ → ℕ → ℕ → ℕ
-next_steps tried tasks steps = min (max (4 * tried) (min (2097152 / tasks) (12 * tried))) steps
+next_steps tried tasks steps = min (max (6 * tried) (min (262144 / tasks) (12 * tried))) steps
 
 -- there is a report, and it says budget
 abbrev pub is_budget_report : Option Report → Bool
