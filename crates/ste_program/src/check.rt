@@ -1,6 +1,7 @@
 //! What a check writes: `check` gives its bytes, and whether every task passes; `checked_texts` the number of nets too.
-ghost use Rattle.std.specs.Prelude.{◌≡◌, ◌*◌, ◌≤◌, ◌<◌, List, All, IfOk, MatchResult, Ok, length, map};
+ghost use Rattle.std.specs.Prelude.{◌≡◌, ◌*◌, ◌≤◌, ◌<◌, ℕ, List, All, IfOk, MatchResult, Ok, false, length, map};
 ghost use Rattle.std.specs.List.{list_all};
+ghost use Rattle.blif_syntax.specs.Covered.{AreCovered};
 ghost use Rattle.blif_syntax.specs.declared.models.Model.{Model};
 ghost use Rattle.command_line.specs.Bounds.{IsBounded};
 ghost use Rattle.hierarchy.specs.Names.{net_named};
@@ -8,6 +9,7 @@ ghost use Rattle.hierarchy.specs.Nets.{nets};
 ghost use Rattle.net_core.specs.Cases.{cases_of};
 ghost use Rattle.task_binding.specs.Answer.{IsAnswer};
 ghost use Rattle.ste_program.specs.Check.{IsCheck, IsReportOn, are_too_many, is_pass, task_steps};
+ghost use Rattle.ste_program.specs.Netlist.{IsNetlist};
 ghost use Rattle.ste_program.specs.Order.{IsFirst, check_stages, has_faulty_tasks};
 ghost use Rattle.ste_program.specs.Report.{greatest};
 ghost use Rattle.ste_program.specs.TaskFile.{AreTasks};
@@ -21,6 +23,7 @@ use crate::refusal::Refusal;
 use crate::report::Written;
 use assert_syntax::{RawTasks, read_tasks};
 use blif_lines::logical_lines;
+use blif_syntax::Models;
 use command_line::Command;
 use report_text::render;
 use std::alloc::{AllocError, Global};
@@ -85,6 +88,56 @@ fn are_too_many(steps: Option<u64>, tasks: usize) -> bool
     }
 }
 
+/// The tasks over a flat net, where their node steps are not too many.
+fn tasks_on(
+    alloc: Global,
+    steps: Option<u64>,
+    flat: &FlatNet,
+    raw: &RawTasks,
+) -> Result<Tasks, Refusal>
+    ensures { (net_text task_text : List ℕ) (models : List Model) → IsNetlist net_text models →
+        AreTasks task_text raw.now → IsNetOf models flat.now.net.raw flat.now.names →
+        MatchResult result
+        (λ tasks. IsAnswer (net_named models) (length (nets models)) raw.now (Ok tasks)
+        × (are_too_many steps (length raw.now.tasks) ≡ false))
+        (λ found. OrMemory (IsFirst (check_stages steps net_text task_text)) found) }
+{
+    let tasks = match bound(alloc, flat, raw) {
+        Ok(tasks) => tasks,
+        Err(found) => return Err(found),
+    };
+    if are_too_many(steps, raw.tasks.len()) {
+        return Err(Refusal::TooManySteps);
+    }
+    Ok(tasks)
+}
+
+/// What a check with these node steps of each task needs, from the models and the tasks that its texts spell.
+fn prepared_of(
+    alloc: Global,
+    steps: Option<u64>,
+    models: Models,
+    raw: &RawTasks,
+) -> Result<Prepared, Refusal>
+    requires covered { AreCovered models.models }
+    requires read { (net_text task_text : List ℕ) × (IsNetlist net_text models.models
+        × AreTasks task_text raw.now) }
+    ensures { (net_text task_text : List ℕ) → IsNetlist net_text models.models →
+        AreTasks task_text raw.now → MatchResult result
+        (λ made. IsPrepared steps net_text task_text made.flat.names.own made.flat.net.raw
+        made.tasks)
+        (λ found. OrMemory (IsFirst (check_stages steps net_text task_text)) found) }
+{
+    let flat = match net_of(alloc, models) {
+        Ok(flat) => flat,
+        Err(found) => return Err(found),
+    };
+    match tasks_on(alloc, steps, &flat, raw) {
+        Ok(tasks) => Ok(Prepared { flat, tasks }),
+        Err(found) => Err(found),
+    }
+}
+
 /// What a check with these node steps of each task needs, from its texts; or why there is nothing to check.
 fn prepare(
     alloc: Global,
@@ -107,18 +160,7 @@ fn prepare(
         Ok(raw) => raw,
         Err(found) => return Err(found),
     };
-    let flat = match net_of(alloc, models) {
-        Ok(flat) => flat,
-        Err(found) => return Err(found),
-    };
-    let tasks = match bound(alloc, &flat, &raw) {
-        Ok(tasks) => tasks,
-        Err(found) => return Err(found),
-    };
-    if are_too_many(steps, raw.tasks.len()) {
-        return Err(Refusal::TooManySteps);
-    }
-    Ok(Prepared { flat, tasks })
+    prepared_of(alloc, steps, models, &raw)
 }
 
 /// The node steps of each of so many tasks.
