@@ -64,14 +64,14 @@ fn refuse<E: Sink>(
 }
 
 /// Writes the report, or the message that it could not be written.
-fn write_report<O: Sink, E: Sink>(report: &Written, out: &mut O, err: &mut E) -> Status
+fn write_report<O: Sink, E: Sink>(report: Written, out: &mut O, err: &mut E) -> Status
     ensures written { result ≢ Status.Faulted →
-        WentOut report.now.bytes (O.state out.old) (O.state out.new)
+        WentOut report.bytes (O.state out.old) (O.state out.new)
         × (E.state err.new ≡ E.state err.old) }
     ensures status { result ≢ Status.Faulted →
-        result ≡ cond report.now.passes Status.Passed Status.NotPassed }
+        result ≡ cond report.passes Status.Passed Status.NotPassed }
     ensures faulted { result ≡ Status.Faulted →
-        BrokeOff report.now.bytes (O.state out.old) (O.state out.new)
+        BrokeOff report.bytes (O.state out.old) (O.state out.new)
         × (WentOut cannot_write (E.state err.old) (E.state err.new)
         ⊎ BrokeOff cannot_write (E.state err.old) (E.state err.new)) }
 {
@@ -118,7 +118,7 @@ fn answer<R: Threads + Sync, F: Files, O: Sink, E: Sink, G: Gate + Sync>(
         (O.state out.old) (O.state out.new) (E.state err.old) (E.state err.new) }
 {
     match report_of(rt, alloc, command, files, gate) {
-        Ok(report) => write_report(&report, out, err),
+        Ok(report) => write_report(report, out, err),
         Err(refusal) => refuse(alloc, command, &refusal, err),
     }
 }
