@@ -64,15 +64,13 @@ fn first_steps(nets: u32, tasks: u32, vars: u32, steps: u32) -> u32
     share.min(most_first_steps(vars)).max(1024).min(steps)
 }
 
-/// The node steps of each of so many tasks that are tried next: six times those that were tried, and at least an equal
-/// share of 262,144, which is a table of 4 MB, but no more than twelve times those that were tried.
-fn next_steps(tried: u32, tasks: u32, steps: u32) -> u32
-    requires { (1 ≤ tasks) × (1 ≤ tried) }
-    ensures exact { result ≡ next_steps tried tasks steps }
+/// The node steps of a task that are tried next: twelve times those that were tried.
+fn next_steps(tried: u32, steps: u32) -> u32
+    requires { 1 ≤ tried }
+    ensures exact { result ≡ next_steps tried steps }
     ensures more { tried < steps → (tried < result) × (result ≤ steps) }
 {
-    let share = (262144 / tasks).min(tried.saturating_mul(12));
-    tried.saturating_mul(6).max(share).min(steps)
+    tried.saturating_mul(12).min(steps)
 }
 
 /// Whether the report of this number says budget.
@@ -147,25 +145,12 @@ pub fn reports_of<R: Threads + Sync, G: Gate + Sync>(
             return Ok(told);
         }
         let numbers = budget_numbers(alloc, &told.reports)?;
-        tried = next_steps(tried, count_again(asked, tasks, &numbers), steps);
+        tried = next_steps(tried, steps);
         told = told_again(
             rt, alloc, asked, net, rows, tasks, told, &numbers, tried, gate,
         )?;
     }
     Ok(told)
-}
-
-/// How many tasks are checked again, where those of these numbers say budget.
-fn count_again(asked: &Command<'_>, tasks: &Tasks, numbers: &[u32]) -> u32
-    requires numbers { (1 ≤ length numbers.now) × (length numbers.now < 2 ^ 32) }
-    requires tasks { (1 ≤ length tasks.now.tasks) × (length tasks.now.tasks < 2 ^ 32) }
-    ensures { 1 ≤ result }
-{
-    if asked.nodes {
-        tasks.tasks.len() as u32
-    } else {
-        numbers.len() as u32
-    }
 }
 
 /// What is told of tasks, where those of these numbers said budget and are checked again, with so many node steps for

@@ -18,9 +18,9 @@ most_first_steps vars = if nat_lt vars 9 then 4096 else 2097152
 abbrev pub first_steps : ℕ → ℕ → ℕ → ℕ → ℕ
 first_steps nets tasks vars steps = min (max (min (min (max (12 * nets) 20480) (2097152 / tasks)) (most_first_steps vars)) 1024) steps
 
--- the node steps of each of so many tasks that are tried behind so many, where so many are granted
-abbrev pub next_steps : ℕ → ℕ → ℕ → ℕ
-next_steps tried tasks steps = min (max (6 * tried) (min (262144 / tasks) (12 * tried))) steps
+-- the node steps of a task that are tried behind so many, where so many are granted
+abbrev pub next_steps : ℕ → ℕ → ℕ
+next_steps tried steps = min (12 * tried) steps
 
 -- there is a report, and it says budget
 abbrev pub is_budget_report : Option Report → Bool

@@ -4,7 +4,7 @@ use Rattle.std.proofs.lemmas.Slice.Zip.{AllZip-long}
 use Rattle.work_pool.specs.Told.{IsToldOf}
 use Rattle.ste_program.specs.private.Tries.{budget_numbers}
 use Rattle.ste_program.proofs.FewSteps.{all_told, shared_told, some_budget}
-use Rattle.ste_program.proofs.Woven.{budgets_few, budgets_some, few_tasks}
+use Rattle.ste_program.proofs.Woven.{budgets_some, few_tasks}
 use Rattle.ste_program.proofs.judging.reports_of.Goals as goal
 
 pub returns-then-not-some_budget-clause-told : goal.returns-then-not-some_budget-clause-told
@@ -32,19 +32,6 @@ budget_numbers-requires g c =
     let few = few_tasks (length tasks) c.args.steps c.requires.steps.0 c.requires.steps.1 in
     let same = ap length c.deref-in-loop-tried.ensures.value in omega (arith, same, long, few)
 
-pub count_again-requires-clause-numbers : goal.count_again-requires-clause-numbers
-count_again-requires-clause-numbers g c =
-    let tasks = c.args.tasks.now.tasks in
-    let reports = c.loop-tried.told.reports.items in
-    let i = c.loop-tried.invariant in
-    let long = AllZip-long (IsToldOf c.args.net.now.raw (length c.args.tasks.now.vars) c.loop-tried.tried c.args.asked.now.cubes) tasks reports i.told in
-    let few = few_tasks (length tasks) c.args.steps c.requires.steps.0 c.requires.steps.1 in
-    let some : some_budget reports ≡ true = ap some_budget (sym c.deref.ensures.value) ∙ (sym c.some_budget.ensures ∙ c.if-not-some_budget.false) in
-    let is = c.deref-in-loop-tried-2.ensures.value ∙ (c.in_ok-numbers.ensures ∙ ap budget_numbers c.deref-in-loop-tried.ensures.value) in
-    let same = ap length is in
-    let fewer = budgets_few reports in
-    (subst (λ (numbers : List ℕ). 1 ≤ length numbers) (sym is) (budgets_some reports some), omega (arith, same, fewer, long, few))
-
 pub told_again-requires-clause-long : goal.told_again-requires-clause-long
 told_again-requires-clause-long g c κs within =
     let tasks = c.args.tasks.now.tasks in
@@ -58,7 +45,7 @@ told_again-requires-clause-some g c κs within =
     let reports = c.loop-tried.told.reports.items in
     let i = c.loop-tried.invariant in
     let some : some_budget reports ≡ true = ap some_budget (sym c.deref.ensures.value) ∙ (sym c.some_budget.ensures ∙ c.if-not-some_budget.false) in
-    let is = c.deref-in-loop-tried-3.ensures.value ∙ (c.in_ok-numbers.ensures ∙ ap budget_numbers c.deref-in-loop-tried.ensures.value) in
+    let is = c.deref-in-loop-tried-2.ensures.value ∙ (c.in_ok-numbers.ensures ∙ ap budget_numbers c.deref-in-loop-tried.ensures.value) in
     subst (λ (numbers : List ℕ). 1 ≤ length numbers) (sym is) (budgets_some reports some)
 
 pub loop-tried-preserved : goal.loop-tried-preserved
