@@ -191,7 +191,7 @@ fn shared_nodes(rt: HostRuntime) -> Result<(), Fail> {
 fn variables(alloc: Global) -> Result<String, AllocError> {
     let mut text = String::from_str(alloc, ".vars")?;
     for name in ["p", "q"] {
-        for i in 0..13 {
+        for i in 0..14 {
             text.push_str(&format!(in alloc; " {name}{i}")?)?;
         }
     }
@@ -204,10 +204,10 @@ fn small_task(alloc: Global, name: &str) -> Result<String, AllocError> {
     format!(in alloc; ".ste {name}\n.ant a = p0 from 0 to 1\n.con y = !p0 from 0 to 1\n.end\n")
 }
 
-/// A task over the inverter that takes some 40,000 nodes: sums of products of variables that stand far apart in the order.
+/// A task over the inverter that takes some 80,000 nodes: sums of products of variables that stand far apart in the order.
 fn large_task(alloc: Global, name: &str) -> Result<String, AllocError> {
     let mut sum = String::from_str(alloc, "p0 & q0")?;
-    for i in 1..13 {
+    for i in 1..14 {
         sum.push_str(&format!(in alloc; " | p{i} & q{i}")?)?;
     }
     format!(in alloc;
@@ -247,7 +247,7 @@ fn few_steps_first(rt: HostRuntime) -> Result<(), Fail> {
     let alloc = rt.alloc();
     let tasks = one_large_task(alloc, 40)?;
     for words in [
-        "--workers 1 --steps 100000",
+        "--workers 1 --steps 200000",
         "--workers 4 --steps 300000 --nodes",
     ] {
         let text = report(&rt, alloc, words, INVERTER, &tasks, Status::Passed, &NoGate)?;
@@ -294,8 +294,8 @@ fn large_tasks_alone_are_tried_again(rt: HostRuntime) -> Result<(), Fail> {
         passes.push_str(&format!(in alloc; "t{i}: pass\n")?)?;
     }
     for (words, begun) in [
-        ("--workers 3 --steps 100000", 43),
-        ("--workers 2 --steps 100000 --nodes", 80),
+        ("--workers 3 --steps 200000", 43),
+        ("--workers 2 --steps 200000 --nodes", 80),
     ] {
         let gate = Begun {
             count: AtomicU64::new(0),
