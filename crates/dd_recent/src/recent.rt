@@ -1,7 +1,7 @@
 //! Results of operations that are remembered; begin with `Recent`.
 
 ghost use Rattle.std.specs.Prelude.{◌≡◌, ◌<◌, ◌⊎◌, [], Contains, IfSome, IsTrue, length};
-ghost use Rattle.dd_table.specs.Recent.{Takes, entries_of, joined_as, nothing};
+ghost use Rattle.dd_recent.specs.Recent.{Takes, entries_of, joined_as, nothing};
 
 use dd_nodes::{Operator, Ref};
 use std::alloc::Global;

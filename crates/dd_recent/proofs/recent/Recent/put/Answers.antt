@@ -1,8 +1,8 @@
 use Rattle.std.proofs.Common.{Option, Vec, Global, subst}
-use Rattle.dd_table.specs.declared.recent.Joined.{Joined}
-use Rattle.dd_table.specs.Recent.{Takes, entries_of, nothing, some_entries}
-use Rattle.dd_table.proofs.Remembering.{Takes-more}
-use Rattle.dd_table.proofs.recent.Recent.put.Goals as goal
+use Rattle.dd_recent.specs.declared.recent.Joined.{Joined}
+use Rattle.dd_recent.specs.Recent.{Takes, entries_of, nothing, some_entries}
+use Rattle.dd_recent.proofs.Remembering.{Takes-more}
+use Rattle.dd_recent.proofs.recent.Recent.put.Goals as goal
 
 pub returns-in-Some : goal.returns-in-Some
 returns-in-Some c =
