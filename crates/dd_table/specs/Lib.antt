@@ -5,6 +5,5 @@ pub mod Rules
 pub mod Tells
 pub mod Sessions
 pub mod Inside
-pub mod Recent
 pub mod StoreLaws
 pub mod Schedules

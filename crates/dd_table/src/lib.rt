@@ -5,7 +5,6 @@
 mod calls;
 pub mod laws;
 pub mod nodes;
-mod recent;
 mod rule;
 mod search;
 pub mod session;

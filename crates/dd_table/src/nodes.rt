@@ -2,14 +2,14 @@
 
 ghost use Rattle.std.specs.Prelude.{◌≡◌};
 ghost use Rattle.std.proofs.Props.{props};
-ghost use Rattle.dd_table.specs.Recent.{AreRight};
-ghost use Rattle.dd_table.specs.Sessions.{IsGoodSession};
+ghost use Rattle.dd_recent.specs.Recent.{AreRight};
+ghost use Rattle.dd_table.specs.Sessions.{IsGoodSession, store_of};
 
 use crate::calls::{make_node, make_uncounted, read_node, split_off, take_in};
-use crate::recent::{Joined, Recent};
 use crate::session::Session;
 use crate::table::SharedTable;
 use dd_nodes::{MkFault, Node, Nodes, Operator, Ref, Split, Steps};
+use dd_recent::{Joined, Recent};
 use std::alloc::Global;
 use std::sync::ledger::Ledger;
 
@@ -21,7 +21,7 @@ pub struct TableNodes<'a> {
     recent: Recent,
     ghost same: { session.table ≡ table.now },
     ghost good: { IsGoodSession session } by { Prim.hlevel props },
-    ghost right: { AreRight session recent } by { Prim.hlevel props },
+    ghost right: { AreRight (store_of session) recent } by { Prim.hlevel props },
 }
 
 impl<'a> TableNodes<'a> {
