@@ -1,0 +1,9 @@
+use Rattle.std.proofs.Common.{◌≡◌}
+use Rattle.dd_growing.specs.private.Slots.{IsAt}
+use Rattle.dd_growing.proofs.slots.place.Given as goal
+
+abbrev pub invariant-loop-n : goal.invariant-loop-n
+invariant-loop-n l = record {
+  same : l.slots ≡ l.initial.slots;
+  here : IsAt l.initial.slots l.slot.mark l.n l.at;
+}

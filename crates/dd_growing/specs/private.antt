@@ -1,0 +1,3 @@
+-- Definitions that serve private functions.
+pub mod Slots
+pub mod GrowingLaws
