@@ -1,13 +1,11 @@
 -- How the store begins, how its table grows, and how a node is added.
-use Rattle.std.proofs.Common.{◌≡◌, ◌≢◌, ℕ, zero, suc, ◌+◌, ◌-◌, ◌*◌, ◌≤◌, ◌<◌, Bool, true, false, List, [], ◌∷◌, ◌++◌, length, get_or, replicate, Contains, ◌⊎◌, inl, inr, ⊎_elim, refl, sym, ◌∙◌, ap, subst, arith}
-use Rattle.std.specs.Prelude.{None, Some, slice_get, nat_lt}
-use Rattle.std.specs.List.{sum_by}
+use Rattle.std.proofs.Common.{◌≡◌, ◌≢◌, ℕ, zero, suc, ◌+◌, ◌-◌, ◌≤◌, ◌<◌, true, false, List, [], ◌∷◌, ◌++◌, length, ◌⊎◌, inl, inr, ⊎_elim, refl, sym, ◌∙◌, ap, subst, arith}
+use Rattle.std.specs.Prelude.{None, Some, slice_get}
 use Rattle.std.proofs.lemmas.Grind.{common_steps}
 use Rattle.std.proofs.lemmas.Bool.{cases_lt}
 use Rattle.std.proofs.lemmas.Bool.Decides.{leb_tells}
 use Rattle.std.proofs.lemmas.Option.{none-some}
-use Rattle.std.proofs.lemmas.List.{get_or_default, get_or-replicate, length-append, length-replicate}
-use Rattle.std.proofs.lemmas.List.Folds.{sum_by-replicate}
+use Rattle.std.proofs.lemmas.List.{get_or_default, length-append}
 use mathlib.Core.Logic.{dite}
 use native.Mathlib.Decide.{ℕ_discrete}
 use Rattle.dd_nodes.specs.declared.node.Ref.{Ref}
@@ -24,7 +22,7 @@ use Rattle.dd_growing.specs.declared.slots.Slot.{Slot}
 use Rattle.dd_growing.specs.Growing.{grown_store, refs_from}
 use Rattle.dd_growing.specs.private.Slots.{HasSlots, IsIndexed, IsOnWalk, IsPlaced, empty_slot, is_used, mark_of, slot_at, slot_of, taken, walk}
 use Rattle.dd_growing.specs.private.GrowingLaws.{growing_diagram, length-refs_from}
-use Rattle.dd_growing.proofs.Walks.{at_place, elsewhere, on_walk_now, on_walk_still, taken_placed, uses}
+use Rattle.dd_growing.proofs.Walks.{at_place, elsewhere, on_walk_now, on_walk_still, taken_placed}
 use Rattle.dd_growing.proofs.Placing.{found_there}
 
 -- the slot of a node is used

@@ -1,5 +1,5 @@
 -- Tables that are made of other tables.
-use Rattle.std.proofs.Common.{◌≡◌, ℕ, ◌+◌, ◌*◌, ◌<◌, ◌≤◌, Bool, true, false, List, length, get_or, take, replicate, ⊎_elim, sym, ap, ◌∙◌, subst, arith, Contains}
+use Rattle.std.proofs.Common.{◌≡◌, ℕ, ◌+◌, ◌*◌, ◌<◌, ◌≤◌, true, false, List, length, get_or, take, replicate, ⊎_elim, sym, ap, ◌∙◌, subst, arith, Contains}
 use Rattle.std.specs.List.{sum_by}
 use Rattle.std.proofs.Math.Seq.{take-length}
 use Rattle.std.proofs.lemmas.List.{get_or_default, get_or-replicate, length-replicate}
@@ -9,7 +9,7 @@ use Rattle.std.proofs.lemmas.Bool.{cases_lt}
 use mathlib.Core.Logic.{dite}
 use native.Mathlib.Decide.{ℕ_discrete}
 use Rattle.dd_growing.specs.declared.slots.Slot.{Slot}
-use Rattle.dd_growing.specs.private.Slots.{HasFirst, HasSlots, IsOnWalk, IsPlaced, empty_slot, is_used, slot_at, slot_on, taken, walk}
+use Rattle.dd_growing.specs.private.Slots.{HasFirst, HasSlots, IsOnWalk, IsPlaced, empty_slot, is_used, slot_at, taken, walk}
 use Rattle.dd_growing.proofs.Walks.{at_place, elsewhere, long_placed, on_walk_now, on_walk_still, taken_placed, uses, walk_lt}
 
 -- no more of the slots are used than there are

@@ -14,7 +14,7 @@ use std::alloc::{AllocError, Global};
 use std::thread::Threads;
 use ste_model::{Report, Tasks, Verdict};
 use sym_step::GateRows;
-use work_pool::{Gate, PoolAnswer, run_some, run_tasks};
+use work_pool::{Gate, PoolAnswer, run_alone, run_some, run_tasks};
 
 /// Whether the verdict is pass.
 pub fn is_pass(verdict: Verdict) -> bool
@@ -107,13 +107,52 @@ fn woven(mut reports: Vec<Report>, numbers: &[u32], again: Vec<Report>) -> Vec<R
     reports
 }
 
-/// What is told of tasks, with so many node steps for each: they are checked by the command's workers over one table.
+/// What is told of tasks, with so many node steps for each.
+///
+/// One worker checks them over a store that grows, and so does the caller's thread where there is but one task. More workers
+/// share one table, and so does one where the number of shared nodes is asked for.
+pub fn reports_of<R: Threads + Sync, G: Gate + Sync>(
+    rt: &R,
+    alloc: Global,
+    asked: &Command<'_>,
+    net: &Net,
+    rows: &GateRows,
+    tasks: &Tasks,
+    steps: u32,
+    gate: &G,
+) -> Result<Reports, AllocError>
+    requires bounded { IsBounded asked.now }
+    requires rows { rows.now.covers ≡ map rows_of net.now.raw.covers }
+    requires checkable { All (IsCheckable net.now.raw.nets (length tasks.now.vars))
+        tasks.now.tasks }
+    requires some { 1 ≤ length tasks.now.tasks }
+    requires vars { length tasks.now.vars ≤ 1000 }
+    requires steps { (1 ≤ steps) × (length tasks.now.tasks * steps ≤ 16000000) }
+    ensures told { IfOk result (λ told. AllZip
+        (IsToldOf net.now.raw (length tasks.now.vars) steps asked.now.cubes) tasks.now.tasks
+        told.reports.items) }
+    ensures shown { IfOk result (λ told. is_some told.shared ≡ asked.now.nodes) }
+    ensures counted { IfOk result (λ told. IfSome told.shared (IsSharedCount net.now.raw
+        (length tasks.now.vars) steps tasks.now.tasks told.reports.items)) }
+{
+    if asked.nodes || (asked.workers > 1 && tasks.tasks.len() > 1) {
+        return told_in_tries(rt, alloc, asked, net, rows, tasks, steps, gate);
+    }
+    let cubes = asked.cubes;
+    let reports = run_alone(alloc, net, rows, tasks, steps, cubes, gate)?;
+    Ok(Reports {
+        reports,
+        shared: None,
+    })
+}
+
+/// What is told of tasks that are checked by the command's workers over one table, with so many node steps for each.
 ///
 /// A table takes two words for each step, and to open a large one takes longer than most checks. So few steps are tried
 /// first, and then more, for the tasks alone that said budget, each time over a table of their own. What was told of the
 /// others stands: more steps would tell the same. Where the number of shared nodes is asked for, all tasks are checked
 /// again, since that number is of one table.
-pub fn reports_of<R: Threads + Sync, G: Gate + Sync>(
+fn told_in_tries<R: Threads + Sync, G: Gate + Sync>(
     rt: &R,
     alloc: Global,
     asked: &Command<'_>,

@@ -1,6 +1,7 @@
 //! Tasks shared out to workers over one table of nodes; begin with `run_tasks`.
 #![tactic(auto)]
 
+pub mod alone;
 pub mod gate;
 pub mod laws;
 mod pool;
@@ -9,5 +10,6 @@ pub mod run;
 mod tests;
 mod turns;
 
+pub use alone::run_alone;
 pub use gate::{Gate, NoGate};
 pub use run::{PoolAnswer, run_some, run_tasks};

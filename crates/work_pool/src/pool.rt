@@ -34,7 +34,7 @@ pub(crate) struct Job<N> {
 
 /// The report of a task over a store that made nothing yet, from the last frame of another one, where there is one; it
 /// leaves one for the next, where there is one.
-fn check<N: Nodes>(
+pub(crate) fn check<N: Nodes>(
     alloc: Global,
     nodes: &mut N,
     net: &Net,
@@ -117,7 +117,7 @@ fn hand_on<N: Nodes>(jobs: &mut [Job<N>], i: usize, last: &mut Option<Frame>)
 
 /// The most nets of a net whose last frame goes on to another task. That of a larger one leaves the processor's cache
 /// meanwhile, and to mark what is due by its lists takes longer than to evaluate all.
-const MOST_NETS: u32 = 32768;
+pub(crate) const MOST_NETS: u32 = 32768;
 
 /// Lets the last frame go where it is that of a large net.
 fn let_go<N: Nodes>(net: &Net, job: &Job<N>, last: &mut Option<Frame>)

@@ -1,7 +1,5 @@
 use Rattle.std.proofs.Common.{◌≤◌, List, [], ap, ◌∙◌, arith}
 use Rattle.dd_nodes.specs.declared.node.Node.{Node}
-use Rattle.dd_nodes.specs.Stores.{Store}
-use Rattle.dd_recent.specs.Recent.{AreRight}
 use Rattle.dd_growing.specs.Growing.{grown_store}
 use Rattle.dd_growing.specs.private.Slots.{taken}
 use Rattle.dd_recent.proofs.Remembering.{AreRight-none}

@@ -1,4 +1,4 @@
-use Rattle.std.proofs.Common.{◌≡◌, ◌≤◌, ◌<◌, List, length, sym, ap, ◌∙◌, subst, arith}
+use Rattle.std.proofs.Common.{List, subst, arith}
 use Rattle.dd_growing.specs.declared.slots.Slot.{Slot}
 use Rattle.dd_growing.specs.private.Slots.{HasSlots}
 use Rattle.dd_growing.proofs.GrowingSteps.{IsIndexed-wider}

@@ -1,4 +1,4 @@
-use Rattle.std.proofs.Common.{◌≡◌, ◌≢◌, ◌-◌, Bool, List, ℕ, false, ap, sym, ◌∙◌, subst, length, arith}
+use Rattle.std.proofs.Common.{◌≡◌, ◌≢◌, ◌-◌, Bool, List, false, sym, ◌∙◌, subst, length, arith}
 use Rattle.std.specs.Prelude.{◌==◌, Some}
 use Rattle.std.proofs.lemmas.Bool.{eqb-false}
 use Rattle.dd_nodes.specs.declared.node.Ref.{Ref}

@@ -1,4 +1,4 @@
-use Rattle.std.proofs.Common.{◌-◌, sym, ap, ◌∙◌, length, arith}
+use Rattle.std.proofs.Common.{◌-◌, length, arith}
 use Rattle.dd_growing.specs.private.GrowingLaws.{length-refs_from}
 use Rattle.dd_growing.proofs.nodes.GrowingNodesNodes.used.Goals as goal
 

@@ -5,7 +5,7 @@ use Rattle.work_pool.specs.Told.{IsToldOf}
 use Rattle.ste_program.specs.private.Tries.{budget_numbers}
 use Rattle.ste_program.proofs.FewSteps.{all_told, shared_told, some_budget}
 use Rattle.ste_program.proofs.Woven.{budgets_some, few_tasks}
-use Rattle.ste_program.proofs.judging.reports_of.Goals as goal
+use Rattle.ste_program.proofs.judging.told_in_tries.Goals as goal
 
 pub returns-then-not-some_budget-clause-told : goal.returns-then-not-some_budget-clause-told
 returns-then-not-some_budget-clause-told g c =

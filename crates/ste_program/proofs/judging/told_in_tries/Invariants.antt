@@ -2,7 +2,7 @@ use Rattle.std.proofs.Common.{◌≡◌, ◌≤◌, ◌-◌, length}
 use Rattle.std.specs.Prelude.{IfSome, is_some}
 use Rattle.std.specs.List.{AllZip}
 use Rattle.work_pool.specs.Told.{IsSharedCount, IsToldOf}
-use Rattle.ste_program.proofs.judging.reports_of.Given as goal
+use Rattle.ste_program.proofs.judging.told_in_tries.Given as goal
 
 -- what is told so far is told with the steps that were tried
 abbrev pub invariant-loop-tried : goal.invariant-loop-tried

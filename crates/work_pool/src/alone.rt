@@ -1,0 +1,95 @@
+//! The tasks one after another, over a store that grows; begin with `run_alone`.
+
+ghost use Rattle.std.specs.Prelude.{◌≡◌, ◌^◌, ◌<◌, ◌≤◌, length, map, All, IfOk, IfSome};
+ghost use Rattle.std.specs.List.{AllZip};
+ghost use Rattle.sym_step.specs.Step.{rows_of};
+ghost use Rattle.sym_step.specs.private.Frames.{IsFrame};
+ghost use Rattle.work_pool.specs.Pool.{IsTaskOver};
+ghost use Rattle.work_pool.specs.Told.{IsToldOf};
+
+use crate::gate::Gate;
+use crate::pool::{MOST_NETS, check};
+use dd_growing::GrowingNodes;
+use dd_nodes::Nodes;
+use net_core::Net;
+use std::alloc::{AllocError, Global};
+use ste_model::{Report, Task, Tasks};
+use sym_step::{Frame, GateRows};
+
+/// The most nodes that tasks leave to the next one. Where they made more, that one begins with a store of its own.
+const MOST_NODES: u32 = 1000000;
+
+/// The report of a task over a store, which begins anew with so many node steps, from the last frame of another task, where
+/// there is one; it leaves one for the next, where there is one.
+fn check_anew(
+    alloc: Global,
+    nodes: &mut GrowingNodes,
+    net: &Net,
+    rows: &GateRows,
+    task: &Task,
+    steps: u32,
+    cubes: u32,
+    last: &mut Option<Frame>,
+) -> Result<Report, AllocError>
+    requires rows { rows.now.covers ≡ map rows_of net.now.raw.covers }
+    requires over { IsTaskOver net.now.raw (⟦<GrowingNodes as Nodes>⟧.store nodes.old).vars task.now }
+    requires last { IfSome last.old
+        (IsFrame (⟦<GrowingNodes as Nodes>⟧.store nodes.old) net.now.raw) }
+    ensures told { IfOk result (IsToldOf net.now.raw
+        (⟦<GrowingNodes as Nodes>⟧.store nodes.old).vars steps cubes task.now) }
+    ensures vars { (⟦<GrowingNodes as Nodes>⟧.store nodes.new).vars
+        ≡ (⟦<GrowingNodes as Nodes>⟧.store nodes.old).vars }
+    ensures last { IfSome last.new
+        (IsFrame (⟦<GrowingNodes as Nodes>⟧.store nodes.new) net.now.raw) }
+{
+    nodes.begin(steps);
+    let report = check(alloc, nodes, net, rows, task, cubes, last);
+    if net.nets() > MOST_NETS {
+        *last = None;
+    }
+    report
+}
+
+/// The reports of all tasks in their order, checked one after another by this thread, each with `steps` node steps of its
+/// own, and with at most `cubes` cubes in each list of a report. The tasks have a store that grows, in which each finds
+/// what those before it made, as far as it was not let go. All else is as with `run_tasks`.
+pub fn run_alone<G: Gate>(
+    alloc: Global,
+    net: &Net,
+    rows: &GateRows,
+    tasks: &Tasks,
+    steps: u32,
+    cubes: u32,
+    gate: &G,
+) -> Result<Vec<Report>, AllocError>
+    requires rows { rows.now.covers ≡ map rows_of net.now.raw.covers }
+    requires few { length tasks.now.tasks < 2 ^ 32 }
+    requires vars { length tasks.now.vars ≤ 1000 }
+    requires over { All (IsTaskOver net.now.raw (length tasks.now.vars)) tasks.now.tasks }
+
+    // For each task, in order, what is told of it.
+    ensures told { IfOk result (λ reports. AllZip
+        (IsToldOf net.now.raw (length tasks.now.vars) steps cubes) tasks.now.tasks
+        reports.items) }
+{
+    let vars = tasks.vars.len() as u32;
+    let mut nodes = GrowingNodes::new(alloc, vars, 0)?;
+    let mut made = 0u32;
+    let mut last = None;
+    let mut reports = Vec::new(alloc);
+    for number in 0..tasks.tasks.len() as u32 {
+        if made > MOST_NODES {
+            nodes = GrowingNodes::new(alloc, vars, 0)?;
+            made = 0;
+            last = None;
+        }
+        gate.at_task(number);
+        let task = &tasks.tasks.as_slice()[number as usize];
+        let report = check_anew(
+            alloc, &mut nodes, net, rows, task, steps, cubes, &mut last,
+        )?;
+        made = made.saturating_add(nodes.used());
+        reports.push(report)?;
+    }
+    Ok(reports)
+}
