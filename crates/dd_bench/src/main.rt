@@ -1,4 +1,4 @@
-//! The program `dd_bench`: runs a workload of diagram operations over the plain store and measures it. `dd_bench WORKLOAD
+//! The program `dd_bench`: runs a workload of diagram operations over the store that grows, and measures it. `dd_bench WORKLOAD
 //! SIZE RUNS` prints the operations and the nodes made, and to the error output the least time of so many runs, with nodes
 //! and operations a second. `dd_bench print WORKLOAD SIZE` prints the operations, for another package to run.
 #![tactic(auto)]
@@ -12,7 +12,7 @@ use crate::gates::{Mix, gates};
 use crate::shelf::Shelf;
 use crate::trace::{Act, Trace};
 use crate::workloads::{adder, carry, comparator, multiplier, parity, queens};
-use dd_nodes::PlainNodes;
+use dd_growing::GrowingNodes;
 use std::alloc::{AllocError, Global};
 use std::time::Instant;
 use std::{env, io};
@@ -45,7 +45,7 @@ fn mix(symbols: u32, constants: u32, unknown: u32) -> Mix {
 }
 
 /// Whether all operations were done.
-fn run_all(shelf: &mut Shelf<PlainNodes>, acts: &[Act]) -> bool {
+fn run_all(shelf: &mut Shelf<GrowingNodes>, acts: &[Act]) -> bool {
     for act in acts {
         if !shelf.put(*act) {
             return false;
@@ -56,7 +56,7 @@ fn run_all(shelf: &mut Shelf<PlainNodes>, acts: &[Act]) -> bool {
 
 /// The nodes made and the nanoseconds of one run; none where it could not be done.
 fn run_once(rt: &HostRuntime, alloc: Global, trace: &Trace) -> io::Result<Option<(u32, u64)>> {
-    let Ok(nodes) = PlainNodes::new(alloc, trace.vars, 32000000) else {
+    let Ok(nodes) = GrowingNodes::new(alloc, trace.vars, 32000000) else {
         return Ok(None);
     };
     let mut shelf = Shelf::new(alloc, nodes);

@@ -1,6 +1,6 @@
 //! The tasks one after another, over a store that grows; begin with `run_alone`.
 
-ghost use Rattle.std.specs.Prelude.{◌≡◌, ◌^◌, ◌<◌, ◌≤◌, length, map, All, IfOk, IfSome};
+ghost use Rattle.std.specs.Prelude.{◌≡◌, ◌^◌, ◌<◌, ◌≤◌, length, map, All, IfOk, IfSome, OnOk};
 ghost use Rattle.std.specs.List.{AllZip};
 ghost use Rattle.sym_step.specs.Step.{rows_of};
 ghost use Rattle.sym_step.specs.private.Frames.{IsFrame};
@@ -50,6 +50,32 @@ fn check_anew(
     report
 }
 
+/// A store without nodes, and no frame, in place of those at hand where the tasks so far made too many nodes in it; the
+/// result is how many they made in the store that there is then.
+fn bounded(
+    alloc: Global,
+    net: &Net,
+    vars: u32,
+    made: u32,
+    nodes: &mut GrowingNodes,
+    last: &mut Option<Frame>,
+) -> Result<u32, AllocError>
+    requires vars { (⟦<GrowingNodes as Nodes>⟧.store nodes.old).vars ≡ vars }
+    requires last { IfSome last.old
+        (IsFrame (⟦<GrowingNodes as Nodes>⟧.store nodes.old) net.now.raw) }
+    ensures vars { OnOk result ((⟦<GrowingNodes as Nodes>⟧.store nodes.new).vars ≡ vars) }
+    ensures last { OnOk result (IfSome last.new
+        (IsFrame (⟦<GrowingNodes as Nodes>⟧.store nodes.new) net.now.raw)) }
+{
+    let _ = net;
+    if made <= MOST_NODES {
+        return Ok(made);
+    }
+    *nodes = GrowingNodes::new(alloc, vars, 0)?;
+    *last = None;
+    Ok(0)
+}
+
 /// The reports of all tasks in their order, checked one after another by this thread, each with `steps` node steps of its
 /// own, and with at most `cubes` cubes in each list of a report. The tasks have a store that grows, in which each finds
 /// what those before it made, as far as it was not let go. All else is as with `run_tasks`.
@@ -78,16 +104,10 @@ pub fn run_alone<G: Gate>(
     let mut last = None;
     let mut reports = Vec::new(alloc);
     for number in 0..tasks.tasks.len() as u32 {
-        if made > MOST_NODES {
-            nodes = GrowingNodes::new(alloc, vars, 0)?;
-            made = 0;
-            last = None;
-        }
+        made = bounded(alloc, net, vars, made, &mut nodes, &mut last)?;
         gate.at_task(number);
         let task = &tasks.tasks.as_slice()[number as usize];
-        let report = check_anew(
-            alloc, &mut nodes, net, rows, task, steps, cubes, &mut last,
-        )?;
+        let report = check_anew(alloc, &mut nodes, net, rows, task, steps, cubes, &mut last)?;
         made = made.saturating_add(nodes.used());
         reports.push(report)?;
     }

@@ -7,6 +7,7 @@ ghost use Rattle.ste_model.specs.Need.{ReadBelow};
 ghost use Rattle.sym_step.specs.Step.{rows_of};
 ghost use Rattle.work_pool.specs.Pool.{IsTaskOver};
 
+use crate::alone::run_alone;
 use crate::gate::Gate;
 use crate::run::{run_some, run_tasks};
 use bool_expr::Expr;
@@ -154,6 +155,29 @@ fn tells_of_two<R: Threads + Sync>(rt: &R, alloc: Global) -> Result<bool, Fail> 
     let reports = run_some(rt, alloc, 2, net, rows, &tasks, &[2, 0], 100, 4, &count)?;
     let two = reports.len() == 2 && count.begun.load(Ordering::SeqCst) == 2;
     Ok(two && reports[0].verdict == CASES[2].3 && reports[1].verdict == CASES[0].3)
+}
+
+/// Whether one thread alone gives the verdicts of all cases, in order, and tells the gate of three tasks.
+fn tells_alone(alloc: Global) -> Result<bool, Fail> {
+    let ready = net_with_rows(alloc)?;
+    let tasks = all_cases(alloc)?;
+    let count = Count {
+        begun: AtomicU64::new(0),
+    };
+    let Ready { net, rows } = &ready;
+    let reports = run_alone(alloc, net, rows, &tasks, 100, 4, &count)?;
+    let mut same = reports.len() == 3 && count.begun.load(Ordering::SeqCst) == 3;
+    for (report, case) in reports.iter().zip(CASES.iter()) {
+        same = same && report.verdict == case.3;
+    }
+    Ok(same)
+}
+
+#[test]
+fn one_thread_alone_tells_of_the_tasks_in_their_order(rt: HostRuntime) -> Result<(), Fail> {
+    let same = tells_alone(rt.alloc())?;
+    assert!(rt; same);
+    Ok(())
 }
 
 #[test]

@@ -1,0 +1,18 @@
+use Rattle.std.proofs.Common.{◌≡◌, refl, sym, subst}
+use Rattle.dd_nodes.specs.Stores.{Keeps, Store, gets}
+use Rattle.dd_growing.specs.Growing.{grown_store}
+use Rattle.dd_growing.specs.private.GrowingLaws.{growing_diagram}
+use Rattle.work_pool.proofs.Frames.{last_keeps}
+use Rattle.work_pool.proofs.alone.check_anew.Goals as goal
+
+pub check-report-requires-clause-last : goal.check-report-requires-clause-last
+check-report-requires-clause-last c =
+    let old = c.args.nodes.now in
+    let new = c.begin.new.self in
+    let s : Store = grown_store old.nodes.items old.base old.limit old.vars in
+    let t : Store = grown_store new.nodes.items new.base new.limit new.vars in
+    let begun : Keeps s (gets c.args.steps s) = record { grows = λ r n held. held; vars = refl; table = refl } in
+    let keeps : Keeps s t = subst (Keeps s) (sym c.begin.ensures) begun in
+    last_keeps s t c.args.net.now.raw c.args.last.now c.args.net.now.in_range
+    (growing_diagram old.vars old.nodes.items old.slots.items old.ordered old.indexed) (growing_diagram new.vars new.nodes.items new.slots.items new.ordered new.indexed)
+    keeps c.requires.last
