@@ -13,7 +13,7 @@ use dd_recent::{Joined, Recent};
 use std::alloc::{AllocError, Global};
 
 /// A store for one thread: a list of nodes, a table that says where each stands, and results of operations that it
-/// remembers. What was made is counted from the last `begin` on. A node takes 12 bytes in the list, and 16 to 32 in the
+/// remembers. What was made is counted from the last `begin` on. A node takes 12 bytes in the list, and 11 to 22 in the
 /// table.
 #[derive(Drop)]
 pub struct GrowingNodes {
@@ -85,13 +85,13 @@ impl GrowingNodes {
         self.limit = limit;
     }
 
-    /// Makes the table larger where it is half full.
+    /// Makes the table larger where three quarters of it are used.
     fn make_room(&mut self) -> Result<(), AllocError>
         ensures same { (self.new.nodes ≡ self.old.nodes) × (self.new.base ≡ self.old.base)
             × (self.new.limit ≡ self.old.limit) × (self.new.vars ≡ self.old.vars) }
         ensures room { OnOk result (length self.new.nodes.items + 1 < length self.new.slots.items) }
     {
-        if self.nodes.len() < self.slots.len() / 2 {
+        if self.nodes.len() < self.slots.len() / 4 * 3 {
             return Ok(());
         }
         self.widen()
