@@ -1,6 +1,6 @@
 //! Where a node stands in a list of nodes: a table of slots that is searched by walks; begin with `find`.
 
-ghost use Rattle.std.specs.Prelude.{◌≡◌, ◌<◌, ◌≤◌, ◌+◌, ◌%◌, IfSome, IfNone, IfOk, Some, length, true};
+ghost use Rattle.std.specs.Prelude.{◌≡◌, ◌<◌, ◌+◌, ◌%◌, IfSome, IfNone, IfOk, Some, length, true};
 ghost use Rattle.dd_nodes.specs.Plain.{plain_held};
 ghost use Rattle.dd_growing.specs.private.Slots.{AreInside, HasSlots, IsOnWalk, IsPlaced, home, is_used, mark_of, slot_of, taken};
 

@@ -1,5 +1,5 @@
 //! What a check writes: `check` gives its bytes, and whether every task passes; `checked_texts` the number of nets too.
-ghost use Rattle.std.specs.Prelude.{◌≡◌, ◌*◌, ◌≤◌, ◌<◌, ℕ, List, All, IfOk, MatchResult, Ok, false, length, map};
+ghost use Rattle.std.specs.Prelude.{◌≡◌, ◌*◌, ◌≤◌, ◌<◌, ℕ, List, All, IfOk, MatchResult, Ok, false, length};
 ghost use Rattle.std.specs.List.{list_all};
 ghost use Rattle.blif_syntax.specs.Covered.{AreCovered};
 ghost use Rattle.blif_syntax.specs.declared.models.Model.{Model};

@@ -1,6 +1,5 @@
 //! The one line that tells of a refusal: `message_of`.
 ghost use Rattle.std.specs.Prelude.{◌≡◌, ◌++◌, codes, IfOk};
-ghost use Rattle.std.specs.Fmt.{decimal};
 ghost use Rattle.ste_program.specs.Message.{binding_message, file_message, hierarchy_message, inputs_message, line_message, message_of, netlist_message, out_of_memory, tasks_message, usage};
 
 use crate::command::file_name;

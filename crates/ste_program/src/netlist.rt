@@ -1,5 +1,5 @@
 //! From the text of a netlist to its flat net: begin with `netlist_of`.
-ghost use Rattle.std.specs.Prelude.{◌≡◌, ◌≤◌, ◌⊎◌, List, MatchResult, length};
+ghost use Rattle.std.specs.Prelude.{◌≤◌, List, MatchResult, length};
 ghost use Rattle.blif_syntax.specs.declared.models.Model.{Model};
 ghost use Rattle.blif_syntax.specs.Covered.{AreCovered};
 ghost use Rattle.ste_program.specs.Netlist.{IsNetlist};

@@ -1,12 +1,12 @@
 //! The top call: `run` does all that the program does.
-ghost use Rattle.std.specs.Prelude.{◌≡◌, ◌≢◌, ◌≤◌, ◌⊎◌, ℕ, IfSome, true, false, cond, Some, take};
+ghost use Rattle.std.specs.Prelude.{◌≡◌, ◌≢◌, ◌≤◌, ◌⊎◌, ℕ, IfSome, true, false, cond, take};
 ghost use Rattle.ste_program.specs.Answer.{BrokeOff, IsDecided, NoneFell, NoneMoved, NoneRose, Reported, WantedMemory, WasFaulted, WasRefused, WentOut};
 ghost use Rattle.ste_program.specs.private.Endings.{IsEnded, IsTold};
 ghost use Rattle.command_line.specs.Bounds.{IsBounded};
 ghost use Rattle.command_line.specs.Command.{command_of};
 ghost use Rattle.ste_program.specs.Command.{files_of};
 ghost use Rattle.ste_program.specs.Message.{cannot_write};
-ghost use Rattle.ste_io.specs.Outside.{Store, with_names};
+ghost use Rattle.ste_io.specs.Outside.{with_names};
 ghost use Rattle.ste_program.specs.Report.{PassHolds, RunsBreak};
 
 use crate::message::message_of;

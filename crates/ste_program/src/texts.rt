@@ -1,5 +1,5 @@
 //! The texts of a command: `texts_of` fetches its files, in order.
-ghost use Rattle.std.specs.Prelude.{◌≡◌, false, MatchResult, Some, option_map};
+ghost use Rattle.std.specs.Prelude.{MatchResult, Some, option_map};
 ghost use Rattle.ste_program.specs.Answer.{WhyNoReport};
 ghost use Rattle.ste_program.specs.private.Texts.{AreTexts, FileFails, IsAtHand, WhyNoFile};
 
