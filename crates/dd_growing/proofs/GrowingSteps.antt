@@ -1,11 +1,9 @@
 -- How the store begins, how its table grows, and how a node is added.
 use Rattle.std.proofs.Common.{◌≡◌, ◌≢◌, ℕ, zero, suc, ◌+◌, ◌-◌, ◌≤◌, ◌<◌, true, false, List, [], ◌∷◌, ◌++◌, length, ◌⊎◌, inl, inr, ⊎_elim, refl, sym, ◌∙◌, ap, subst, arith}
 use Rattle.std.specs.Prelude.{None, Some, slice_get}
-use Rattle.std.proofs.lemmas.Grind.{common_steps}
 use Rattle.std.proofs.lemmas.Bool.{cases_lt}
-use Rattle.std.proofs.lemmas.Bool.Decides.{leb_tells}
 use Rattle.std.proofs.lemmas.Option.{none-some}
-use Rattle.std.proofs.lemmas.List.{get_or_default, length-append}
+use Rattle.std.proofs.lemmas.List.{length-append}
 use mathlib.Core.Logic.{dite}
 use native.Mathlib.Decide.{ℕ_discrete}
 use Rattle.dd_nodes.specs.declared.node.Ref.{Ref}
@@ -18,24 +16,19 @@ use Rattle.dd_nodes.proofs.PlainSteps.{IsOrdered-push, from-deep, held-push}
 use Rattle.dd_recent.specs.declared.recent.Recent.{Recent}
 use Rattle.dd_recent.specs.Recent.{AreRight}
 use Rattle.dd_recent.proofs.Remembering.{AreRight-keeps}
-use Rattle.dd_growing.specs.declared.slots.Slot.{Slot}
 use Rattle.dd_growing.specs.Growing.{grown_store, refs_from}
-use Rattle.dd_growing.specs.private.Slots.{HasSlots, IsIndexed, IsOnWalk, IsPlaced, empty_slot, is_used, mark_of, slot_at, slot_of, taken, walk}
+use Rattle.dd_growing.specs.private.Slots.{AreInside, HasFirst, IsFindable, IsIndexed, IsOnWalk, IsPlaced, is_used, mark_of, ref_in, slot_at, slot_of, start_of, taken, walk}
 use Rattle.dd_growing.specs.private.GrowingLaws.{growing_diagram, length-refs_from}
-use Rattle.dd_growing.proofs.Walks.{at_place, elsewhere, on_walk_now, on_walk_still, taken_placed}
-use Rattle.dd_growing.proofs.Placing.{found_there}
+use Rattle.dd_growing.proofs.Parts.{place_inside, slot_parts, used_slot}
+use Rattle.dd_growing.proofs.Walks.{at_place, elsewhere, long_placed, on_walk_now, on_walk_still, taken_placed}
 
--- the slot of a node is used
-pub used_slot : (mark k : ℕ) → is_used (slot_of mark (ref_at k)) ≡ true
-used_slot mark k = let le : 2 ≤ k + 2 = omega arith in grind (arith, common_steps, leb_tells)
-
-past : (xs : List Slot) (i : ℕ) → length xs ≤ i → slot_at xs i ≡ empty_slot
+past : (xs : List ℕ) (i : ℕ) → length xs ≤ i → slot_at xs i ≡ 0
 past [] i le = refl
 past (x ∷ xs) zero le = absurd (omega arith)
 past (x ∷ xs) (suc i) le = past xs i (omega arith)
 
 -- a used slot stands inside the table
-used_inside : (xs : List Slot) (i : ℕ) → is_used (slot_at xs i) ≡ true → i < length xs
+used_inside : (xs : List ℕ) (i : ℕ) → is_used (slot_at xs i) ≡ true → i < length xs
 used_inside xs i used = ⊎_elim (λ (lt : i < length xs). lt)
     (λ (le : length xs ≤ i). absurd (let f : true ≡ false = sym used ∙ ap is_used (past xs i le) in cc f))
     (cases_lt i (length xs))
@@ -45,13 +38,10 @@ used_inside xs i used = ⊎_elim (λ (lt : i < length xs). lt)
 none_at : (k : ℕ) (n : Node) → slice_get [] k ≡ Some n → ⊥
 none_at k n at = none-some n at
 
-pub IsIndexed-fresh : (nodes : List Node) (table : List Slot) → nodes ≡ [] → HasSlots [] table → IsIndexed nodes table
+pub IsIndexed-fresh : (nodes : List Node) (table : List ℕ) → nodes ≡ [] → HasFirst [] 0 table → IsIndexed nodes table
 IsIndexed-fresh nodes table none has = subst (λ (xs : List Node). IsIndexed xs table) (sym none) (record {
   placed = λ k n at. absurd (none_at k n at);
-  inside = λ i used.
-      let x : Slot = slot_at table i in
-      let old = has.only x used (i, used_inside table i used, get_or_default table i x empty_slot (used_inside table i used)) in
-      absurd (let lt = old.1 in omega arith);
+  inside = has.inside;
   distinct = λ i k n at. absurd (none_at i n at);
 })
 
@@ -62,19 +52,63 @@ held-none r = ⊎_elim (λ (lt : r.0 < 2). held-constant [] r lt) (λ (le : 2 �
 pub empty_grown : (limit vars : ℕ) → grown_store [] 0 limit vars ≡ empty_store limit vars
 empty_grown limit vars = λ i. record { held = λ r. held-none r i; made = []; limit = limit; vars = vars; table = [] }
 
+-- ---- a slot more
+
+-- what could be found can be found still
+still : (slots new : List ℕ) (start x : ℕ) → IsPlaced slots start x new → (k : ℕ) (n : Node) → IsFindable slots k n → IsFindable new k n
+still slots new start x p k n on =
+    subst (λ (size : ℕ). IsOnWalk new (start_of size n) (slot_of (mark_of n) (ref_at k))) (sym (long_placed slots new start x p))
+    (on_walk_still slots new start x p (start_of (length slots) n) (slot_of (mark_of n) (ref_at k)) (used_slot (mark_of n) k) on)
+
+-- and so can the node of the new slot
+now_found : (slots new : List ℕ) (node : Node) (n : ℕ) → IsPlaced slots (start_of (length slots) node) (slot_of (mark_of node) (ref_at n)) new → IsFindable new n node
+now_found slots new node n p =
+    let x : ℕ = slot_of (mark_of node) (ref_at n) in
+    subst (λ (size : ℕ). IsOnWalk new (start_of size node) x) (sym (long_placed slots new (start_of (length slots) node) x p)) (on_walk_now slots new (start_of (length slots) node) x p)
+
+-- used slots have references of one node more
+inside_placed : (slots new : List ℕ) (start mark n : ℕ) → n < 16777214 → (p : IsPlaced slots start (slot_of mark (ref_at n)) new) → AreInside n slots → AreInside (n + 1) new
+inside_placed slots new start mark n few p inside i used =
+    let x : ℕ = slot_of mark (ref_at n) in
+    dite (ℕ_discrete i (walk (length slots) start p.steps))
+    (λ here.
+    let is : slot_at new i ≡ x = ap (λ (j : ℕ). slot_at new j) here ∙ at_place slots new start x 0 p in
+    let r : (ref_in (slot_at new i)).0 ≡ n + 2 = ap (λ (y : ℕ). (ref_in y).0) is ∙ (slot_parts mark (ref_at n) (omega (arith, few))).0 in
+    (omega (arith, r), omega (arith, r)))
+    (λ apart.
+    let is : slot_at new i ≡ slot_at slots i = elsewhere slots new start x 0 p i apart in
+    let old = inside i (ap is_used (sym is) ∙ used) in
+    let first : (ref_in (slot_at slots i)).0 < n + 1 + 2 = let lt = old.1 in omega (arith, lt) in
+    (subst (λ (y : ℕ). 2 ≤ (ref_in y).0) (sym is) old.0, subst (λ (y : ℕ). (ref_in y).0 < n + 1 + 2) (sym is) first))
+
 -- ---- a larger table
 
-pub IsIndexed-wider : (nodes : List Node) (slots table : List Slot) → HasSlots slots table → IsIndexed nodes slots → IsIndexed nodes table
+pub IsIndexed-wider : (nodes : List Node) (slots table : List ℕ) → HasFirst nodes (length nodes) table → IsIndexed nodes slots → IsIndexed nodes table
 IsIndexed-wider nodes slots table has t = record {
-  placed = λ k n at no. t.placed k n at (λ on. no (found_there slots table has (slot_of (mark_of n) (ref_at k)) (used_slot (mark_of n) k) on));
-  inside = λ i used.
-      let x : Slot = slot_at table i in
-      let lt = used_inside table i used in
-      let old = has.only x used (i, lt, get_or_default table i x empty_slot lt) in
-      let is : slot_at slots old.0 ≡ x = get_or_default slots old.0 empty_slot x old.1 ∙ old.2 in
-      subst (λ (y : Slot). y.r.0 < length nodes + 2) is (t.inside old.0 (ap is_used is ∙ used));
+  placed = λ k n at no. no (has.all k n (place_inside nodes k n at) at);
+  inside = has.inside;
   distinct = t.distinct;
 }
+
+-- a node more has a slot
+pub has_more : (nodes : List Node) (n : ℕ) (table new : List ℕ) (node : Node) → n < 16777214 → slice_get nodes n ≡ Some node → HasFirst nodes n table
+    → IsPlaced table (start_of (length table) node) (slot_of (mark_of node) (ref_at n)) new → HasFirst nodes (n + 1) new
+has_more nodes n table new node low is has p =
+    let start : ℕ = start_of (length table) node in
+    let x : ℕ = slot_of (mark_of node) (ref_at n) in
+    let one : taken new ≡ taken table + 1 = taken_placed table new start x (used_slot (mark_of node) n) p in
+    record {
+      few = let few = has.few in omega (arith, one, few);
+      inside = inside_placed table new start (mark_of node) n low p has.inside;
+      all = λ k other lt at. ⊎_elim
+          (λ (old : k < n). still table new start x p k other (has.all k other old at))
+          (λ (last : n ≤ k).
+          let here : n ≡ k = omega (arith, lt, last) in
+          let same : Some node ≡ Some other = sym is ∙ ap (slice_get nodes) here ∙ at in
+          let one' : node ≡ other = cc same in
+          subst (λ (m : ℕ). IsFindable new m other) here (subst (IsFindable new n) one' (now_found table new node n p)))
+          (cases_lt k n);
+    }
 
 -- ---- one node more
 
@@ -88,32 +122,25 @@ held-at : (nodes : List Node) (n : Node) (k : ℕ) → slice_get nodes k ≡ Som
 held-at nodes n k at = held-place nodes (ref_at k) (omega arith) ∙ ap (slice_get nodes) (let e : k + 2 - 2 ≡ k = omega arith in e) ∙ at
 
 -- what a search does not find is not there
-pub absent_of : (nodes : List Node) (slots : List Slot) (node : Node) → IsIndexed nodes slots
-    → ((r : Ref) → IsOnWalk slots (slot_of (mark_of node) r) → plain_held nodes r ≡ Some node → ⊥) → (r : Ref) → plain_held nodes r ≢ Some node
+pub absent_of : (nodes : List Node) (slots : List ℕ) (node : Node) → IsIndexed nodes slots
+    → ((r : Ref) → IsOnWalk slots (start_of (length slots) node) (slot_of (mark_of node) r) → plain_held nodes r ≡ Some node → ⊥) → (r : Ref) → plain_held nodes r ≢ Some node
 absent_of nodes slots node t none r held =
     let at = (place_of nodes r node held).1 in
     t.placed (r.0 - 2) node at (λ on. none (ref_at (r.0 - 2)) on (held-at nodes node (r.0 - 2) at))
 
-pub IsIndexed-push : (nodes : List Node) (slots new : List Slot) (node : Node) → IsIndexed nodes slots
-    → IsPlaced slots (slot_of (mark_of node) (ref_at (length nodes))) new → ((r : Ref) → plain_held nodes r ≢ Some node) → IsIndexed (nodes ++ node ∷ []) new
-IsIndexed-push nodes slots new node t p absent =
-    let x : Slot = slot_of (mark_of node) (ref_at (length nodes)) in
+pub IsIndexed-push : (nodes : List Node) (slots new : List ℕ) (node : Node) → length nodes < 16777214 → IsIndexed nodes slots
+    → IsPlaced slots (start_of (length slots) node) (slot_of (mark_of node) (ref_at (length nodes))) new → ((r : Ref) → plain_held nodes r ≢ Some node) → IsIndexed (nodes ++ node ∷ []) new
+IsIndexed-push nodes slots new node few t p absent =
+    let start : ℕ = start_of (length slots) node in
+    let x : ℕ = slot_of (mark_of node) (ref_at (length nodes)) in
     let long : length (nodes ++ node ∷ []) ≡ length nodes + 1 = length-append nodes (node ∷ []) in
     record {
       placed = λ k n at no. ⊎_elim
-          (λ (old : slice_get nodes k ≡ Some n). t.placed k n old (λ on. no (on_walk_still slots new x p (slot_of (mark_of n) (ref_at k)) (used_slot (mark_of n) k) on)))
+          (λ (old : slice_get nodes k ≡ Some n). t.placed k n old (λ on. no (still slots new start x p k n on)))
           (λ (last : (k ≡ length nodes) × (node ≡ n)).
-          let is : x ≡ slot_of (mark_of n) (ref_at k) = (λ j. slot_of (mark_of (last.1 j)) (ref_at (sym last.0 j))) in
-          no (subst (λ (y : Slot). IsOnWalk new y) is (on_walk_now slots new x p)))
+          no (subst (λ (m : ℕ). IsFindable new m n) (sym last.0) (subst (IsFindable new (length nodes)) last.1 (now_found slots new node (length nodes) p))))
           (get-cases nodes node n k at);
-      inside = λ i used. dite (ℕ_discrete i (walk (length slots) x.mark p.steps))
-          (λ here.
-          let is : slot_at new i ≡ x = ap (λ (j : ℕ). slot_at new j) here ∙ at_place slots new x empty_slot p in
-          subst (λ (y : Slot). y.r.0 < length (nodes ++ node ∷ []) + 2) (sym is) (omega (arith, long)))
-          (λ apart.
-          let is : slot_at new i ≡ slot_at slots i = elsewhere slots new x empty_slot p i apart in
-          let low = t.inside i (ap is_used (sym is) ∙ used) in
-          subst (λ (y : Slot). y.r.0 < length (nodes ++ node ∷ []) + 2) (sym is) (omega (arith, long, low)));
+      inside = subst (λ (m : ℕ). AreInside m new) (sym long) (inside_placed slots new start (mark_of node) (length nodes) few p t.inside);
       distinct = λ i k n at at'. ⊎_elim
           (λ (old : slice_get nodes i ≡ Some n). ⊎_elim
           (λ (old' : slice_get nodes k ≡ Some n). t.distinct i k n old old')
@@ -127,29 +154,30 @@ IsIndexed-push nodes slots new node t p absent =
     }
 
 -- what is remembered is right still
-pub AreRight-push : (nodes : List Node) (slots new : List Slot) (node : Node) (base limit vars : ℕ) (recent : Recent) → IsOrdered vars nodes → IsIndexed nodes slots
+pub AreRight-push : (nodes : List Node) (slots new : List ℕ) (node : Node) (base limit vars : ℕ) (recent : Recent) → IsOrdered vars nodes → IsIndexed nodes slots
     → IsOrdered vars (nodes ++ node ∷ []) → IsIndexed (nodes ++ node ∷ []) new → AreRight (grown_store nodes base limit vars) recent → AreRight (grown_store (nodes ++ node ∷ []) base limit vars) recent
 AreRight-push nodes slots new node base limit vars recent o t o' t' right =
     AreRight-keeps (grown_store nodes base limit vars) (grown_store (nodes ++ node ∷ []) base limit vars) recent (growing_diagram vars nodes slots o t) (growing_diagram vars (nodes ++ node ∷ []) new o' t')
     (λ r n at. held-push nodes node r n at) refl right
 
 -- all that holds of a node more and its slot, where the list and the table were these
-pub record IsAdded (nodes more : List Node) (new : List Slot) (base limit vars : ℕ) (recent : Recent) : Type 0 where
+pub record IsAdded (nodes more : List Node) (new : List ℕ) (base limit vars : ℕ) (recent : Recent) : Type 0 where
   pub ordered : IsOrdered vars more
   pub indexed : IsIndexed more new
   pub counted : taken new ≤ length more
   pub right : AreRight (grown_store more base limit vars) recent
 
-pub added : (nodes more : List Node) (slots new : List Slot) (node : Node) (mark count base limit vars : ℕ) (recent : Recent) → more ≡ nodes ++ node ∷ [] → mark ≡ mark_of node → count ≡ length nodes
-    → IsPlaced slots (slot_of mark (ref_at count)) new → IsOrdered vars nodes → IsIndexed nodes slots → taken slots ≤ length nodes
+pub added : (nodes more : List Node) (slots new : List ℕ) (node : Node) (count base limit vars : ℕ) (recent : Recent) → more ≡ nodes ++ node ∷ [] → count ≡ length nodes → count < 16777214
+    → IsPlaced slots (start_of (length slots) node) (slot_of (mark_of node) (ref_at count)) new → IsOrdered vars nodes → IsIndexed nodes slots → taken slots ≤ length nodes
     → AreRight (grown_store nodes base limit vars) recent → ((r : Ref) → plain_held nodes r ≢ Some node) → node.var < vars → node.lo.0 ≢ node.hi.0
     → IsFrom (plain_held nodes) (node.var + 1) node.lo → IsFrom (plain_held nodes) (node.var + 1) node.hi → IsAdded nodes more new base limit vars recent
-added nodes more slots new node mark count base limit vars recent list same long placed o t few right absent low differ from from' =
-    let x : Slot = slot_of (mark_of node) (ref_at (length nodes)) in
-    let p : IsPlaced slots x new = subst (λ (y : Slot). IsPlaced slots y new) (λ j. slot_of (same j) (ref_at (long j))) placed in
+added nodes more slots new node count base limit vars recent list long low' placed o t few right absent low differ from from' =
+    let start : ℕ = start_of (length slots) node in
+    let x : ℕ = slot_of (mark_of node) (ref_at (length nodes)) in
+    let p : IsPlaced slots start x new = subst (λ (m : ℕ). IsPlaced slots start (slot_of (mark_of node) (ref_at m)) new) long placed in
     let o' = IsOrdered-push vars nodes node o low differ (from-deep vars nodes node.var node.lo low from) (from-deep vars nodes node.var node.hi low from') in
-    let t' = IsIndexed-push nodes slots new node t p absent in
-    let one : taken new ≡ taken slots + 1 = taken_placed slots new x (used_slot (mark_of node) (length nodes)) p in
+    let t' = IsIndexed-push nodes slots new node (omega (arith, long, low')) t p absent in
+    let one : taken new ≡ taken slots + 1 = taken_placed slots new start x (used_slot (mark_of node) (length nodes)) p in
     let more' : length (nodes ++ node ∷ []) ≡ length nodes + 1 = length-append nodes (node ∷ []) in
     let all : IsAdded nodes (nodes ++ node ∷ []) new base limit vars recent = record {
       ordered = o';

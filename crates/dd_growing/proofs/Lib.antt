@@ -1,3 +1,3 @@
+pub mod Parts
 pub mod Walks
-pub mod Placing
 pub mod GrowingSteps

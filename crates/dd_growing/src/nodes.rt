@@ -7,24 +7,24 @@ ghost use Rattle.dd_recent.specs.Recent.{AreRight};
 ghost use Rattle.dd_growing.specs.Growing.{grown_store};
 ghost use Rattle.dd_growing.specs.private.Slots.{IsIndexed, mark_of, taken};
 
-use crate::slots::{Slot, find, mark_of, put_into, table_of};
+use crate::slots::{find, mark_of, put_into, table_of};
 use dd_nodes::{MkFault, Node, Nodes, Operator, Ref};
 use dd_recent::{Joined, Recent};
 use std::alloc::{AllocError, Global};
 
 /// A store for one thread: a list of nodes, a table that says where each stands, and results of operations that it
-/// remembers. What was made is counted from the last `begin` on. A node takes 12 bytes in the list, and 11 to 22 in the
+/// remembers. What was made is counted from the last `begin` on. A node takes 12 bytes in the list, and 8 to 16 in the
 /// table.
 #[derive(Drop)]
 pub struct GrowingNodes {
     alloc: Global,
     nodes: Vec<Node>,
-    slots: Vec<Slot>,
+    slots: Vec<u32>,
     recent: Recent,
     base: usize,
     limit: u32,
     vars: u32,
-    ghost small: { length nodes.items ≤ 4000000000 },
+    ghost small: { length nodes.items ≤ 16777214 },
     ghost begun: { base ≤ length nodes.items },
     ghost within: { length nodes.items ≤ base + limit },
     ghost room: { length nodes.items < length slots.items },
@@ -37,8 +37,8 @@ pub struct GrowingNodes {
 /// The number of slots at first.
 const LEAST: usize = 1024;
 
-/// The most nodes: each has a reference of 32 bits.
-const MOST: usize = 4000000000;
+/// The most nodes: each has a reference of 24 bits.
+const MOST: usize = 16777214;
 
 /// The number of slots to which so many are widened.
 fn wider(slots: usize) -> Result<usize, AllocError>
@@ -85,13 +85,13 @@ impl GrowingNodes {
         self.limit = limit;
     }
 
-    /// Makes the table larger where three quarters of it are used.
+    /// Makes the table larger where half of it is used.
     fn make_room(&mut self) -> Result<(), AllocError>
         ensures same { (self.new.nodes ≡ self.old.nodes) × (self.new.base ≡ self.old.base)
             × (self.new.limit ≡ self.old.limit) × (self.new.vars ≡ self.old.vars) }
         ensures room { OnOk result (length self.new.nodes.items + 1 < length self.new.slots.items) }
     {
-        if self.nodes.len() < self.slots.len() / 4 * 3 {
+        if self.nodes.len() < self.slots.len() / 2 {
             return Ok(());
         }
         self.widen()
@@ -106,7 +106,7 @@ impl GrowingNodes {
         ensures room { OnOk result (length self.new.nodes.items + 1 < length self.new.slots.items) }
     {
         let size = wider(self.slots.len())?;
-        self.slots = table_of(self.alloc, &self.slots, size)?;
+        self.slots = table_of(self.alloc, &self.nodes, size)?;
         Ok(())
     }
 
@@ -131,7 +131,7 @@ impl GrowingNodes {
         self.make_room()?;
         let r = Ref(self.nodes.len() as u32 + 2);
         self.nodes.push(node)?;
-        put_into(&mut self.slots, Slot { mark, r });
+        put_into(&mut self.slots, node, mark, r);
         Ok(r)
     }
 }

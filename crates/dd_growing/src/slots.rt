@@ -1,30 +1,26 @@
 //! Where a node stands in a list of nodes: a table of slots that is searched by walks; begin with `find`.
 
-ghost use Rattle.std.specs.Prelude.{◌≡◌, ◌<◌, ◌+◌, ◌%◌, IfSome, IfNone, IfOk, Some, length, true};
+ghost use Rattle.std.specs.Prelude.{◌≡◌, ◌<◌, ◌≤◌, ◌+◌, ◌%◌, IfSome, IfNone, IfOk, Some, length, true};
 ghost use Rattle.dd_nodes.specs.Plain.{plain_held};
-ghost use Rattle.dd_growing.specs.private.Slots.{AreInside, HasSlots, IsOnWalk, IsPlaced, home, is_used, mark_of, slot_of, taken};
+ghost use Rattle.dd_growing.specs.private.Slots.{AreInside, HasFirst, IsOnWalk, IsPlaced, is_used, mark_of, slot_of, start_of, taken};
 
 use dd_nodes::{Node, Ref};
 use std::alloc::{AllocError, Global};
 
-/// The mark of a node and its reference, which is that of the constant 0 where the slot has no node.
-#[derive(Clone, Copy, Debug, Drop)]
-pub(crate) struct Slot {
-    pub(crate) mark: u32,
-    pub(crate) r: Ref,
-}
-
-/// A slot without a node.
-const EMPTY: Slot = Slot {
-    mark: 0,
-    r: Ref::FALSE,
-};
-
-/// Whether the slot has a node.
-fn is_used(slot: Slot) -> bool
+/// Whether a slot has a node; one that has none is 0. A used one has the lower 8 bits of the mark of its node, and the
+/// node's reference in 24 bits.
+fn is_used(slot: u32) -> bool
     ensures { result ≡ is_used slot }
 {
-    1 < slot.r.0
+    0 < slot
+}
+
+/// The slot of a node with this mark.
+fn slot_of(mark: u32, r: Ref) -> u32
+    requires { r.0 < 16777216 }
+    ensures { result ≡ slot_of mark r }
+{
+    mark % 256 * 16777216 + r.0
 }
 
 /// The mark of a node: a number that looks like chance (multiplicative hashing).
@@ -37,11 +33,13 @@ pub(crate) fn mark_of(node: Node) -> u32
     (var.wrapping_add(lo).wrapping_add(hi) >> 32) as u32
 }
 
-/// The place where the walk of a mark begins, of so many places.
-fn home(mark: u32, size: usize) -> usize
-    requires { 0 < size }
-    ensures { (result ≡ home size mark) × (result < size) }
+/// The place where the walk of a node with this mark begins, of so many places.
+fn start_of(node: Node, mark: u32, size: usize) -> usize
+    requires mark { mark ≡ mark_of node }
+    requires some { 0 < size }
+    ensures { (result ≡ start_of size node) × (result < size) }
 {
+    let _ = node;
     ((mark as u128 * size as u128) >> 32) as usize
 }
 
@@ -63,36 +61,40 @@ fn is_at(nodes: &[Node], r: Ref, node: Node) -> bool
 }
 
 /// The reference of the node with this mark, where it stands in the list.
-pub(crate) fn find(nodes: &[Node], slots: &[Slot], node: Node, mark: u32) -> Option<Ref>
+pub(crate) fn find(nodes: &[Node], slots: &[u32], node: Node, mark: u32) -> Option<Ref>
     requires some { 0 < length slots.now }
+    requires few { length nodes.now ≤ 16777214 }
     requires mark { mark ≡ mark_of node }
-    requires inside { AreInside nodes.now slots.now }
+    requires inside { AreInside (length nodes.now) slots.now }
     ensures some { IfSome result (λ r. plain_held nodes.now r ≡ Some node) }
-    ensures none { IfNone result ((r : Ref) → IsOnWalk slots.now (slot_of (mark_of node) r)
+    ensures none { IfNone result ((r : Ref)
+        → IsOnWalk slots.now (start_of (length slots.now) node) (slot_of (mark_of node) r)
         → plain_held nodes.now r ≡ Some node → ⊥) }
 {
     let size = slots.len();
-    let mut at = home(mark, size);
+    let mut at = start_of(node, mark, size);
     for n in 0..size {
         let slot = slots[at];
         if !is_used(slot) {
             return None;
         }
-        if slot.mark == mark && is_at(nodes, slot.r, node) {
-            return Some(slot.r);
+        let r = Ref(slot % 16777216);
+        if slot / 16777216 == mark % 256 && is_at(nodes, r, node) {
+            return Some(r);
         }
         at = next(at, size);
     }
     None
 }
 
-/// Puts a slot at the first unused place of its walk.
-fn place(slots: &mut [Slot], slot: Slot)
+/// Puts a slot at the first unused place of the walk that starts here.
+fn place(slots: &mut [u32], start: usize, slot: u32)
+    requires start { start < length slots.old }
     requires room { taken slots.old < length slots.old }
-    ensures { IsPlaced slots.old slot slots.new }
+    ensures { IsPlaced slots.old start slot slots.new }
 {
     let size = slots.len();
-    let mut at = home(slot.mark, size);
+    let mut at = start;
     for n in 0..size {
         if !is_used(slots[at]) {
             slots[at] = slot;
@@ -103,25 +105,28 @@ fn place(slots: &mut [Slot], slot: Slot)
     unreachable!()
 }
 
-/// The same in a table.
-pub(crate) fn put_into(table: &mut Vec<Slot>, slot: Slot)
+/// Puts the slot of a node with this mark and this reference into a table.
+pub(crate) fn put_into(table: &mut Vec<u32>, node: Node, mark: u32, r: Ref)
+    requires mark { mark ≡ mark_of node }
+    requires few { r.0 < 16777216 }
     requires room { taken table.old.items < length table.old.items }
-    ensures { IsPlaced table.old.items slot table.new.items }
+    ensures { IsPlaced table.old.items (start_of (length table.old.items) node)
+        (slot_of (mark_of node) r) table.new.items }
 {
-    place(table, slot);
+    let start = start_of(node, mark, table.len());
+    place(table, start, slot_of(mark, r));
 }
 
-/// A table of so many places with these slots, but for unused ones.
-pub(crate) fn table_of(alloc: Global, slots: &[Slot], size: usize) -> Result<Vec<Slot>, AllocError>
-    requires { length slots.now < size }
+/// A table of so many places with a slot for each of these nodes.
+pub(crate) fn table_of(alloc: Global, nodes: &[Node], size: usize) -> Result<Vec<u32>, AllocError>
+    requires wide { length nodes.now < size }
+    requires few { length nodes.now ≤ 16777214 }
     ensures long { IfOk result (λ table. length table.items ≡ size) }
-    ensures has { IfOk result (λ table. HasSlots slots.now table.items) }
+    ensures has { IfOk result (λ table. HasFirst nodes.now (length nodes.now) table.items) }
 {
-    let mut table = Vec::from_elem(alloc, EMPTY, size)?;
-    for slot in slots {
-        if is_used(*slot) {
-            put_into(&mut table, *slot);
-        }
+    let mut table = Vec::from_elem(alloc, 0u32, size)?;
+    for (k, node) in nodes.iter().enumerate() {
+        put_into(&mut table, *node, mark_of(*node), Ref(k as u32 + 2));
     }
     Ok(table)
 }

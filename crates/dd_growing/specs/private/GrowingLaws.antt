@@ -13,7 +13,6 @@ use Rattle.dd_nodes.specs.Diagram.{Held, IsFrom, IsDiagram}
 use Rattle.dd_nodes.specs.Stores.{node_of}
 use Rattle.dd_nodes.specs.Plain.{IsOrdered, depth, plain_held, ref_at, var_or}
 use Rattle.dd_nodes.specs.private.PlainLaws.{depth-place, held-constant, held-place, place_of}
-use Rattle.dd_growing.specs.declared.slots.Slot.{Slot}
 use Rattle.dd_growing.specs.Growing.{refs_from}
 use Rattle.dd_growing.specs.private.Slots.{IsIndexed}
 
@@ -33,7 +32,7 @@ from-depth vars nodes i r lt = ⊎_elim
     (λ (le : 2 ≤ r.0). from_by nodes i r (plain_held nodes r) refl (subst (λ d. i < d) (depth-place vars nodes r le) lt))
     (cases_lt r.0 2)
 
-pub growing_diagram : (vars : ℕ) (nodes : List Node) (slots : List Slot) → IsOrdered vars nodes → IsIndexed nodes slots → IsDiagram (plain_held nodes) vars
+pub growing_diagram : (vars : ℕ) (nodes : List Node) (slots : List ℕ) → IsOrdered vars nodes → IsIndexed nodes slots → IsDiagram (plain_held nodes) vars
 growing_diagram vars nodes slots o t = record {
   constants = held-constant nodes;
   below = λ r n at. o.below (r.0 - 2) n (place_of nodes r n at).1;

@@ -1,25 +1,24 @@
-use Rattle.std.proofs.Common.{refl, sym, ap, ◌∙◌, subst, arith, List, set}
-use Rattle.dd_growing.specs.declared.slots.Slot.{Slot}
+use Rattle.std.proofs.Common.{ℕ, refl, sym, ap, ◌∙◌, subst, arith, List, set}
 use Rattle.dd_growing.specs.private.Slots.{IsPlaced, is_used, slot_at}
 use Rattle.dd_growing.proofs.Walks.{begins, goes_on, never_full, placed}
 use Rattle.dd_growing.proofs.slots.place.Goals as goal
 
 pub loop-n-init : goal.loop-n-init
-loop-n-init c = record { same = refl; here = begins c.args.slots.now c.args.slot.mark c.home-at.result c.home-at.ensures.0 c.home-at.ensures.1 }
+loop-n-init c = record { same = refl; here = begins c.args.slots.now c.args.start c.requires.start }
 
 pub returns-then-not-is_used : goal.returns-then-not-is_used
 returns-then-not-is_used c =
     let same = c.loop-n.invariant.same in
-    subst (λ (xs : List Slot). IsPlaced c.args.slots.now c.args.slot (set xs c.loop-n.at c.args.slot)) (sym same)
-    (placed c.args.slots.now c.args.slot _ c.loop-n.n c.loop-n.at c.loop-n.invariant.here c.loop-n-test.true
-    (ap (λ (xs : List Slot). is_used (slot_at xs c.loop-n.at)) (sym same) ∙ sym c.is_used.ensures ∙ c.if-not-is_used.true))
+    subst (λ (xs : List ℕ). IsPlaced c.args.slots.now c.args.start c.args.slot (set xs c.loop-n.at c.args.slot)) (sym same)
+    (placed c.args.slots.now c.args.start c.args.slot 0 c.loop-n.n c.loop-n.at c.loop-n.invariant.here c.loop-n-test.true
+    (ap (λ (xs : List ℕ). is_used (slot_at xs c.loop-n.at)) (sym same) ∙ sym c.is_used.ensures ∙ c.if-not-is_used.true))
 
 pub loop-n-preserved : goal.loop-n-preserved
 loop-n-preserved c = record {
   same = c.loop-n.invariant.same;
-  here = goes_on c.args.slots.now c.args.slot.mark c.loop-n.n c.loop-n.at c.next-at.result _ c.loop-n.invariant.here
-      (ap (λ (xs : List Slot). is_used (slot_at xs c.loop-n.at)) (sym c.loop-n.invariant.same) ∙ sym c.is_used.ensures ∙ c.if-not-is_used.false) c.next-at.ensures.0 c.next-at.ensures.1;
+  here = goes_on c.args.slots.now c.args.start c.loop-n.n c.loop-n.at c.next-at.result 0 c.loop-n.invariant.here
+      (ap (λ (xs : List ℕ). is_used (slot_at xs c.loop-n.at)) (sym c.loop-n.invariant.same) ∙ sym c.is_used.ensures ∙ c.if-not-is_used.false) c.next-at.ensures.0 c.next-at.ensures.1;
 }
 
 pub unreachable-requires : goal.unreachable-requires
-unreachable-requires c = never_full c.args.slots.now c.args.slot.mark c.loop-n.n c.requires.room (let end = c.loop-n-test.false in omega arith) c.loop-n.invariant.here.used
+unreachable-requires c = never_full c.args.slots.now c.args.start c.loop-n.n c.requires.start c.requires.room (let end = c.loop-n-test.false in omega arith) c.loop-n.invariant.here.used

@@ -5,5 +5,5 @@ use Rattle.dd_growing.proofs.slots.place.Given as goal
 abbrev pub invariant-loop-n : goal.invariant-loop-n
 invariant-loop-n l = record {
   same : l.slots ≡ l.initial.slots;
-  here : IsAt l.initial.slots l.slot.mark l.n l.at;
+  here : IsAt l.initial.slots l.start l.n l.at;
 }

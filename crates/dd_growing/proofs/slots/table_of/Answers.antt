@@ -1,31 +1,19 @@
-use Rattle.std.proofs.Common.{length, sym, ap, ◌∙◌, subst, List, Vec, Global, ◌+◌}
-use Rattle.dd_growing.specs.declared.slots.Slot.{Slot}
-use Rattle.dd_growing.specs.private.Slots.{HasFirst}
+use Rattle.std.proofs.Common.{◌∙◌, arith}
+use Rattle.std.proofs.lemmas.Option.{slice_get-get_or}
+use Rattle.dd_growing.proofs.GrowingSteps.{has_more}
 use Rattle.dd_growing.proofs.Walks.{long_placed}
-use Rattle.dd_growing.proofs.Placing.{has_more, has_skipped}
-use Rattle.dd_growing.proofs.slots.table_of.Goals.{then-is_used, else-is_used}
 use Rattle.dd_growing.proofs.slots.table_of.Goals as goal
 
-pub loop-slot-preserved : goal.loop-slot-preserved
-loop-slot-preserved c =
-    let i = c.loop-slot.invariant in
-    let xs = c.args.slots.now in
-    let k = c.loop-slot.slot-index in
-    let lt = c.loop-slot-test.true in
-    elim c.if-is_used.branch [
-      | then-is_used w ↦
-          let is = ap (λ (t : Vec Slot Global). t.items) w.table-is in
-          let p = w.put_into.ensures in
-          record {
-            long = ap (λ (ys : List Slot). length ys) is ∙ long_placed c.loop-slot.table.items w.put_into.new.table.items _ p ∙ i.long;
-            has = subst (λ (ys : List Slot). HasFirst xs (k + 1) ys) (sym is)
-                (has_more xs k _ c.loop-slot.table.items w.put_into.new.table.items lt i.has (sym c.is_used.ensures ∙ w.if-is_used.true) p);
-          }
-      | else-is_used w ↦
-          let is = ap (λ (t : Vec Slot Global). t.items) w.table-is in
-          record {
-            long = ap (λ (ys : List Slot). length ys) is ∙ i.long;
-            has = subst (λ (ys : List Slot). HasFirst xs (k + 1) ys) (sym is)
-                (has_skipped xs k _ c.loop-slot.table.items lt i.has (sym c.is_used.ensures ∙ w.if-is_used.false));
-          }
-    ]
+pub loop-k-preserved : goal.loop-k-preserved
+loop-k-preserved c =
+    let i = c.loop-k.invariant in
+    let k = c.loop-k.k in
+    let nodes = c.args.nodes.now in
+    let old = c.loop-k.table.items in
+    let new = c.put_into.new.table.items in
+    let few = c.requires.few in
+    let lt = c.loop-k-test.true in
+    record {
+      long = long_placed old new _ _ c.put_into.ensures ∙ i.long;
+      has = has_more nodes k old new _ (omega (arith, few, lt)) (slice_get-get_or nodes k _ lt) i.has c.put_into.ensures;
+    }

@@ -1,4 +1,4 @@
-use Rattle.std.proofs.Common.{◌≡◌, ◌≢◌, ◌<◌, ◌+◌, ℕ, List, Vec, Global, sym, ap, subst, arith}
+use Rattle.std.proofs.Common.{length, ◌≡◌, ◌≢◌, ◌<◌, ◌+◌, ℕ, List, Vec, Global, sym, ap, subst, arith}
 use Rattle.std.specs.Prelude.{Some}
 use Rattle.dd_nodes.specs.declared.node.Ref.{Ref}
 use Rattle.dd_nodes.specs.declared.node.Node.{Node}
@@ -13,8 +13,9 @@ all c =
     let t = c.make_room.new.self in
     let same = c.make_room.ensures.same in
     let nodes : t.nodes.items ≡ c.args.self.now.nodes.items = ap (λ (v : Vec Node Global). v.items) same.0 in
-    added t.nodes.items c.push.new.self.items t.slots.items c.put_into.new.table.items c.args.node c.args.mark c.len-2.result t.base t.limit t.vars t.recent
-    c.in_ok-push.ensures.items q.mark (let ok = t.nodes.ok.0 in omega (arith, c.len-2.ensures)) c.put_into.ensures t.ordered t.indexed t.counted t.right
+    added t.nodes.items c.push.new.self.items t.slots.items c.put_into.new.table.items c.args.node c.len-2.result t.base t.limit t.vars t.recent
+    c.in_ok-push.ensures.items (let ok = t.nodes.ok.0 in omega (arith, c.len-2.ensures))
+    (let ok = t.nodes.ok.0 in let ok' = c.args.self.now.nodes.ok.0 in let one = ap (λ (xs : List Node). length xs) nodes in let most = c.if-len-ge-MOST.false in omega (arith, c.len.ensures, c.len-2.ensures, one, most)) c.put_into.ensures t.ordered t.indexed t.counted t.right
     (subst (λ (xs : List Node). (r : Ref) → plain_held xs r ≢ Some c.args.node) (sym nodes) q.absent)
     (subst (λ (v : ℕ). c.args.node.var < v) (sym same.3) q.below)
     q.differ

@@ -1,10 +1,9 @@
-use Rattle.std.proofs.Common.{◌≤◌, List, [], ap, ◌∙◌, arith}
+use Rattle.std.proofs.Common.{◌≤◌, List, ap, ◌∙◌, arith}
 use Rattle.dd_nodes.specs.declared.node.Node.{Node}
 use Rattle.dd_growing.specs.Growing.{grown_store}
 use Rattle.dd_growing.specs.private.Slots.{taken}
 use Rattle.dd_recent.proofs.Remembering.{AreRight-none}
 use Rattle.dd_growing.proofs.GrowingSteps.{IsIndexed-fresh, empty_grown}
-use Rattle.dd_growing.proofs.Placing.{has_taken}
 use Rattle.dd_growing.proofs.nodes.GrowingNodes.new.Goals as goal
 
 pub invariant_of-result-clause-right : goal.invariant_of-result-clause-right
@@ -15,7 +14,7 @@ invariant_of-result-clause-indexed c = IsIndexed-fresh c.new.result.items c.in_o
 
 pub invariant_of-result-clause-counted : goal.invariant_of-result-clause-counted
 invariant_of-result-clause-counted c =
-    let less : taken c.in_ok-table_of.field-0.items ≤ 0 = has_taken [] c.in_ok-table_of.field-0.items c.in_ok-table_of.ensures.has in
+    let less : taken c.in_ok-table_of.field-0.items ≤ 0 = c.in_ok-table_of.ensures.has.few in
     omega (arith, less)
 
 pub returns : goal.returns
