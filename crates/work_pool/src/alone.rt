@@ -32,7 +32,8 @@ fn check_anew(
     last: &mut Option<Frame>,
 ) -> Result<Report, AllocError>
     requires rows { rows.now.covers ≡ map rows_of net.now.raw.covers }
-    requires over { IsTaskOver net.now.raw (⟦<GrowingNodes as Nodes>⟧.store nodes.old).vars task.now }
+    requires over { IsTaskOver net.now.raw
+        (⟦<GrowingNodes as Nodes>⟧.store nodes.old).vars task.now }
     requires last { IfSome last.old
         (IsFrame (⟦<GrowingNodes as Nodes>⟧.store nodes.old) net.now.raw) }
     ensures told { IfOk result (IsToldOf net.now.raw
