@@ -1,11 +1,13 @@
 -- The two passes over a text answer as the expression that it spells.
-use Rattle.std.proofs.Common.{ℕ, ◌+◌, ◌≡◌, ◌≤◌, sym, ap, ◌∙◌, List, Option, None, Some, min, arith, Result, Ok, Err, IfOk, IfErr}
+use Rattle.std.proofs.Common.{ℕ, ◌+◌, ◌≡◌, ◌≤◌, refl, sym, ap, ◌∙◌, List, [], ◌∷◌, Bool, true, Option, None, Some, min, arith, Result, Ok, Err, IfOk, IfErr}
+use Rattle.std.specs.Prelude.{is_some, IsTrue}
+use Rattle.bool_expr.specs.declared.token.Sign.TheVariants.{Or, Xor, And}
 use Rattle.bool_expr.specs.declared.expr.Expr.{Expr}
 use Rattle.bool_expr.specs.declared.fault.ExprFault.{ExprFault}
 use Rattle.bool_expr.specs.declared.fault.ExprFault.TheVariants.{BadExpr, TooDeep, UnknownVar, OutOfMemory}
-use Rattle.bool_expr.specs.Tokens.{tokens_of}
-use Rattle.bool_expr.specs.Tree.{tree_of}
-use Rattle.bool_expr.specs.Grammar.{Expression, spelling, nesting}
+use Rattle.bool_expr.specs.Tokens.{variable, tokens_of}
+use Rattle.bool_expr.specs.Tree.{bit, place, tree_of}
+use Rattle.bool_expr.specs.Grammar.{Phrase, factor, Expression, literal, named, single, spelling, nesting}
 use Rattle.bool_expr.specs.private.Scan.{scan_from, scan_start}
 use Rattle.bool_expr.specs.private.Build.{build_from, build_start}
 use Rattle.bool_expr.specs.Read.{Spells, IsAnswer, HasCause, first_unknown, place_by, number_in}
@@ -60,3 +62,30 @@ caused vars text (Err BadExpr) d s a = absurd a
 caused vars text (Err TooDeep) d s a = (d, s, a)
 caused vars text (Err (UnknownVar name)) d s a = (d, s, a)
 caused vars text (Err OutOfMemory) d s a = tt
+
+-- an answer for one expression that a text spells is one for each
+pub answers_each : (vars : List (List ℕ)) (text : List ℕ) (answer : Result Expr ExprFault) (one : Expression) → Spells one text → IsAnswer vars one answer → (d : Expression) → Spells d text → IsAnswer vars d answer
+answers_each vars text (Ok expr) one e a d s =
+    let same = one_tree text one d e s in
+    let nested = same.0 in
+    (omega (arith, a.0, nested), ap (first_unknown (number_in vars)) (s ∙ sym e) ∙ a.1, a.2 ∙ same.1 (place_by (number_in vars)))
+answers_each vars text (Err BadExpr) one e a d s = a
+answers_each vars text (Err TooDeep) one e a d s = let nested = (one_tree text one d e s).0 in omega (arith, a, nested)
+answers_each vars text (Err (UnknownVar name)) one e a d s =
+    let nested = (one_tree text one d e s).0 in
+    (omega (arith, a.0, nested), ap (first_unknown (number_in vars)) (s ∙ sym e) ∙ a.1)
+answers_each vars text (Err OutOfMemory) one e a d s = tt
+
+-- the expression that is one factor
+abbrev pub alone : Phrase factor → Expression
+alone f = single Or (single Xor (single And f))
+
+pub bit_answer : (vars : List (List ℕ)) (b : Bool) (expr : Expr) → tree_of expr ≡ bit b → IsAnswer vars (alone (literal b)) (Ok expr)
+bit_answer vars b expr same = (omega arith, refl, same)
+
+pub word_answer : (vars : List (List ℕ)) (word : List ℕ) (answer : Result Expr ExprFault) → IfOk answer (λ expr. tree_of expr ≡ place (place_by (number_in vars) word)) → IfOk answer (λ _. IsTrue (is_some (number_in vars word))) → IfErr answer (λ fault. IsCause (number_in vars) (variable word ∷ []) fault) → IsAnswer vars (alone (named word)) answer
+word_answer vars word (Ok expr) ok known err = let k : is_some (number_in vars word) ≡ true = known in (omega arith, rw k refl, ok)
+word_answer vars word (Err BadExpr) ok known err = err
+word_answer vars word (Err TooDeep) ok known err = absurd err
+word_answer vars word (Err (UnknownVar name)) ok known err = (omega arith, err)
+word_answer vars word (Err OutOfMemory) ok known err = tt

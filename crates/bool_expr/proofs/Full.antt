@@ -1,6 +1,6 @@
 -- Each list of a tree that is spelled has two or more parts.
-use Rattle.std.proofs.Common.{ℕ, List, [], ◌∷◌, Result, Ok, Err, sym, subst}
-use Rattle.std.specs.Prelude.{IfOk}
+use Rattle.std.proofs.Common.{ℕ, ◌≡◌, List, [], ◌∷◌, Option, Some, Result, Ok, Err, sym, subst}
+use Rattle.std.specs.Prelude.{IfOk, IfSome}
 use Rattle.bool_expr.specs.declared.expr.Expr.{Expr}
 use Rattle.bool_expr.specs.declared.fault.ExprFault.{ExprFault}
 use Rattle.bool_expr.specs.declared.token.Sign.{Sign}
@@ -32,3 +32,6 @@ trees_are_full number d = full number d
 pub full_answer : (vars : List (List ℕ)) (text : List ℕ) (answer : Result Expr ExprFault) → HasCause vars text answer → IfOk answer (λ expr. IsFull (tree_of expr))
 full_answer vars text (Ok expr) h = subst IsFull (sym h.2.2) (full _ h.0)
 full_answer vars text (Err fault) h = tt
+
+pub full_found : (vars : List (List ℕ)) (text : List ℕ) (found : Option (Result Expr ExprFault)) (answer : Result Expr ExprFault) → found ≡ Some answer → IfSome found (λ a. HasCause vars text a) → IfOk answer (λ expr. IsFull (tree_of expr))
+full_found vars text found answer e h = full_answer vars text answer (subst (λ f. IfSome f (λ a. HasCause vars text a)) e h)

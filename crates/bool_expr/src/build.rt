@@ -60,6 +60,18 @@ fn behind_signs(alloc: Global, signs: usize, expr: Expr) -> Result<Expr, AllocEr
     Ok(whole)
 }
 
+/// The expression that a chain is with this last part. Where that is the only one it takes no memory.
+fn chain_to(sign: Sign, mut parts: Vec<Expr>, last: Expr) -> Result<Expr, AllocError>
+    ensures { IfOk result (λ whole. tree_of whole
+        ≡ chain sign (map tree_of parts.items ++ tree_of last ∷ [])) }
+{
+    if parts.is_empty() {
+        return Ok(last);
+    }
+    parts.push(last)?;
+    Ok(chain(sign, parts))
+}
+
 /// The parts of a chain of `^`, with the chain of `&` that is open.
 fn odd_parts(mut odd: Vec<Expr>, all: Vec<Expr>) -> Result<Vec<Expr>, AllocError>
     ensures { IfOk result (λ parts. map tree_of parts.items ≡ map tree_of odd.items
@@ -69,13 +81,21 @@ fn odd_parts(mut odd: Vec<Expr>, all: Vec<Expr>) -> Result<Vec<Expr>, AllocError
     Ok(odd)
 }
 
+/// The last part of a chain of `|`: the chains of `^` and `&` that are open.
+fn last_part(odd: Vec<Expr>, all: Vec<Expr>) -> Result<Expr, AllocError>
+    ensures { IfOk result (λ part. tree_of part ≡ chain Sign.Xor (map tree_of odd.items
+        ++ chain Sign.And (map tree_of all.items) ∷ [])) }
+{
+    chain_to(Sign::Xor, odd, chain(Sign::And, all))
+}
+
 /// The parts of a chain of `|`, with the chains of `^` and `&` that are open.
 fn any_parts(mut any: Vec<Expr>, odd: Vec<Expr>, all: Vec<Expr>) -> Result<Vec<Expr>, AllocError>
     ensures { IfOk result (λ parts. map tree_of parts.items ≡ map tree_of any.items
         ++ chain Sign.Xor (map tree_of odd.items
         ++ chain Sign.And (map tree_of all.items) ∷ []) ∷ []) }
 {
-    any.push(chain(Sign::Xor, odd_parts(odd, all)?))?;
+    any.push(last_part(odd, all)?)?;
     Ok(any)
 }
 
@@ -153,7 +173,7 @@ impl Inner {
             odd,
             all,
         } = self;
-        Ok(chain(Sign::Or, any_parts(any, odd, all)?))
+        chain_to(Sign::Or, any, last_part(odd, all)?)
     }
 }
 

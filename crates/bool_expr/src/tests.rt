@@ -70,6 +70,9 @@ const TABLE: &[(&[u8], &[u8])] = &[
     (b"p 0", b"bad"),
     (b"a b", b"bad"),
     // Blanks.
+    (b" 0", b"0"),
+    (b"1\t", b"1"),
+    (b" b", b"v1"),
     (b" \t\ra\r\t ", b"v0"),
     (b"\t! ( a | \rb ) & 1 ", b"(& !(| v0 v1) 1)"),
     (b"a\n|b", b"bad"),
