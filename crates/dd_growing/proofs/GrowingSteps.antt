@@ -17,10 +17,10 @@ use Rattle.dd_recent.specs.declared.recent.Recent.{Recent}
 use Rattle.dd_recent.specs.Recent.{AreRight}
 use Rattle.dd_recent.proofs.Remembering.{AreRight-keeps}
 use Rattle.dd_growing.specs.Growing.{grown_store, refs_from}
-use Rattle.dd_growing.specs.private.Slots.{AreInside, HasFirst, IsFindable, IsIndexed, IsOnWalk, IsPlaced, is_used, mark_of, ref_in, slot_at, slot_of, start_of, taken, walk}
+use Rattle.dd_growing.specs.private.Slots.{AreInside, HasFirst, IsFindable, IsIndexed, IsOnWalk, IsPlaced, is_used, mark_of, ref_in, slot_at, slot_of, taken, walk}
 use Rattle.dd_growing.specs.private.GrowingLaws.{growing_diagram, length-refs_from}
 use Rattle.dd_growing.proofs.Parts.{place_inside, slot_parts, used_slot}
-use Rattle.dd_growing.proofs.Walks.{at_place, elsewhere, long_placed, on_walk_now, on_walk_still, taken_placed}
+use Rattle.dd_growing.proofs.Walks.{at_place, elsewhere, on_walk_now, on_walk_still, taken_placed}
 
 past : (xs : List ℕ) (i : ℕ) → length xs ≤ i → slot_at xs i ≡ 0
 past [] i le = refl
@@ -55,28 +55,24 @@ empty_grown limit vars = λ i. record { held = λ r. held-none r i; made = []; l
 -- ---- a slot more
 
 -- what could be found can be found still
-still : (slots new : List ℕ) (start x : ℕ) → IsPlaced slots start x new → (k : ℕ) (n : Node) → IsFindable slots k n → IsFindable new k n
-still slots new start x p k n on =
-    subst (λ (size : ℕ). IsOnWalk new (start_of size n) (slot_of (mark_of n) (ref_at k))) (sym (long_placed slots new start x p))
-    (on_walk_still slots new start x p (start_of (length slots) n) (slot_of (mark_of n) (ref_at k)) (used_slot (mark_of n) k) on)
+still : (slots new : List ℕ) (other : Node) (x : ℕ) → IsPlaced slots other x new → (k : ℕ) (n : Node) → IsFindable slots k n → IsFindable new k n
+still slots new other x p k n on = on_walk_still slots new other x p n (slot_of (mark_of n) (ref_at k)) (used_slot (mark_of n) k) on
 
 -- and so can the node of the new slot
-now_found : (slots new : List ℕ) (node : Node) (n : ℕ) → IsPlaced slots (start_of (length slots) node) (slot_of (mark_of node) (ref_at n)) new → IsFindable new n node
-now_found slots new node n p =
-    let x : ℕ = slot_of (mark_of node) (ref_at n) in
-    subst (λ (size : ℕ). IsOnWalk new (start_of size node) x) (sym (long_placed slots new (start_of (length slots) node) x p)) (on_walk_now slots new (start_of (length slots) node) x p)
+now_found : (slots new : List ℕ) (node : Node) (n : ℕ) → IsPlaced slots node (slot_of (mark_of node) (ref_at n)) new → IsFindable new n node
+now_found slots new node n p = on_walk_now slots new node (slot_of (mark_of node) (ref_at n)) p
 
 -- used slots have references of one node more
-inside_placed : (slots new : List ℕ) (start mark n : ℕ) → n < 16777214 → (p : IsPlaced slots start (slot_of mark (ref_at n)) new) → AreInside n slots → AreInside (n + 1) new
-inside_placed slots new start mark n few p inside i used =
+inside_placed : (slots new : List ℕ) (node : Node) (mark n : ℕ) → n < 16777214 → (p : IsPlaced slots node (slot_of mark (ref_at n)) new) → AreInside n slots → AreInside (n + 1) new
+inside_placed slots new node mark n few p inside i used =
     let x : ℕ = slot_of mark (ref_at n) in
-    dite (ℕ_discrete i (walk (length slots) start p.steps))
+    dite (ℕ_discrete i (walk (length slots) node p.steps))
     (λ here.
-    let is : slot_at new i ≡ x = ap (λ (j : ℕ). slot_at new j) here ∙ at_place slots new start x 0 p in
+    let is : slot_at new i ≡ x = ap (λ (j : ℕ). slot_at new j) here ∙ at_place slots new node x 0 p in
     let r : (ref_in (slot_at new i)).0 ≡ n + 2 = ap (λ (y : ℕ). (ref_in y).0) is ∙ (slot_parts mark (ref_at n) (omega (arith, few))).0 in
     (omega (arith, r), omega (arith, r)))
     (λ apart.
-    let is : slot_at new i ≡ slot_at slots i = elsewhere slots new start x 0 p i apart in
+    let is : slot_at new i ≡ slot_at slots i = elsewhere slots new node x 0 p i apart in
     let old = inside i (ap is_used (sym is) ∙ used) in
     let first : (ref_in (slot_at slots i)).0 < n + 1 + 2 = let lt = old.1 in omega (arith, lt) in
     (subst (λ (y : ℕ). 2 ≤ (ref_in y).0) (sym is) old.0, subst (λ (y : ℕ). (ref_in y).0 < n + 1 + 2) (sym is) first))
@@ -92,16 +88,15 @@ IsIndexed-wider nodes slots table has t = record {
 
 -- a node more has a slot
 pub has_more : (nodes : List Node) (n : ℕ) (table new : List ℕ) (node : Node) → n < 16777214 → slice_get nodes n ≡ Some node → HasFirst nodes n table
-    → IsPlaced table (start_of (length table) node) (slot_of (mark_of node) (ref_at n)) new → HasFirst nodes (n + 1) new
+    → IsPlaced table node (slot_of (mark_of node) (ref_at n)) new → HasFirst nodes (n + 1) new
 has_more nodes n table new node low is has p =
-    let start : ℕ = start_of (length table) node in
     let x : ℕ = slot_of (mark_of node) (ref_at n) in
-    let one : taken new ≡ taken table + 1 = taken_placed table new start x (used_slot (mark_of node) n) p in
+    let one : taken new ≡ taken table + 1 = taken_placed table new node x (used_slot (mark_of node) n) p in
     record {
       few = let few = has.few in omega (arith, one, few);
-      inside = inside_placed table new start (mark_of node) n low p has.inside;
+      inside = inside_placed table new node (mark_of node) n low p has.inside;
       all = λ k other lt at. ⊎_elim
-          (λ (old : k < n). still table new start x p k other (has.all k other old at))
+          (λ (old : k < n). still table new node x p k other (has.all k other old at))
           (λ (last : n ≤ k).
           let here : n ≡ k = omega (arith, lt, last) in
           let same : Some node ≡ Some other = sym is ∙ ap (slice_get nodes) here ∙ at in
@@ -123,24 +118,23 @@ held-at nodes n k at = held-place nodes (ref_at k) (omega arith) ∙ ap (slice_g
 
 -- what a search does not find is not there
 pub absent_of : (nodes : List Node) (slots : List ℕ) (node : Node) → IsIndexed nodes slots
-    → ((r : Ref) → IsOnWalk slots (start_of (length slots) node) (slot_of (mark_of node) r) → plain_held nodes r ≡ Some node → ⊥) → (r : Ref) → plain_held nodes r ≢ Some node
+    → ((r : Ref) → IsOnWalk slots node (slot_of (mark_of node) r) → plain_held nodes r ≡ Some node → ⊥) → (r : Ref) → plain_held nodes r ≢ Some node
 absent_of nodes slots node t none r held =
     let at = (place_of nodes r node held).1 in
     t.placed (r.0 - 2) node at (λ on. none (ref_at (r.0 - 2)) on (held-at nodes node (r.0 - 2) at))
 
 pub IsIndexed-push : (nodes : List Node) (slots new : List ℕ) (node : Node) → length nodes < 16777214 → IsIndexed nodes slots
-    → IsPlaced slots (start_of (length slots) node) (slot_of (mark_of node) (ref_at (length nodes))) new → ((r : Ref) → plain_held nodes r ≢ Some node) → IsIndexed (nodes ++ node ∷ []) new
+    → IsPlaced slots node (slot_of (mark_of node) (ref_at (length nodes))) new → ((r : Ref) → plain_held nodes r ≢ Some node) → IsIndexed (nodes ++ node ∷ []) new
 IsIndexed-push nodes slots new node few t p absent =
-    let start : ℕ = start_of (length slots) node in
     let x : ℕ = slot_of (mark_of node) (ref_at (length nodes)) in
     let long : length (nodes ++ node ∷ []) ≡ length nodes + 1 = length-append nodes (node ∷ []) in
     record {
       placed = λ k n at no. ⊎_elim
-          (λ (old : slice_get nodes k ≡ Some n). t.placed k n old (λ on. no (still slots new start x p k n on)))
+          (λ (old : slice_get nodes k ≡ Some n). t.placed k n old (λ on. no (still slots new node x p k n on)))
           (λ (last : (k ≡ length nodes) × (node ≡ n)).
           no (subst (λ (m : ℕ). IsFindable new m n) (sym last.0) (subst (IsFindable new (length nodes)) last.1 (now_found slots new node (length nodes) p))))
           (get-cases nodes node n k at);
-      inside = subst (λ (m : ℕ). AreInside m new) (sym long) (inside_placed slots new start (mark_of node) (length nodes) few p t.inside);
+      inside = subst (λ (m : ℕ). AreInside m new) (sym long) (inside_placed slots new node (mark_of node) (length nodes) few p t.inside);
       distinct = λ i k n at at'. ⊎_elim
           (λ (old : slice_get nodes i ≡ Some n). ⊎_elim
           (λ (old' : slice_get nodes k ≡ Some n). t.distinct i k n old old')
@@ -168,16 +162,15 @@ pub record IsAdded (nodes more : List Node) (new : List ℕ) (base limit vars : 
   pub right : AreRight (grown_store more base limit vars) recent
 
 pub added : (nodes more : List Node) (slots new : List ℕ) (node : Node) (count base limit vars : ℕ) (recent : Recent) → more ≡ nodes ++ node ∷ [] → count ≡ length nodes → count < 16777214
-    → IsPlaced slots (start_of (length slots) node) (slot_of (mark_of node) (ref_at count)) new → IsOrdered vars nodes → IsIndexed nodes slots → taken slots ≤ length nodes
+    → IsPlaced slots node (slot_of (mark_of node) (ref_at count)) new → IsOrdered vars nodes → IsIndexed nodes slots → taken slots ≤ length nodes
     → AreRight (grown_store nodes base limit vars) recent → ((r : Ref) → plain_held nodes r ≢ Some node) → node.var < vars → node.lo.0 ≢ node.hi.0
     → IsFrom (plain_held nodes) (node.var + 1) node.lo → IsFrom (plain_held nodes) (node.var + 1) node.hi → IsAdded nodes more new base limit vars recent
 added nodes more slots new node count base limit vars recent list long low' placed o t few right absent low differ from from' =
-    let start : ℕ = start_of (length slots) node in
     let x : ℕ = slot_of (mark_of node) (ref_at (length nodes)) in
-    let p : IsPlaced slots start x new = subst (λ (m : ℕ). IsPlaced slots start (slot_of (mark_of node) (ref_at m)) new) long placed in
+    let p : IsPlaced slots node x new = subst (λ (m : ℕ). IsPlaced slots node (slot_of (mark_of node) (ref_at m)) new) long placed in
     let o' = IsOrdered-push vars nodes node o low differ (from-deep vars nodes node.var node.lo low from) (from-deep vars nodes node.var node.hi low from') in
     let t' = IsIndexed-push nodes slots new node (omega (arith, long, low')) t p absent in
-    let one : taken new ≡ taken slots + 1 = taken_placed slots new start x (used_slot (mark_of node) (length nodes)) p in
+    let one : taken new ≡ taken slots + 1 = taken_placed slots new node x (used_slot (mark_of node) (length nodes)) p in
     let more' : length (nodes ++ node ∷ []) ≡ length nodes + 1 = length-append nodes (node ∷ []) in
     let all : IsAdded nodes (nodes ++ node ∷ []) new base limit vars recent = record {
       ordered = o';

@@ -1,6 +1,6 @@
 //! The store for one thread that grows; begin with `GrowingNodes`.
 
-ghost use Rattle.std.specs.Prelude.{◌≤◌, ◌<◌, ◌+◌, IfOk, length};
+ghost use Rattle.std.specs.Prelude.{◌≤◌, ◌<◌, ◌+◌, ◌^◌, IfOk, length};
 ghost use Rattle.std.proofs.Props.{props};
 ghost use Rattle.dd_nodes.specs.Plain.{IsOrdered};
 ghost use Rattle.dd_recent.specs.Recent.{AreRight};
@@ -28,6 +28,7 @@ pub struct GrowingNodes {
     ghost begun: { base ≤ length nodes.items },
     ghost within: { length nodes.items ≤ base + limit },
     ghost room: { length nodes.items < length slots.items },
+    ghost narrow: { length slots.items ≤ 2 ^ 32 },
     ghost counted: { taken slots.items ≤ length nodes.items },
     ghost ordered: { IsOrdered vars nodes.items } by { Prim.hlevel props },
     ghost indexed: { IsIndexed nodes.items slots.items } by { Prim.hlevel props },
@@ -40,17 +41,24 @@ const LEAST: usize = 1024;
 /// The most nodes: each has a reference of 24 bits.
 const MOST: usize = 16777214;
 
+/// The most slots.
+const WIDEST: usize = 4294967296;
+
 /// The number of slots to which so many are widened.
 fn wider(slots: usize) -> Result<usize, AllocError>
-    ensures { IfOk result (λ size. slots + 1 < size) }
+    requires { slots ≤ 2 ^ 32 }
+    ensures more { IfOk result (λ size. slots + 1 < size) }
+    ensures narrow { IfOk result (λ size. size ≤ 2 ^ 32) }
 {
-    let times = if slots < 65536 { 4 } else { 2 };
-    match slots.checked_mul(times) {
-        Some(size) => match size.checked_add(16) {
-            Some(size) => Ok(size),
-            None => Err(AllocError),
-        },
-        None => Err(AllocError),
+    let size = if slots < 65536 {
+        slots * 4 + 16
+    } else {
+        slots * 2 + 16
+    };
+    if size <= WIDEST {
+        Ok(size)
+    } else {
+        Err(AllocError)
     }
 }
 

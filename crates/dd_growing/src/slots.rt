@@ -1,11 +1,14 @@
 //! Where a node stands in a list of nodes: a table of slots that is searched by walks; begin with `find`.
 
-ghost use Rattle.std.specs.Prelude.{◌≡◌, ◌<◌, ◌≤◌, ◌+◌, ◌%◌, IfSome, IfNone, IfOk, Some, length, true};
+ghost use Rattle.std.specs.Prelude.{◌≡◌, ◌<◌, ◌≤◌, ◌+◌, ◌%◌, ◌^◌, IfSome, IfNone, IfOk, Some, length, true};
 ghost use Rattle.dd_nodes.specs.Plain.{plain_held};
-ghost use Rattle.dd_growing.specs.private.Slots.{AreInside, HasFirst, IsOnWalk, IsPlaced, is_used, mark_of, slot_of, start_of, taken};
+ghost use Rattle.dd_growing.specs.private.Slots.{AreInside, HasFirst, IsOnWalk, IsPlaced, far_of, is_used, mark_of, near_of, newer, slot_of, taken, walk};
 
 use dd_nodes::{Node, Ref};
 use std::alloc::{AllocError, Global};
+
+/// The number of places near the newer child with which a walk begins. So many take half of what a cache fetches at once.
+const NEAR: usize = 8;
 
 /// Whether a slot has a node; one that has none is 0. A used one has the lower 8 bits of the mark of its node, and the
 /// node's reference in 24 bits.
@@ -33,11 +36,28 @@ pub(crate) fn mark_of(node: Node) -> u32
     (var.wrapping_add(lo).wrapping_add(hi) >> 32) as u32
 }
 
-/// The place where the walk of a node with this mark begins, of so many places.
-fn start_of(node: Node, mark: u32, size: usize) -> usize
+/// The newer child of a node.
+fn newer(node: Node) -> u32
+    ensures { result ≡ newer node }
+{
+    if node.lo.0 < node.hi.0 { node.hi.0 } else { node.lo.0 }
+}
+
+/// The place where the walk of a node begins, of so many places. Nodes that are made one after another have children that
+/// were made one after another, and so slots near each other.
+fn near_of(node: Node, size: usize) -> usize
+    requires { 0 < size }
+    ensures { (result ≡ near_of size node) × (result < size) }
+{
+    let twice = newer(node) as usize * 2;
+    if twice < size { twice } else { 0 }
+}
+
+/// The place where the walk of a node with this mark goes on behind those near its newer child, of so many places.
+fn far_of(node: Node, mark: u32, size: usize) -> usize
     requires mark { mark ≡ mark_of node }
     requires some { 0 < size }
-    ensures { (result ≡ start_of size node) × (result < size) }
+    ensures { (result ≡ far_of size node) × (result < size) }
 {
     let _ = node;
     ((mark as u128 * size as u128) >> 32) as usize
@@ -49,6 +69,19 @@ fn next(at: usize, size: usize) -> usize
     ensures { (result ≡ (at + 1) % size) × (result < size) }
 {
     if at + 1 == size { 0 } else { at + 1 }
+}
+
+/// The place that the walk of a node with this mark comes to from this one, its n-th.
+fn further(at: usize, n: usize, node: Node, mark: u32, size: usize) -> usize
+    requires at { at ≡ walk size node n }
+    requires inside { at < size }
+    requires mark { mark ≡ mark_of node }
+    ensures { (result ≡ walk size node (n + 1)) × (result < size) }
+{
+    if n == NEAR - 1 {
+        return far_of(node, mark, size);
+    }
+    next(at, size)
 }
 
 /// Whether a reference of the list is that of the node.
@@ -63,17 +96,17 @@ fn is_at(nodes: &[Node], r: Ref, node: Node) -> bool
 /// The reference of the node with this mark, where it stands in the list.
 pub(crate) fn find(nodes: &[Node], slots: &[u32], node: Node, mark: u32) -> Option<Ref>
     requires some { 0 < length slots.now }
+    requires narrow { length slots.now ≤ 2 ^ 32 }
     requires few { length nodes.now ≤ 16777214 }
     requires mark { mark ≡ mark_of node }
     requires inside { AreInside (length nodes.now) slots.now }
     ensures some { IfSome result (λ r. plain_held nodes.now r ≡ Some node) }
-    ensures none { IfNone result ((r : Ref)
-        → IsOnWalk slots.now (start_of (length slots.now) node) (slot_of (mark_of node) r)
+    ensures none { IfNone result ((r : Ref) → IsOnWalk slots.now node (slot_of (mark_of node) r)
         → plain_held nodes.now r ≡ Some node → ⊥) }
 {
     let size = slots.len();
-    let mut at = start_of(node, mark, size);
-    for n in 0..size {
+    let mut at = near_of(node, size);
+    for n in 0..size + NEAR {
         let slot = slots[at];
         if !is_used(slot) {
             return None;
@@ -82,44 +115,45 @@ pub(crate) fn find(nodes: &[Node], slots: &[u32], node: Node, mark: u32) -> Opti
         if slot / 16777216 == mark % 256 && is_at(nodes, r, node) {
             return Some(r);
         }
-        at = next(at, size);
+        at = further(at, n, node, mark, size);
     }
     None
 }
 
-/// Puts a slot at the first unused place of the walk that starts here.
-fn place(slots: &mut [u32], start: usize, slot: u32)
-    requires start { start < length slots.old }
-    requires room { taken slots.old < length slots.old }
-    ensures { IsPlaced slots.old start slot slots.new }
+/// Puts a slot at the first unused place of the walk of a node with this mark.
+fn place(table: &mut [u32], node: Node, mark: u32, slot: u32)
+    requires narrow { length table.old ≤ 2 ^ 32 }
+    requires mark { mark ≡ mark_of node }
+    requires room { taken table.old < length table.old }
+    ensures { IsPlaced table.old node slot table.new }
 {
-    let size = slots.len();
-    let mut at = start;
-    for n in 0..size {
-        if !is_used(slots[at]) {
-            slots[at] = slot;
+    let size = table.len();
+    let mut at = near_of(node, table.len());
+    for n in 0..size + NEAR {
+        if !is_used(table[at]) {
+            table[at] = slot;
             return;
         }
-        at = next(at, size);
+        at = further(at, n, node, mark, size);
     }
     unreachable!()
 }
 
 /// Puts the slot of a node with this mark and this reference into a table.
 pub(crate) fn put_into(table: &mut Vec<u32>, node: Node, mark: u32, r: Ref)
+    requires narrow { length table.old.items ≤ 2 ^ 32 }
     requires mark { mark ≡ mark_of node }
     requires few { r.0 < 16777216 }
     requires room { taken table.old.items < length table.old.items }
-    ensures { IsPlaced table.old.items (start_of (length table.old.items) node)
-        (slot_of (mark_of node) r) table.new.items }
+    ensures { IsPlaced table.old.items node (slot_of (mark_of node) r) table.new.items }
 {
-    let start = start_of(node, mark, table.len());
-    place(table, start, slot_of(mark, r));
+    place(table, node, mark, slot_of(mark, r));
 }
 
 /// A table of so many places with a slot for each of these nodes.
 pub(crate) fn table_of(alloc: Global, nodes: &[Node], size: usize) -> Result<Vec<u32>, AllocError>
     requires wide { length nodes.now < size }
+    requires narrow { size ≤ 2 ^ 32 }
     requires few { length nodes.now ≤ 16777214 }
     ensures long { IfOk result (λ table. length table.items ≡ size) }
     ensures has { IfOk result (λ table. HasFirst nodes.now (length nodes.now) table.items) }

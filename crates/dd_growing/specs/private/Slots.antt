@@ -1,5 +1,5 @@
 -- For private functions. A table of slots that says where a node stands, and is searched by walks.
-use Rattle.std.specs.Prelude.{◌≡◌, ◌<◌, ◌≤◌, ◌+◌, ◌*◌, ◌/◌, ◌%◌, ◌^◌, ◌&&◌, ◌==◌, ℕ, Bool, true, false, nat_lt, List, length, get_or, set, Some, slice_get}
+use Rattle.std.specs.Prelude.{◌≡◌, ◌<◌, ◌≤◌, ◌+◌, ◌-◌, ◌*◌, ◌/◌, ◌%◌, ◌^◌, ◌&&◌, ◌==◌, ℕ, Bool, true, false, cond, nat_lt, List, length, get_or, set, Some, slice_get}
 use Rattle.std.specs.List.{count_by}
 use Rattle.dd_nodes.specs.declared.node.Ref.{Ref}
 use Rattle.dd_nodes.specs.declared.node.Node.{Node}
@@ -34,43 +34,53 @@ slot_at slots i = get_or slots i 0
 abbrev pub taken : List ℕ → ℕ
 taken slots = count_by is_used slots
 
--- the place where the walk of a node begins
-unfoldable pub start_of : ℕ → Node → ℕ
-start_of size n = mark_of n * size / 2 ^ 32
+-- the newer child of a node; one that was made later has a greater reference
+abbrev pub newer : Node → ℕ
+newer n = cond (nat_lt n.lo.0 n.hi.0) n.hi.0 n.lo.0
 
--- the place that a walk comes to after k others, from its start on and from the last one to the first
-unfoldable pub walk : ℕ → ℕ → ℕ → ℕ
-walk size start k = (start + k) % size
+-- the place where the walk of a node begins: at twice its newer child, where there is such a place
+unfoldable pub near_of : ℕ → Node → ℕ
+near_of size n = cond (nat_lt (newer n * 2) size) (newer n * 2) 0
+
+-- the place where it goes on after eight, which the mark gives
+unfoldable pub far_of : ℕ → Node → ℕ
+far_of size n = mark_of n * size / 2 ^ 32
+
+-- The place that the walk of a node comes to after k others: eight near the newer child, and then all from a place that the
+-- mark gives; behind the last place comes the first one.
+unfoldable pub walk : ℕ → Node → ℕ → ℕ
+walk size n k = cond (nat_lt k 8) (near_of size n + k) (far_of size n + (k - 8)) % size
 
 -- the slot there
-abbrev pub slot_on : List ℕ → ℕ → ℕ → ℕ
-slot_on slots start k = slot_at slots (walk (length slots) start k)
+abbrev pub slot_on : List ℕ → Node → ℕ → ℕ
+slot_on slots n k = slot_at slots (walk (length slots) n k)
 
 -- the first k slots on the walk are used
-abbrev pub AreUsed : List ℕ → ℕ → ℕ → Type 0
-AreUsed slots start k = (i : ℕ) → i < k → is_used (slot_on slots start i) ≡ true
+abbrev pub AreUsed : List ℕ → Node → ℕ → Type 0
+AreUsed slots n k = (i : ℕ) → i < k → is_used (slot_on slots n i) ≡ true
 
--- the slot stands on the walk, behind used ones
-abbrev pub IsOnWalk : List ℕ → ℕ → ℕ → Type 0
-IsOnWalk slots start slot = (k : ℕ) × (k < length slots) × (slot_on slots start k ≡ slot) × AreUsed slots start k
+-- the slot stands on the walk of the node, behind used ones
+abbrev pub IsOnWalk : List ℕ → Node → ℕ → Type 0
+IsOnWalk slots n slot = (k : ℕ) × (k < length slots + 8) × (slot_on slots n k ≡ slot) × AreUsed slots n k
 
--- the walk has come to its n-th place, behind used ones
-pub record IsAt (slots : List ℕ) (start n at : ℕ) : Type 0 where
-  pub is : at ≡ walk (length slots) start n
+-- the walk of the node has come to its n-th place, behind used ones
+pub record IsAt (slots : List ℕ) (node : Node) (n at : ℕ) : Type 0 where
+  pub is : at ≡ walk (length slots) node n
   pub inside : at < length slots
-  pub used : AreUsed slots start n
+  pub used : AreUsed slots node n
 
--- the slot is put at the first unused place of the walk
-pub record IsPlaced (old : List ℕ) (start slot : ℕ) (new : List ℕ) : Type 0 where
+-- the slot is put at the first unused place of the walk of the node
+pub record IsPlaced (old : List ℕ) (node : Node) (slot : ℕ) (new : List ℕ) : Type 0 where
   pub steps : ℕ
-  pub within : steps < length old
-  pub used : AreUsed old start steps
-  pub free : is_used (slot_on old start steps) ≡ false
-  pub is : new ≡ set old (walk (length old) start steps) slot
+  pub within : steps < length old + 8
+  pub inside : walk (length old) node steps < length old
+  pub used : AreUsed old node steps
+  pub free : is_used (slot_on old node steps) ≡ false
+  pub is : new ≡ set old (walk (length old) node steps) slot
 
 -- the slot of a node at place k of the list stands on the walk of the node
 abbrev pub IsFindable : List ℕ → ℕ → Node → Type 0
-IsFindable slots k n = IsOnWalk slots (start_of (length slots) n) (slot_of (mark_of n) (ref_at k))
+IsFindable slots k n = IsOnWalk slots n (slot_of (mark_of n) (ref_at k))
 
 -- the references of used slots are those of the first n nodes
 abbrev pub AreInside : ℕ → List ℕ → Type 0
@@ -79,7 +89,7 @@ AreInside n slots = (i : ℕ) → is_used (slot_at slots i) ≡ true → (2 ≤ 
 -- no slot on the first n places of the walk of a node is that of the node
 abbrev pub IsPassed : List Node → List ℕ → Node → ℕ → Type 0
 IsPassed nodes slots node n =
-    (i : ℕ) → i < n → (r : Ref) → slot_on slots (start_of (length slots) node) i ≡ slot_of (mark_of node) r → plain_held nodes r ≡ Some node → ⊥
+    (i : ℕ) → i < n → (r : Ref) → slot_on slots node i ≡ slot_of (mark_of node) r → plain_held nodes r ≡ Some node → ⊥
 
 -- the table has a slot for each of the first n nodes, and no others
 pub record HasFirst (nodes : List Node) (n : ℕ) (table : List ℕ) : Type 0 where

@@ -1,20 +1,17 @@
 use Rattle.std.proofs.Common.{◌≡◌, ◌<◌, ◌%◌, ◌/◌, ℕ, length, sym, ap, ◌∙◌, arith, subst}
 use Rattle.std.specs.Prelude.{Some}
 use Rattle.dd_nodes.specs.Plain.{plain_held}
-use Rattle.dd_growing.specs.private.Slots.{IsAt, ref_in, slot_at, mark_of, start_of}
+use Rattle.dd_growing.specs.private.Slots.{ref_in, slot_at, mark_of}
 use Rattle.dd_growing.proofs.Parts.{held_inside, ref_in-slot_of, slot_parts}
-use Rattle.dd_growing.proofs.Walks.{begins, goes_on, passes_on, start_lt, true_or_false}
+use Rattle.dd_growing.proofs.Walks.{begins, goes_on, passes_on, true_or_false}
 use Rattle.dd_growing.proofs.slots.find.Goals.{else-slot-mark-via-then-slot-mark+else-is_at, else-slot-mark-via-else-slot-mark}
 use Rattle.dd_growing.proofs.slots.find.Goals as goal
 
 pub loop-n-init : goal.loop-n-init
-loop-n-init c =
-    let xs = c.args.slots.now in
-    let start : ℕ = start_of (length xs) c.args.node in
-    record {
-      here = subst (IsAt xs start 0) (sym c.start_of-at.ensures.0) (begins xs start (start_lt (length xs) c.args.node c.requires.some));
-      passed = λ i lt. absurd (omega arith);
-    }
+loop-n-init c = record {
+  here = begins c.args.slots.now c.args.node c.near_of-at.result c.near_of-at.ensures.0 c.near_of-at.ensures.1;
+  passed = λ i lt. absurd (omega arith);
+}
 
 pub loop-n-preserved : goal.loop-n-preserved
 loop-n-preserved c =
@@ -22,7 +19,7 @@ loop-n-preserved c =
     let nodes = c.args.nodes.now in
     let i = c.loop-n.invariant in
     record {
-      here = goes_on xs _ c.loop-n.n c.loop-n.at c.next-at.result 0 i.here (sym c.is_used.ensures ∙ c.if-not-is_used.false) c.next-at.ensures.0 c.next-at.ensures.1;
+      here = goes_on xs c.args.node c.loop-n.n c.loop-n.at c.further-at.result 0 i.here (sym c.is_used.ensures ∙ c.if-not-is_used.false) c.further-at.ensures.0 c.further-at.ensures.1;
       passed = passes_on nodes xs c.args.node c.loop-n.n c.loop-n.at 0 i.here i.passed (λ r is held.
           let few = c.requires.few in
           let inside = held_inside nodes r c.args.node held in

@@ -4,6 +4,6 @@ use Rattle.dd_growing.proofs.slots.place.Given as goal
 
 abbrev pub invariant-loop-n : goal.invariant-loop-n
 invariant-loop-n l = record {
-  same : l.slots ≡ l.initial.slots;
-  here : IsAt l.initial.slots l.start l.n l.at;
+  same : l.table ≡ l.initial.table;
+  here : IsAt l.initial.table l.node l.n l.at;
 }
