@@ -7,7 +7,7 @@ ghost use Rattle.dd_growing.specs.private.Slots.{AreInside, HasFirst, IsOnWalk, 
 use dd_nodes::{Node, Ref};
 use std::alloc::{AllocError, Global};
 
-/// The number of places near the newer child with which a walk begins. So many take half of what a cache fetches at once.
+/// The number of places near the newer child with which a walk begins: half of what a cache fetches at once.
 const NEAR: usize = 8;
 
 /// Whether a slot has a node; one that has none is 0. A used one has the lower 8 bits of the mark of its node, and the
@@ -40,11 +40,15 @@ pub(crate) fn mark_of(node: Node) -> u32
 fn newer(node: Node) -> u32
     ensures { result ≡ newer node }
 {
-    if node.lo.0 < node.hi.0 { node.hi.0 } else { node.lo.0 }
+    if node.lo.0 < node.hi.0 {
+        node.hi.0
+    } else {
+        node.lo.0
+    }
 }
 
-/// The place where the walk of a node begins, of so many places. Nodes that are made one after another have children that
-/// were made one after another, and so slots near each other.
+/// The place where the walk of a node begins, of so many places: near its newer child. Nodes that are made one after
+/// another have such children too, and so slots near each other.
 fn near_of(node: Node, size: usize) -> usize
     requires { 0 < size }
     ensures { (result ≡ near_of size node) × (result < size) }

@@ -46,8 +46,8 @@ near_of size n = cond (nat_lt (newer n * 2) size) (newer n * 2) 0
 unfoldable pub far_of : ℕ → Node → ℕ
 far_of size n = mark_of n * size / 2 ^ 32
 
--- The place that the walk of a node comes to after k others: eight near the newer child, and then all from a place that the
--- mark gives; behind the last place comes the first one.
+-- The place that the walk of a node comes to after k others: eight near the newer child, and then all from the one that
+-- the mark gives. The first place comes behind the last.
 unfoldable pub walk : ℕ → Node → ℕ → ℕ
 walk size n k = cond (nat_lt k 8) (near_of size n + k) (far_of size n + (k - 8)) % size
 

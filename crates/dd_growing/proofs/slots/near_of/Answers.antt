@@ -1,4 +1,3 @@
-use Rattle.std.proofs.Common.{arith}
 use Rattle.dd_growing.proofs.Walks.{near_first, near_twice}
 use Rattle.dd_growing.proofs.slots.near_of.Goals as goal
 
