@@ -30,6 +30,7 @@ use Rattle.sym_step.specs.declared.board.Board.{Board}
 use Rattle.sym_step.specs.declared.cut.Cut.{Cut}
 use Rattle.sym_step.specs.declared.frame.Frame.{Frame}
 use Rattle.sym_step.specs.declared.made.Step.{Step}
+use Rattle.sym_step.specs.declared.marks.Marks.{Marks}
 use Rattle.sym_step.specs.declared.net_rails.NetRails.{NetRails}
 use Rattle.sym_step.specs.Step.{HaveSets, IsCutBy, IsStep}
 use Rattle.sym_step.specs.private.Boards.{AreFull, Follows}
@@ -71,7 +72,7 @@ given_same s net old new gate out ins given sets have =
     (given sets (λ i d l. subst (AreNetRails s (sets (get_or gate.inputs i d).0)) (ins i d l) (have i d l)))
 
 -- a gate that is not due after writes was not before, and has given its output its set still
-pub spared_follows : (s : Store) (net : RawNet) (asked : List NodeId) (old new : Board) → length net.gates ≤ length old.due.items → Follows old new → AreSpared s net asked old → AreSpared s net asked new
+pub spared_follows : (s : Store) (net : RawNet) (asked : List NodeId) (old new : Board) → length net.gates ≤ length old.due.flags.items → Follows old new → AreSpared s net asked old → AreSpared s net asked new
 spared_follows s net asked old new due f spared k d lt none =
     let gate : Gate = get_or net.gates k d in
     let q = f.noted k (omega (arith, due, lt)) none in
@@ -83,7 +84,7 @@ spared_follows s net asked old new due f spared k d lt none =
     }
 
 -- or where nothing but marks of latches has changed
-pub spared_same : (s : Store) (net : RawNet) (asked : List NodeId) (old new : Board) → new.nets ≡ old.nets → new.readers ≡ old.readers → ((k : ℕ) → k < length net.gates → flag_at new.due.items k ≡ flag_at old.due.items k)
+pub spared_same : (s : Store) (net : RawNet) (asked : List NodeId) (old new : Board) → new.nets ≡ old.nets → new.readers ≡ old.readers → ((k : ℕ) → k < length net.gates → flag_at new.due.flags.items k ≡ flag_at old.due.flags.items k)
     → AreSpared s net asked old → AreSpared s net asked new
 spared_same s net asked old new nets readers flags spared k d lt none =
     let gate : Gate = get_or net.gates k d in
@@ -144,12 +145,14 @@ frame_keeps s t net frame range ds dt k f =
       refs = All-net-refs-keep s t nets ds dt k f.refs;
       full = f.full;
       due = f.due;
+      order = f.order;
       room = f.room;
       inside = f.inside;
       undriven = λ id lt is none. Net-keeps s t everything (net_at nets id) ds dt k (f.undriven id lt is none);
       first = λ sets is. let h = f.first sets is in record { long = h.long; refs = All-refs-keep s t sets k h.refs };
       blank = f.blank;
       lists = f.lists;
+      spare = f.spare;
       carried = f.carried;
       kept = λ n d lt none uncut. given_keeps s t net nets (get_or net.gates n d) ds dt k f.refs (inside_by net nets range f.long n d lt) (f.kept n d lt none uncut);
     }
@@ -188,12 +191,14 @@ with_first s net frame first f h = record {
   refs = f.refs;
   full = f.full;
   due = f.due;
+  order = f.order;
   room = f.room;
   inside = f.inside;
   undriven = f.undriven;
   first = h;
   blank = f.blank;
   lists = f.lists;
+  spare = f.spare;
   kept = f.kept;
   carried = f.carried;
 }
@@ -205,12 +210,14 @@ with_full s net frame full f h = record {
   refs = f.refs;
   full = h;
   due = f.due;
+  order = f.order;
   room = f.room;
   inside = f.inside;
   undriven = f.undriven;
   first = f.first;
   blank = f.blank;
   lists = f.lists;
+  spare = f.spare;
   kept = f.kept;
   carried = f.carried;
 }
@@ -220,27 +227,29 @@ pub listed_ready : (s : Store) (net : RawNet) (frame : Frame) → IsFrame s net 
 listed_ready s net frame f told k lt none = f.lists told
 
 -- a frame with more marks
-pub with_due : (s : Store) (net : RawNet) (frame : Frame) (due : Vec Bool) → length due.items ≡ length frame.board.due.items → ((k : ℕ) → k < length frame.board.due.items → flag_at due.items k ≡ false → flag_at frame.board.due.items k ≡ false)
+pub with_due : (s : Store) (net : RawNet) (frame : Frame) (due : Marks) → length due.flags.items ≡ length frame.board.due.flags.items → due.order ≡ frame.board.due.order → ((k : ℕ) → k < length frame.board.due.flags.items → flag_at due.flags.items k ≡ false → flag_at frame.board.due.flags.items k ≡ false)
     → IsFrame s net frame → IsFrame s net (record frame { board = record frame.board { due = due } })
-with_due s net frame due long fewer f = record {
+with_due s net frame due long order fewer f = record {
   long = f.long;
   refs = f.refs;
   full = f.full;
   due = long ∙ f.due;
+  order = subst (λ (v : Vec ℕ). IsSettledOrder net v.items) (sym order) f.order;
   room = f.room;
   inside = f.inside;
   undriven = f.undriven;
   first = f.first;
-  blank = λ none k lt. by k (omega (arith, size, lt)) (f.blank none k lt) (flag_at due.items k) refl;
+  blank = λ none k lt. by k (omega (arith, size, lt)) (f.blank none k lt) (flag_at due.flags.items k) refl;
   lists = f.lists;
+  spare = f.spare;
   kept = λ k d lt none uncut. f.kept k d lt (fewer k (omega (arith, size, lt)) none) uncut;
   carried = λ k d lt none uncut. f.carried k d lt (fewer (length net.gates + k) (omega (arith, size, lt)) none) uncut;
 }
   where
-    size : length frame.board.due.items ≡ length net.gates + length net.latches
+    size : length frame.board.due.flags.items ≡ length net.gates + length net.latches
     size = f.due
 
-    by : (k : ℕ) → k < length frame.board.due.items → flag_at frame.board.due.items k ≡ true → (b : Bool) → flag_at due.items k ≡ b → flag_at due.items k ≡ true
+    by : (k : ℕ) → k < length frame.board.due.flags.items → flag_at frame.board.due.flags.items k ≡ true → (b : Bool) → flag_at due.flags.items k ≡ b → flag_at due.flags.items k ≡ true
     by k lt was true e = e
     by k lt was false e = absurd (false≢true (sym (fewer k lt e) ∙ was))
 
@@ -256,12 +265,12 @@ unlisted_by net ids id k drives none = by (is_listed ids id) refl
         absurd (none at.0 z at.1 (ap (driver_number net) (at.2 z) ∙ drives))
 
 -- where the gates that drive cut nets are due, the others are spared
-pub all_spared : (s : Store) (net : RawNet) (frame : Frame) (asked : List NodeId) (mid due : Vec Bool) → HasOneDriver net → IsFrame s net frame → AreReady net frame → length mid.items ≡ length frame.board.due.items
-    → AreMarked (λ k. All (λ node. driver_number net node.0 ≢ Some k) frame.asked.items) frame.board.due.items mid.items
-    → AreMarked (λ k. All (λ node. driver_number net node.0 ≢ Some k) asked) mid.items due.items
+pub all_spared : (s : Store) (net : RawNet) (frame : Frame) (asked : List NodeId) (mid due : Marks) → HasOneDriver net → IsFrame s net frame → AreReady net frame → length mid.flags.items ≡ length frame.board.due.flags.items
+    → AreMarked (λ k. All (λ node. driver_number net node.0 ≢ Some k) frame.asked.items) frame.board.due.flags.items mid.flags.items
+    → AreMarked (λ k. All (λ node. driver_number net node.0 ≢ Some k) asked) mid.flags.items due.flags.items
     → AreSpared s net asked (record frame.board { due = due })
 all_spared s net frame asked mid due one f ready long before now k d lt none =
-    let size : length frame.board.due.items ≡ length net.gates + length net.latches = f.due in
+    let size : length frame.board.due.flags.items ≡ length net.gates + length net.latches = f.due in
     let late = now k (omega (arith, long, size, lt)) none in
     let early = before k (omega (arith, size, lt)) late.0 in
     let out : ℕ = (get_or net.gates k d).output.0 in

@@ -15,11 +15,12 @@ use Rattle.dual_rail.proofs.Turns.{zip_at, zip_long}
 use Rattle.net_core.specs.declared.raw.Init.TheVariants.{Zero}
 use Rattle.net_core.specs.declared.raw.Latch.{Latch}
 use Rattle.net_core.specs.declared.raw.RawNet.{RawNet}
-use Rattle.net_core.specs.Flat.{IsInRange, HasOneDriver}
+use Rattle.net_core.specs.Flat.{IsInRange, HasOneDriver, IsSettledOrder}
 use Rattle.net_core.specs.Work.{ArePossibleEach, SymbolicCut, SymbolicSet, after_cuts, everything, uncut}
 use Rattle.sym_step.specs.declared.board.Board.{Board}
 use Rattle.sym_step.specs.declared.cut.Cut.{Cut}
 use Rattle.sym_step.specs.declared.frame.Frame.{Frame}
+use Rattle.sym_step.specs.declared.marks.Marks.{Marks}
 use Rattle.sym_step.specs.declared.latches.LatchSet.{LatchSet}
 use Rattle.sym_step.specs.declared.net_rails.NetRails.{NetRails}
 use Rattle.sym_step.specs.Step.{IsCutBy}
@@ -43,12 +44,12 @@ no_rails = record { can0 = record { 0 = 0 }; can1 = record { 0 = 0 } }
 -- ---- latches that are not due
 
 -- where the latches that drive cut nets are due, the outputs of the others have the references of their inputs
-pub all_carried : (s : Store) (net : RawNet) (frame : Frame) (asked : List NodeId) (mid due : Vec Bool) → HasOneDriver net → IsFrame s net frame → AreReady net frame → length mid.items ≡ length frame.board.due.items
-    → AreMarked (λ k. All (λ node. driver_number net node.0 ≢ Some k) frame.asked.items) frame.board.due.items mid.items
-    → AreMarked (λ k. All (λ node. driver_number net node.0 ≢ Some k) asked) mid.items due.items
+pub all_carried : (s : Store) (net : RawNet) (frame : Frame) (asked : List NodeId) (mid due : Marks) → HasOneDriver net → IsFrame s net frame → AreReady net frame → length mid.flags.items ≡ length frame.board.due.flags.items
+    → AreMarked (λ k. All (λ node. driver_number net node.0 ≢ Some k) frame.asked.items) frame.board.due.flags.items mid.flags.items
+    → AreMarked (λ k. All (λ node. driver_number net node.0 ≢ Some k) asked) mid.flags.items due.flags.items
     → AreCarried net asked (record frame.board { due = due })
 all_carried s net frame asked mid due one f ready long before now k d lt none =
-    let size : length frame.board.due.items ≡ length net.gates + length net.latches = f.due in
+    let size : length frame.board.due.flags.items ≡ length net.gates + length net.latches = f.due in
     let number : ℕ = length net.gates + k in
     let late = now number (omega (arith, long, size, lt)) none in
     let early = before number (omega (arith, size, lt)) late.0 in
@@ -61,7 +62,7 @@ all_carried s net frame asked mid due one f ready long before now k d lt none =
     }
 
 -- a latch that is not due after writes was not before, and neither its input nor its output has got other references
-pub carried_follows : (net : RawNet) (asked : List NodeId) (old new : Board) → length old.due.items ≡ length net.gates + length net.latches → Follows old new → AreCarried net asked old → AreCarried net asked new
+pub carried_follows : (net : RawNet) (asked : List NodeId) (old new : Board) → length old.due.flags.items ≡ length net.gates + length net.latches → Follows old new → AreCarried net asked old → AreCarried net asked new
 carried_follows net asked old new size f carried k d lt none =
     let latch : Latch = get_or net.latches k d in
     let q = f.noted (length net.gates + k) (omega (arith, size, lt)) none in
@@ -138,17 +139,19 @@ module _ (net : RawNet) (range : IsInRange net) (one : HasOneDriver net) (ls : L
   frame_given s frame cuts asked sets f zip possible zipc is are = given_by s (next_of net frame) cuts asked frame.board.nets.items sets (next_first s net frame range f).long f.long f.refs zip possible zipc is are
 
 -- a frame once the latches' sets have been read
-pub begins : (s : Store) (net : RawNet) (asked : List NodeId) (frame : Frame) (board : Board) → IsFrame s net frame → AreSpared s net asked frame.board → board.nets ≡ frame.board.nets → board.readers ≡ frame.board.readers → board.full ≡ frame.board.full
-    → length board.due.items ≡ length frame.board.due.items → ((k : ℕ) → k < length net.gates → flag_at board.due.items k ≡ flag_at frame.board.due.items k) → AreCarried net asked board → Begins s net asked (record frame { first = None; board = board })
-begins s net asked frame board f spared nets readers full due flags carried = record {
+pub begins : (s : Store) (net : RawNet) (asked : List NodeId) (frame : Frame) (board : Board) → IsFrame s net frame → AreSpared s net asked frame.board → board.nets ≡ frame.board.nets → board.readers ≡ frame.board.readers → board.full ≡ frame.board.full → board.due.order ≡ frame.board.due.order
+    → length board.due.flags.items ≡ length frame.board.due.flags.items → ((k : ℕ) → k < length net.gates → flag_at board.due.flags.items k ≡ flag_at frame.board.due.flags.items k) → AreCarried net asked board → Begins s net asked (record frame { first = None; board = board })
+begins s net asked frame board f spared nets readers full order due flags carried = record {
   long = ap (λ (v : Vec NetRails). length v.items) nets ∙ f.long;
   refs = subst (λ (v : Vec NetRails). All (AreNetRefs s) v.items) (sym nets) f.refs;
   full = λ told. subst (λ (v : Vec NetRails). AreFull v.items) (sym nets) (f.full (subst IsTrue full told));
   due = due ∙ f.due;
+  order = subst (λ (v : Vec ℕ). IsSettledOrder net v.items) (sym order) f.order;
   room = f.room;
   inside = f.inside;
   undriven = subst (λ (v : Vec NetRails). AreOpen s net frame.asked.items v.items) (sym nets) f.undriven;
   lists = λ told. subst (AreReaders net) (sym readers) (f.lists told);
+  spare = f.spare;
   spared = spared_same s net asked frame.board board nets readers flags spared;
   carried = carried;
 }
@@ -256,18 +259,18 @@ carried_same asked old new k latch nets readers h = record {
 
 -- where one mark was taken away, its latch has no other references than its input
 pub carried_next : (net : RawNet) (asked : List NodeId) (marks : List Bool) (listed : Bool) (old new : Board) (n : ℕ) (latch : Latch) → n < length net.latches → latch ≡ get_or net.latches n latch → HaveMarks asked marks
-    → (IsTrue listed → AreReaders net old.readers) → new.nets ≡ old.nets → new.readers ≡ old.readers → ((k : ℕ) → k ≢ length net.gates + n → flag_at new.due.items k ≡ flag_at old.due.items k)
-    → (flag_at new.due.items (length net.gates + n) ≡ false → (flag_at old.due.items (length net.gates + n) ≡ false) ⊎ (IsTrue listed × IsCopied marks old.nets.items latch))
+    → (IsTrue listed → AreReaders net old.readers) → new.nets ≡ old.nets → new.readers ≡ old.readers → ((k : ℕ) → k ≢ length net.gates + n → flag_at new.due.flags.items k ≡ flag_at old.due.flags.items k)
+    → (flag_at new.due.flags.items (length net.gates + n) ≡ false → (flag_at old.due.flags.items (length net.gates + n) ≡ false) ⊎ (IsTrue listed × IsCopied marks old.nets.items latch))
     → AreCarried net asked old → AreCarried net asked new
 carried_next net asked marks listed old new n latch inside is have lists nets readers others cleared carried k d lt none = elim (cases_eq k n) [
-  | inl here ↦ subst (λ (i : ℕ). IsCarried asked new (length net.gates + i) (get_or net.latches i d)) (sym here) (by (cleared (subst (λ (i : ℕ). flag_at new.due.items (length net.gates + i) ≡ false) here none)))
+  | inl here ↦ subst (λ (i : ℕ). IsCarried asked new (length net.gates + i) (get_or net.latches i d)) (sym here) (by (cleared (subst (λ (i : ℕ). flag_at new.due.flags.items (length net.gates + i) ≡ false) here none)))
   | inr other ↦ carried_same asked old new (length net.gates + k) (get_or net.latches k d) nets readers (carried k d lt (sym (others (length net.gates + k) (λ e. other (omega (arith, e)))) ∙ none))
 ]
   where
     number : ℕ
     number = length net.gates + n
 
-    by : (flag_at old.due.items number ≡ false) ⊎ (IsTrue listed × IsCopied marks old.nets.items latch) → IsCarried asked new number (get_or net.latches n d)
+    by : (flag_at old.due.flags.items number ≡ false) ⊎ (IsTrue listed × IsCopied marks old.nets.items latch) → IsCarried asked new number (get_or net.latches n d)
     by (inl was) = carried_same asked old new number (get_or net.latches n d) nets readers (carried n d inside was)
     by (inr (told, copied)) =
         let at : get_or net.latches n d ≡ latch = latch_at net.latches n latch d inside is in

@@ -13,8 +13,11 @@ pub mod Pairs
 pub mod Summing
 pub mod RowSums
 pub mod Whole
+pub mod Asleep
 pub mod Chains
 pub mod Reading
 pub mod Framing
+pub mod Passing
+pub mod Apart
 pub mod Opened
 pub mod Latched

@@ -1,7 +1,7 @@
 -- The nets that latches drive, and those that nothing drives, get their sets.
 use Rattle.std.proofs.Common.{◌≡◌, ◌≢◌, ℕ, zero, suc, ◌+◌, ◌<◌, Bool, true, false, List, [], ◌∷◌, length, map, get_or, set, replicate, None, refl, sym, ◌∙◌, ap, subst, arith, inl, inr, All, get_or-set_same, get_or-set_other, Ok, Err, Result}
 use Rattle.dd_ops.specs.declared.fault.OpFault.{OpFault}
-use Rattle.std.specs.Prelude.{OnOk, AllPairs}
+use Rattle.std.specs.Prelude.{IfSome, OnOk, AllPairs}
 use Rattle.std.specs.List.{AllZip}
 use Rattle.std.proofs.lemmas.Bool.{cases_eq, cases_lt, false≢true}
 use Rattle.std.proofs.lemmas.List.{get_or_default, length-replicate}
@@ -14,7 +14,7 @@ use Rattle.net_core.specs.declared.raw.Latch.{Latch}
 use Rattle.net_core.specs.declared.raw.RawNet.{RawNet}
 use Rattle.net_core.specs.declared.source.Source.{Source}
 use Rattle.net_core.specs.declared.source.Source.TheVariants.{Input, Free, Gate as OfGate, Latch as OfLatch}
-use Rattle.net_core.specs.Flat.{IsInRange, HasOneDriver}
+use Rattle.net_core.specs.Flat.{IsInRange, HasOneDriver, IsSettledOrder}
 use Rattle.net_core.specs.Source.{source_of}
 use Rattle.net_core.specs.Work.{ArePossibleEach, SymbolicCut, SymbolicSet, after_cuts, everything, uncut}
 use Rattle.net_core.proofs.OneTime.{Facts, fixed}
@@ -25,7 +25,7 @@ use Rattle.sym_step.specs.declared.frame.Frame.{Frame}
 use Rattle.sym_step.specs.private.Frames.{AreOpen, HaveLatches, HaveOpen, IsFrame, IsOpen, StayRight, is_listed, mark_count}
 use Rattle.sym_step.specs.declared.latches.LatchSet.{LatchSet}
 use Rattle.sym_step.specs.private.Latches.{HaveLatchSets}
-use Rattle.sym_step.specs.private.Readers.{flag_at}
+use Rattle.sym_step.specs.private.Readers.{AreReaders, flag_at}
 use Rattle.sym_step.specs.private.NetSets.{AreNetRails, AreNetRefs, net_at}
 use Rattle.sym_step.specs.private.Parts.{HaveNets, HaveSources, asks}
 use Rattle.sym_step.proofs.Framing.{listed_at, not_first, unlisted}
@@ -49,24 +49,26 @@ at_replicate (suc n) zero x d lt = refl
 at_replicate (suc n) (suc k) x d lt = at_replicate n k x d (omega (arith, lt))
 
 -- a frame of no time is one
-pub blank_is : (s : Store) (net : RawNet) (frame : Frame) → IsGood s → frame.board.nets.items ≡ replicate net.nets unknown → frame.board.due.items ≡ replicate (mark_count net) true → frame.board.full ≡ false → frame.asked.items ≡ [] → frame.first ≡ None → frame.listed ≡ false
+pub blank_is : (s : Store) (net : RawNet) (frame : Frame) → IsGood s → frame.board.nets.items ≡ replicate net.nets unknown → frame.board.due.flags.items ≡ replicate (mark_count net) true → IsSettledOrder net frame.board.due.order.items → IfSome frame.spare (AreReaders net) → frame.board.full ≡ false → frame.asked.items ≡ [] → frame.first ≡ None → frame.listed ≡ false
     → All (λ gate. length gate.inputs < length frame.products.items) net.gates → IsFrame s net frame
-blank_is s net frame gs nets due full asked none listed room = record {
+blank_is s net frame gs nets due order spare full asked none listed room = record {
   room = room;
   long = ap length nets ∙ length-replicate net.nets unknown;
   refs = subst (All (AreNetRefs s)) (sym nets) (all_unknown s net.nets gs);
   full = λ yes. absurd (false≢true (sym full ∙ yes));
   due = ap length due ∙ length-replicate (mark_count net) true;
+  order = order;
   inside = subst (All (λ (node : NodeId). node.0 < net.nets)) (sym asked) (All-nil (λ (node : NodeId). node.0 < net.nets));
   first = not_first s net frame.first none;
   undriven = λ id lt is listed. subst (AreNetRails s everything) (sym (ap (λ (xs : List NetRails). net_at xs id) nets ∙ at_replicate net.nets id unknown unknown lt)) (unknown_net s gs);
   blank = λ begun k lt. marked k lt;
   lists = λ yes. absurd (false≢true (sym listed ∙ yes));
+  spare = spare;
   kept = λ k d lt flag uncut. absurd (false≢true (sym flag ∙ marked k (omega (arith, lt))));
   carried = λ k d lt flag uncut. absurd (false≢true (sym flag ∙ marked (length net.gates + k) (omega (arith, lt))));
 }
   where
-    marked : (k : ℕ) → k < length net.gates + length net.latches → flag_at frame.board.due.items k ≡ true
+    marked : (k : ℕ) → k < length net.gates + length net.latches → flag_at frame.board.due.flags.items k ≡ true
     marked k lt = ap (λ (xs : List Bool). flag_at xs k) due ∙ at_replicate (length net.gates + length net.latches) k true false lt
 
 -- no two latches drive one net

@@ -15,8 +15,10 @@ use Rattle.net_core.specs.declared.raw.Gate.{Gate}
 use Rattle.net_core.specs.declared.raw.Init.TheVariants.{Zero}
 use Rattle.net_core.specs.declared.raw.Latch.{Latch}
 use Rattle.net_core.specs.declared.raw.RawNet.{RawNet}
-use Rattle.net_core.specs.Flat.{HasOneDriver, IsInRange}
+use Rattle.std.specs.Global.{Vec}
+use Rattle.net_core.specs.Flat.{HasOneDriver, IsInRange, IsSettledOrder}
 use Rattle.sym_step.specs.declared.board.Board.{Board}
+use Rattle.sym_step.specs.declared.marks.Marks.{Marks}
 use Rattle.sym_step.specs.declared.net_rails.NetRails.{NetRails}
 use Rattle.sym_step.specs.private.Boards.{AreFull, Follows}
 use Rattle.sym_step.specs.private.NetSets.{net_at}
@@ -188,12 +190,13 @@ full_put nets id r lt some full k d l = elim (cases_eq k id) [
 ]
 
 -- the board with one net written, where the gates in its list are marked
-pub follows_marked : (old new : Board) (id : ℕ) (r : NetRails) → id < length old.nets.items → new.nets.items ≡ set old.nets.items id r → new.readers ≡ old.readers → length new.due.items ≡ length old.due.items
+pub follows_marked : (old new : Board) (id : ℕ) (r : NetRails) → id < length old.nets.items → new.nets.items ≡ set old.nets.items id r → new.due.order ≡ old.due.order → new.readers ≡ old.readers → length new.due.flags.items ≡ length old.due.flags.items
     → (IsTrue new.full → IsTrue old.full × (r.some ≡ record { 0 = 1 }))
-    → AreMarked (λ k. ¬ Lists old.readers id k) old.due.items new.due.items → Follows old new
-follows_marked old new id r lt is readers marks full marked = record {
+    → AreMarked (λ k. ¬ Lists old.readers id k) old.due.flags.items new.due.flags.items → Follows old new
+follows_marked old new id r lt is order readers marks full marked = record {
   long = ap length is ∙ length-set old.nets.items id r;
   marks = marks;
+  order = order;
   readers = readers;
   full = λ before yes. let both = full yes in subst AreFull (sym is) (full_put old.nets.items id r lt both.1 (before both.0));
   noted = λ k inside none.
@@ -211,11 +214,12 @@ pub follows_same : (old new : Board) (id : ℕ) (r : NetRails) → id < length o
     → (IsTrue new.full → IsTrue old.full × (r.some ≡ record { 0 = 1 })) → ((d : NetRails) → r ≡ get_or old.nets.items id d) → Follows old new
 follows_same old new id r lt is readers due full same = record {
   long = ap length is ∙ length-set old.nets.items id r;
-  marks = ap (λ d. length d.items) due;
+  marks = ap (λ (d : Marks). length d.flags.items) due;
+  order = ap (λ (d : Marks). d.order) due;
   readers = readers;
   full = λ before yes. let both = full yes in subst AreFull (sym is) (full_put old.nets.items id r lt both.1 (before both.0));
   noted = λ k inside none. (
-    sym (ap (λ d. flag_at d.items k) due) ∙ none,
+    sym (ap (λ (d : Marks). flag_at d.flags.items k) due) ∙ none,
     λ other h. elim (cases_eq other id) [
       | inl here ↦ ap (λ (xs : List NetRails). net_at xs other) is ∙ ap (λ (i : ℕ). net_at (set old.nets.items id r) i) here ∙ get_or-set_same old.nets.items id r _ lt ∙ same _ ∙ ap (λ (i : ℕ). net_at old.nets.items i) (sym here)
       | inr away ↦ ap (λ (xs : List NetRails). net_at xs other) is ∙ get_or-set_other old.nets.items id other r _ away
@@ -224,12 +228,13 @@ follows_same old new id r lt is readers due full same = record {
 }
 
 pub follows_start : (board : Board) → Follows board board
-follows_start board = record { long = refl; marks = refl; readers = refl; full = λ h. h; noted = λ k inside none. (none, λ id h. refl) }
+follows_start board = record { long = refl; marks = refl; order = refl; readers = refl; full = λ h. h; noted = λ k inside none. (none, λ id h. refl) }
 
 pub follows_then : (a b c : Board) → Follows a b → Follows b c → Follows a c
 follows_then a b c p q = record {
   long = q.long ∙ p.long;
   marks = q.marks ∙ p.marks;
+  order = q.order ∙ p.order;
   readers = q.readers ∙ p.readers;
   full = λ h. q.full (p.full h);
   noted = λ k inside none.
@@ -237,3 +242,7 @@ follows_then a b c p q = record {
       let early = p.noted k inside late.0 in
       (early.0, λ id h. late.1 id (subst (λ r. Lists r id k) (sym p.readers) h) ∙ early.1 id h);
 }
+
+-- the order stays a settled one
+pub order_then : (a b : Board) (net : RawNet) → Follows a b → IsSettledOrder net a.due.order.items → IsSettledOrder net b.due.order.items
+order_then a b net p h = subst (λ (v : Vec ℕ). IsSettledOrder net v.items) (sym p.order) h

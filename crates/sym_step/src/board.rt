@@ -3,6 +3,7 @@
 ghost use Rattle.std.specs.Prelude.{◌≡◌, ◌<◌, IsTrue, length, set};
 ghost use Rattle.sym_step.specs.private.Boards.{Follows};
 
+use crate::marks::Marks;
 use crate::net_rails::NetRails;
 use crate::readers::Readers;
 use dd_nodes::Ref;
@@ -13,7 +14,7 @@ use dd_nodes::Ref;
 #[derive(Debug, Drop)]
 pub struct Board {
     pub nets: Vec<NetRails>,
-    pub due: Vec<bool>,
+    pub due: Marks,
     pub readers: Readers,
     pub full: bool,
 }

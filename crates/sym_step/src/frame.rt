@@ -1,6 +1,6 @@
 //! What is kept of one time for the next; begin with `Frame`.
 
-ghost use Rattle.std.specs.Prelude.{◌≡◌, ◌<◌, ◌≤◌, ℕ, IfOk, IsTrue, OnOk, All, length, map};
+ghost use Rattle.std.specs.Prelude.{◌≡◌, ◌<◌, ◌≤◌, ℕ, IfOk, IfSome, IsTrue, OnOk, All, [], false, length, map, replicate};
 ghost use Rattle.dd_nodes.specs.Diagram.{IsDiagram};
 ghost use Rattle.dd_nodes.specs.Stores.{Store};
 ghost use Rattle.net_core.specs.declared.raw.RawNet.{RawNet};
@@ -8,10 +8,11 @@ ghost use Rattle.dual_rail.specs.Rail.{AreRefs};
 ghost use Rattle.sym_step.specs.Step.{rails_at};
 ghost use Rattle.sym_step.specs.private.Boards.{AreFull};
 ghost use Rattle.sym_step.specs.private.Frames.{AreCarried, AreReady, AreSpared, IsFrame, input_rails, nets_of, next_of};
-ghost use Rattle.sym_step.specs.private.Readers.{flag_at};
+ghost use Rattle.sym_step.specs.private.Readers.{AreReaders};
 
 use crate::board::Board;
 use crate::cut::Cut;
+use crate::marks::Marks;
 use crate::net_rails::NetRails;
 use crate::readers::{Readers, mark_drivers};
 use dd_nodes::Ref;
@@ -24,15 +25,47 @@ use ste_base::{Items, NodeId};
 /// gates and latches that are due; beside them room for the products of a row, and before a first time the sets of the
 /// latches there. In a blank frame all nets have both bits, and all gates and latches are due. Once times go on from one
 /// another it is listed which gates and latches read a net or drive it, and one is due only where an input or its output has
-/// another set than before, or its output is cut now or was before; any other keeps its output's set.
+/// another set than before, or its output is cut now or was before; any other keeps its output's set. A frame that begins
+/// anew has its lists laid by (`spare`).
 #[derive(Debug, Drop)]
 pub struct Frame {
     pub(crate) board: Board,
     pub(crate) asked: Vec<NodeId>,
     pub(crate) products: Vec<Ref>,
     pub(crate) first: Option<Items<Rails>>,
+    pub(crate) spare: Option<Readers>,
     pub(crate) begun: bool,
     pub(crate) listed: bool,
+}
+
+/// As many nets, each with both bits.
+fn all_free(nets: Vec<NetRails>) -> Vec<NetRails>
+    ensures { result.items ≡ replicate (length nets.items)
+        (record { can0 = Ref.TRUE; can1 = Ref.TRUE; some = Ref.TRUE; known = false }) }
+{
+    let mut nets = nets;
+    nets.fill(NetRails::free());
+    nets
+}
+
+/// No net, in the memory of these.
+fn none_asked(asked: Vec<NodeId>) -> Vec<NodeId>
+    ensures { result.items ≡ [] }
+{
+    let mut none = asked;
+    none.clear();
+    none
+}
+
+/// The lists that a frame lays by when it begins anew: those that it has, where they are made.
+fn laid_by(listed: bool, readers: Readers, spare: Option<Readers>) -> Option<Readers>
+    ensures { (net : RawNet) → (IsTrue listed → AreReaders net readers)
+        → IfSome spare (AreReaders net) → IfSome result (AreReaders net) }
+{
+    if listed {
+        return Some(readers);
+    }
+    spare
 }
 
 impl Frame {
@@ -42,7 +75,7 @@ impl Frame {
             → IsDiagram s.held s.vars → IsFrame s net.now.raw frame) }
     {
         let nets = vec![in alloc; NetRails::free(); net.nets() as usize]?;
-        let due = vec![in alloc; true; net.gates().len() + net.latches().len()]?;
+        let due = Marks::all(alloc, net.settled(), net.gates().len() + net.latches().len())?;
         let products = room(alloc, net.gates())?;
         let board = Board {
             nets,
@@ -55,6 +88,7 @@ impl Frame {
             asked: Vec::new(alloc),
             products,
             first: None,
+            spare: None,
             begun: false,
             listed: false,
         })
@@ -80,6 +114,43 @@ impl Frame {
     {
         self.first = Some(first);
         self
+    }
+
+    /// This frame as one of no time, with its memory and its lists.
+    pub fn forgotten(self, alloc: Global) -> Frame
+        ensures { (s : Store) (net : RawNet) → IsDiagram s.held s.vars → IsFrame s net self
+            → IsFrame s net result }
+    {
+        let Frame {
+            board,
+            asked,
+            products,
+            first: _,
+            spare,
+            begun: _,
+            listed,
+        } = self;
+        let Board {
+            nets,
+            due,
+            readers,
+            full: _,
+        } = board;
+        let board = Board {
+            nets: all_free(nets),
+            due: due.all_marked(),
+            readers: Readers::none(alloc),
+            full: false,
+        };
+        Frame {
+            board,
+            asked: none_asked(asked),
+            products,
+            first: None,
+            spare: laid_by(listed, readers, spare),
+            begun: false,
+            listed: false,
+        }
     }
 
     /// The set of a net at the time of the frame.
@@ -131,6 +202,17 @@ pub fn own_sets(alloc: Global, frame: &Frame, latches: &[Latch]) -> Result<Items
     Ok(Items::from(found))
 }
 
+/// The lists of a net: these, where there are some.
+fn lists_of(alloc: Global, net: &Net, spare: Option<Readers>) -> Result<Readers, AllocError>
+    ensures { IfOk result (λ readers. IfSome spare (AreReaders net.now.raw)
+        → AreReaders net.now.raw readers) }
+{
+    match spare {
+        Some(readers) => Ok(readers),
+        None => Readers::of_net(alloc, net),
+    }
+}
+
 /// Lists which gates and latches read a net or drive it, where times go on from one another. In a blank frame all of them
 /// are due, and none is looked for.
 fn with_lists(alloc: Global, net: &Net, frame: &mut Frame) -> Result<(), AllocError>
@@ -146,7 +228,7 @@ fn with_lists(alloc: Global, net: &Net, frame: &mut Frame) -> Result<(), AllocEr
     if !frame.begun {
         return Ok(());
     }
-    frame.board.readers = Readers::of_net(alloc, net)?;
+    frame.board.readers = lists_of(alloc, net, frame.spare.take())?;
     frame.listed = true;
     Ok(())
 }
@@ -171,17 +253,6 @@ pub fn make_due(
     mark_drivers(net, before, &mut frame.board.due);
     mark_drivers(net, asked, &mut frame.board.due);
     Ok(())
-}
-
-/// Takes the first marks away.
-pub fn clear(flags: &mut Vec<bool>, count: usize)
-    requires { count ≤ length flags.old.items }
-    ensures long { length flags.new.items ≡ length flags.old.items }
-    ensures rest { (k : ℕ) → count ≤ k → flag_at flags.new.items k ≡ flag_at flags.old.items k }
-{
-    for at in 0..count {
-        flags[at] = false;
-    }
 }
 
 /// Whether each set has a bit everywhere, by its references.

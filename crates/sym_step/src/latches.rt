@@ -67,28 +67,31 @@ fn due_set(
     listed: bool,
     board: &mut Board,
 ) -> Option<LatchSet>
-    requires number { number < length board.old.due.items }
+    requires number { number < length board.old.due.flags.items }
     requires marked { length marks.now ≡ length board.old.nets.items }
     requires input { latch.now.input.0 < length board.old.nets.items }
     requires output { latch.now.output.0 < length board.old.nets.items }
     ensures nets { board.new.nets ≡ board.old.nets }
     ensures readers { board.new.readers ≡ board.old.readers }
+    ensures order { board.new.due.order ≡ board.old.due.order }
     ensures full { board.new.full ≡ board.old.full }
-    ensures long { length board.new.due.items ≡ length board.old.due.items }
+    ensures long { length board.new.due.flags.items ≡ length board.old.due.flags.items }
     ensures others { (k : ℕ) → k ≢ number
-        → flag_at board.new.due.items k ≡ flag_at board.old.due.items k }
+        → flag_at board.new.due.flags.items k ≡ flag_at board.old.due.flags.items k }
     ensures some { IfSome result (λ set. set ≡ latch_set board.old.nets.items latch.now) }
-    ensures none { result ≡ None → (flag_at board.old.due.items number ≡ false)
+    ensures none { result ≡ None → (flag_at board.old.due.flags.items number ≡ false)
         ⊎ IsCopied marks.now board.old.nets.items latch.now }
-    ensures cleared { flag_at board.new.due.items number ≡ false
-        → (flag_at board.old.due.items number ≡ false)
+    ensures cleared { flag_at board.new.due.flags.items number ≡ false
+        → (flag_at board.old.due.flags.items number ≡ false)
         ⊎ (IsTrue listed × IsCopied marks.now board.old.nets.items latch.now) }
 {
-    if !board.due[number] {
+    if !board.due.is_marked(number) {
         return None;
     }
     if is_copied(&board.nets, marks, latch) {
-        board.due[number] = !listed;
+        if listed {
+            board.due.unmark(number);
+        }
         return None;
     }
     let given = board.nets[latch.input.0 as usize];
@@ -109,15 +112,16 @@ fn due_sets(
     board: &mut Board,
 ) -> Result<Vec<LatchSet>, AllocError>
     requires nets { length board.old.nets.items ≡ net.now.raw.nets }
-    requires due { length board.old.due.items ≡ mark_count net.now.raw }
+    requires due { length board.old.due.flags.items ≡ mark_count net.now.raw }
     requires marked { length marks.now ≡ net.now.raw.nets }
     requires lists { IsTrue listed → AreReaders net.now.raw board.old.readers }
     ensures nets { board.new.nets ≡ board.old.nets }
     ensures readers { board.new.readers ≡ board.old.readers }
+    ensures order { board.new.due.order ≡ board.old.due.order }
     ensures full { board.new.full ≡ board.old.full }
-    ensures long { length board.new.due.items ≡ length board.old.due.items }
+    ensures long { length board.new.due.flags.items ≡ length board.old.due.flags.items }
     ensures gates { (k : ℕ) → k < length net.now.raw.gates
-        → flag_at board.new.due.items k ≡ flag_at board.old.due.items k }
+        → flag_at board.new.due.flags.items k ≡ flag_at board.old.due.flags.items k }
     ensures carried { OnOk result ((asked : List NodeId) → HaveMarks asked marks.now
         → AreCarried net.now.raw asked board.old → AreCarried net.now.raw asked board.new) }
     ensures sets { IfOk result (λ sets. (asked : List NodeId) → HaveMarks asked marks.now
@@ -147,17 +151,18 @@ pub fn latch_sets(
     frame: &mut Frame,
 ) -> Result<Vec<LatchSet>, AllocError>
     requires nets { length frame.old.board.nets.items ≡ net.now.raw.nets }
-    requires due { length frame.old.board.due.items ≡ mark_count net.now.raw }
+    requires due { length frame.old.board.due.flags.items ≡ mark_count net.now.raw }
     requires marked { length marks.now ≡ net.now.raw.nets }
     requires first { length (next_of net.now.raw frame.old) ≡ length net.now.raw.latches }
     requires lists { IsTrue frame.old.listed → AreReaders net.now.raw frame.old.board.readers }
     ensures rest { frame.new ≡ record frame.old { first = None; board = frame.new.board } }
     ensures nets { frame.new.board.nets ≡ frame.old.board.nets }
     ensures readers { frame.new.board.readers ≡ frame.old.board.readers }
+    ensures order { frame.new.board.due.order ≡ frame.old.board.due.order }
     ensures full { frame.new.board.full ≡ frame.old.board.full }
-    ensures long { length frame.new.board.due.items ≡ length frame.old.board.due.items }
+    ensures long { length frame.new.board.due.flags.items ≡ length frame.old.board.due.flags.items }
     ensures gates { (k : ℕ) → k < length net.now.raw.gates
-        → flag_at frame.new.board.due.items k ≡ flag_at frame.old.board.due.items k }
+        → flag_at frame.new.board.due.flags.items k ≡ flag_at frame.old.board.due.flags.items k }
     ensures carried { OnOk result ((asked : List NodeId) → HaveMarks asked marks.now
         → AreCarried net.now.raw asked frame.old.board
         → AreCarried net.now.raw asked frame.new.board) }

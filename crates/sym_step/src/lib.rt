@@ -11,6 +11,7 @@ mod gates;
 mod latches;
 pub mod laws;
 pub mod made;
+mod marks;
 mod net_rails;
 mod one_row;
 pub mod piece;

@@ -6,6 +6,7 @@ ghost use Rattle.dd_nodes.specs.Stores.{IsRef};
 ghost use Rattle.net_core.specs.declared.cover.Cover.{Cover};
 ghost use Rattle.net_core.specs.Cases.{on_rows, off_rows};
 ghost use Rattle.net_core.specs.Cover.{IsCover};
+ghost use Rattle.net_core.specs.Flat.{IsSettledOrder};
 ghost use Rattle.net_core.specs.Work.{ArePossibleEach, SymbolicSet, SymbolicCut, after_cuts, cover_work, cuts_work, gate_set, gate_work, output_set, input_sets, some_bit, time_work};
 ghost use Rattle.dual_rail.specs.Rail.{Built, HasSet, Whatever};
 ghost use Rattle.sym_step.specs.Step.{IsCutBy, rows_of};
@@ -165,7 +166,7 @@ fn renew<N: Nodes>(
     requires width { (cover : Cover) → slice_get net.now.raw.covers g.now.cover ≡ Some cover
         → cover.inputs ≡ length g.now.inputs }
     requires cover { g.now.cover < length net.now.raw.covers }
-    requires number { number < length board.old.due.items }
+    requires number { number < length board.old.due.flags.items }
     requires output { g.now.output.0 < length board.old.nets.items }
     requires room { length g.now.inputs < length products.old }
     requires inside { All (λ input. input.0 < length board.old.nets.items) g.now.inputs }
@@ -175,7 +176,7 @@ fn renew<N: Nodes>(
     requires values { All (λ c. IsRef (N.store nodes.old) c.value) cuts.now }
     requires marks { AreMarks cuts.now marks.now }
     requires marked { length marks.now ≡ length board.old.nets.items }
-    requires spared { flag_at board.old.due.items number ≡ false
+    requires spared { flag_at board.old.due.flags.items number ≡ false
         → IsSpared (N.store nodes.old) net.now.raw (map (λ c. c.node) cuts.now) board.old number g.now }
     ensures room { length products.new ≡ length products.old }
     ensures nets { OnOk result (board.new.nets.items
@@ -197,7 +198,7 @@ fn renew<N: Nodes>(
         → AreNetRails (N.store nodes.new) (after_cuts ds before g.now.output.0)
         (net_at board.new.nets.items g.now.output.0)) }
 {
-    if !board.due[number] {
+    if !board.due.is_marked(number) {
         return Ok(());
     }
     let nets = board.nets.as_slice();
@@ -218,7 +219,8 @@ pub fn place_gates<N: Nodes>(
     board: &mut Board,
 ) -> Result<(), OpFault>
     requires long { length board.old.nets.items ≡ net.now.raw.nets }
-    requires due { length net.now.raw.gates ≤ length board.old.due.items }
+    requires due { length net.now.raw.gates ≤ length board.old.due.flags.items }
+    requires order { IsSettledOrder net.now.raw board.old.due.order.items }
     requires room { All (λ gate. length gate.inputs < length products.old) net.now.raw.gates }
     requires refs { All (AreNetRefs (N.store nodes.old)) board.old.nets.items }
     requires rows { rows.now.covers ≡ map rows_of net.now.raw.covers }
@@ -235,7 +237,8 @@ pub fn place_gates<N: Nodes>(
         → length ls ≡ length net.now.raw.latches
         → ArePossibleEach (N.store nodes.old).vars net.now.raw ls (asks ds) sets
         → AllZip (IsCutBy (N.store nodes.old)) ds cuts.now
-        → HaveGates net.now.raw net.now.settled sets (N.store nodes.old) 0 board.old.nets.items
+        → HaveGates net.now.raw board.old.due.order.items sets (N.store nodes.old) 0
+        board.old.nets.items
         → Built (time_work net.now.raw ls (asks ds) sets) Whatever
         (N.store nodes.old) (N.store nodes.new) result }
     ensures have { OnOk result (
@@ -243,24 +246,19 @@ pub fn place_gates<N: Nodes>(
         → length ls ≡ length net.now.raw.latches
         → ArePossibleEach (N.store nodes.old).vars net.now.raw ls (asks ds) sets
         → AllZip (IsCutBy (N.store nodes.old)) ds cuts.now
-        → HaveGates net.now.raw net.now.settled sets (N.store nodes.old) 0 board.old.nets.items
-        → HaveGates net.now.raw net.now.settled sets (N.store nodes.new)
-        (length net.now.settled) board.new.nets.items) }
+        → HaveGates net.now.raw board.old.due.order.items sets (N.store nodes.old) 0
+        board.old.nets.items
+        → HaveGates net.now.raw board.old.due.order.items sets (N.store nodes.new)
+        (length board.old.due.order.items) board.new.nets.items) }
 {
-    for number in net.settled() {
-        let g = &net.gates()[*number as usize];
+    let mut place = board.due.next(0);
+    while place < net.gates().len() {
+        let number = board.due.number_at(place);
+        let g = &net.gates()[number];
         renew(
-            ops,
-            nodes,
-            net,
-            rows,
-            cuts,
-            marks,
-            products,
-            board,
-            *number as usize,
-            g,
+            ops, nodes, net, rows, cuts, marks, products, board, number, g,
         )?;
+        place = board.due.next(place + 1);
     }
     Ok(())
 }

@@ -3,6 +3,7 @@
 ghost use Rattle.std.specs.Prelude.{◌≡◌, ◌≢◌, ◌<◌, ◌+◌, ◌-◌, ◌^◌, ℕ, All, fold, min, IfOk, IfSome, None, OnOk, Some, [], false, length, slice_index_or};
 ghost use Rattle.sym_step.specs.private.Readers.{AreAdded, AreGates, AreLatches, AreMarked, AreReaders, IsBetween, IsLink, Lists, ReadsAs, driver_number, head_of, slot_of};
 
+use crate::marks::Marks;
 use net_core::{Gate, Latch, Net, Source};
 use std::alloc::{AllocError, Global};
 use ste_base::NodeId;
@@ -22,17 +23,6 @@ pub struct Slot {
 pub struct Readers {
     heads: Vec<u32>,
     slots: Vec<Slot>,
-}
-
-/// Marks a number, where there is a mark for it.
-fn mark_one(due: &mut Vec<bool>, number: usize)
-    ensures long { length due.new.items ≡ length due.old.items }
-    ensures marked { AreMarked (λ k. number ≢ k) due.old.items due.new.items }
-{
-    if number >= due.len() {
-        return;
-    }
-    due[number] = true;
 }
 
 /// The number of inputs and outputs of all gates, or the greatest number where they are more.
@@ -178,16 +168,17 @@ impl Readers {
     }
 
     /// Marks the gates and latches in the list of a net.
-    pub fn mark(&self, id: u32, due: &mut Vec<bool>)
-        ensures long { length due.new.items ≡ length due.old.items }
-        ensures marked { AreMarked (λ k. ¬ Lists self.now id k) due.old.items due.new.items }
+    pub fn mark(&self, id: u32, due: &mut Marks)
+        ensures long { length due.new.flags.items ≡ length due.old.flags.items }
+        ensures order { due.new.order ≡ due.old.order }
+        ensures marked { AreMarked (λ k. ¬ Lists self.now id k) due.old.flags.items due.new.flags.items }
     {
         let mut link = self.head(id);
         for _ in 0..self.slots.len() {
             let Some(slot) = self.slot(link) else {
                 return;
             };
-            mark_one(due, slot.number as usize);
+            due.mark(slot.number as usize);
             link = slot.next;
         }
     }
@@ -207,25 +198,27 @@ fn driver(net: &Net, id: NodeId) -> Option<usize>
 }
 
 /// Marks the gate or the latch that drives a net, where one does.
-fn mark_driver(net: &Net, id: NodeId, due: &mut Vec<bool>)
+fn mark_driver(net: &Net, id: NodeId, due: &mut Marks)
     requires { id.0 < net.now.raw.nets }
-    ensures long { length due.new.items ≡ length due.old.items }
+    ensures long { length due.new.flags.items ≡ length due.old.flags.items }
+    ensures order { due.new.order ≡ due.old.order }
     ensures marked { AreMarked (λ k. driver_number net.now.raw id.0 ≢ Some k)
-        due.old.items due.new.items }
+        due.old.flags.items due.new.flags.items }
 {
     let Some(number) = driver(net, id) else {
         return;
     };
-    mark_one(due, number);
+    due.mark(number);
 }
 
 /// Marks the gates and latches that drive these nets.
-pub fn mark_drivers(net: &Net, ids: &[NodeId], due: &mut Vec<bool>)
+pub fn mark_drivers(net: &Net, ids: &[NodeId], due: &mut Marks)
     requires { All (λ node. node.0 < net.now.raw.nets) ids.now }
-    ensures long { length due.new.items ≡ length due.old.items }
+    ensures long { length due.new.flags.items ≡ length due.old.flags.items }
+    ensures order { due.new.order ≡ due.old.order }
     ensures marked { AreMarked
         (λ k. All (λ node. driver_number net.now.raw node.0 ≢ Some k) ids.now)
-        due.old.items due.new.items }
+        due.old.flags.items due.new.flags.items }
 {
     for node in ids {
         mark_driver(net, *node, due);

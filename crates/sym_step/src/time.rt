@@ -4,6 +4,7 @@ ghost use Rattle.std.specs.Prelude.{◌≡◌, ◌<◌, ◌∷◌, ◌++◌, [],
 ghost use Rattle.std.specs.List.{AllZip};
 ghost use Rattle.dd_nodes.specs.Diagram.{Function};
 ghost use Rattle.dd_nodes.specs.Stores.{Store, IsRef, Keeps, Means};
+ghost use Rattle.net_core.specs.Flat.{IsSettledOrder};
 ghost use Rattle.net_core.specs.Work.{ArePossibleEach, SymbolicSet, SymbolicAsked, disjunction, no_bit, some_bit, sum, sums, time_work};
 ghost use Rattle.dual_rail.specs.Rail.{AreRefs, AreRails, Built, HasFunction, Whatever};
 ghost use Rattle.sym_step.specs.Step.{IsCutOf, IsCutBy, IsPossibleStep, IsStep, rows_of};
@@ -16,7 +17,7 @@ ghost use Rattle.sym_step.specs.private.Parts.{AreMarks, HaveNets};
 use crate::board::Board;
 use crate::cut::Cut;
 use crate::cuts::marked;
-use crate::frame::{Frame, asked_nets, clear, knows_full, make_due, own_sets};
+use crate::frame::{Frame, asked_nets, knows_full, make_due, own_sets};
 use crate::latches::{LatchSet, latch_sets};
 use crate::made::Step;
 use crate::net_rails::NetRails;
@@ -121,7 +122,8 @@ fn set_nets<N: Nodes>(
     requires room { All (λ gate. length gate.inputs < length products.old) net.now.raw.gates }
     requires nets { length board.old.nets.items ≡ net.now.raw.nets }
     requires refs { All (AreNetRefs (N.store nodes.old)) board.old.nets.items }
-    requires due { length net.now.raw.gates ≤ length board.old.due.items }
+    requires due { length net.now.raw.gates ≤ length board.old.due.flags.items }
+    requires order { IsSettledOrder net.now.raw board.old.due.order.items }
     requires spared { AreSpared (N.store nodes.old) net.now.raw asked.now board.old }
     ensures room { OnOk result (length products.new ≡ length products.old) }
     ensures refs { OnOk result (All (AreNetRefs (N.store nodes.new)) board.new.nets.items) }
@@ -218,7 +220,7 @@ fn renew_frame<N: Nodes>(
         &mut frame.products,
         &mut frame.board,
     )?;
-    clear(&mut frame.board.due, net.gates().len());
+    frame.board.due.clear_gates();
     frame.asked = asked;
     frame.begun = true;
     Ok(())

@@ -1,5 +1,5 @@
 -- For private functions. What is kept of one time for the next.
-use Rattle.std.specs.Prelude.{◌≡◌, ◌⊎◌, ◌<◌, ◌+◌, ◌==◌, All, Bool, true, false, IsTrue, ℕ, List, Option, None, Some, length, map, slice_index_or}
+use Rattle.std.specs.Prelude.{◌≡◌, ◌⊎◌, ◌<◌, ◌+◌, ◌==◌, All, Bool, true, false, IfSome, IsTrue, ℕ, List, Option, None, Some, length, map, slice_index_or}
 use Rattle.std.specs.List.{list_any}
 use Rattle.ste_base.specs.declared.id.NodeId.{NodeId}
 use Rattle.dd_nodes.specs.declared.node.Ref.{Ref}
@@ -10,6 +10,7 @@ use Rattle.net_core.specs.declared.raw.Gate.{Gate}
 use Rattle.net_core.specs.declared.raw.RawNet.{RawNet}
 use Rattle.net_core.specs.declared.raw.Latch.{Latch}
 use Rattle.net_core.specs.declared.source.Source.TheVariants.{Input, Free}
+use Rattle.net_core.specs.Flat.{IsSettledOrder}
 use Rattle.net_core.specs.Source.{source_of}
 use Rattle.net_core.specs.Work.{SymbolicSet, everything, output_set}
 use Rattle.sym_step.specs.Step.{rails_at}
@@ -98,7 +99,7 @@ pub record IsSpared (s : Store) (net : RawNet) (asked : List NodeId) (board : Bo
 
 abbrev pub AreSpared : Store → RawNet → List NodeId → Board → Type 0
 AreSpared s net asked board =
-    (k : ℕ) (d : Gate) → k < length net.gates → flag_at board.due.items k ≡ false → IsSpared s net asked board k (slice_index_or net.gates k d)
+    (k : ℕ) (d : Gate) → k < length net.gates → flag_at board.due.flags.items k ≡ false → IsSpared s net asked board k (slice_index_or net.gates k d)
 
 -- the number of marks: one for each gate, and behind these one for each latch
 abbrev pub mark_count : RawNet → ℕ
@@ -112,12 +113,12 @@ pub record IsCarried (asked : List NodeId) (board : Board) (k : ℕ) (latch : La
 
 abbrev pub AreCarried : RawNet → List NodeId → Board → Type 0
 AreCarried net asked board =
-    (k : ℕ) (d : Latch) → k < length net.latches → flag_at board.due.items (length net.gates + k) ≡ false → IsCarried asked board (length net.gates + k) (slice_index_or net.latches k d)
+    (k : ℕ) (d : Latch) → k < length net.latches → flag_at board.due.flags.items (length net.gates + k) ≡ false → IsCarried asked board (length net.gates + k) (slice_index_or net.latches k d)
 
 -- the lists of a frame are made, where some gate or latch is not due
 abbrev pub AreReady : RawNet → Frame → Type 0
 AreReady net frame =
-    (k : ℕ) → k < mark_count net → flag_at frame.board.due.items k ≡ false → AreReaders net frame.board.readers
+    (k : ℕ) → k < mark_count net → flag_at frame.board.due.flags.items k ≡ false → AreReaders net frame.board.readers
 
 -- A frame of a time: each net has references that are held, a gate that is not due and whose output was not cut has given it
 -- its set, and the output of such a latch has the references of its input. Before any time all gates and latches are due.
@@ -125,14 +126,16 @@ pub record IsFrame (s : Store) (net : RawNet) (frame : Frame) : Type 0 where
   pub long : length frame.board.nets.items ≡ net.nets
   pub refs : All (AreNetRefs s) frame.board.nets.items
   pub full : IsTrue frame.board.full → AreFull frame.board.nets.items
-  pub due : length frame.board.due.items ≡ mark_count net
+  pub due : length frame.board.due.flags.items ≡ mark_count net
+  pub order : IsSettledOrder net frame.board.due.order.items
   pub room : All (λ gate. length gate.inputs < length frame.products.items) net.gates
   pub inside : All (λ node. node.0 < net.nets) frame.asked.items
   pub undriven : AreOpen s net frame.asked.items frame.board.nets.items
   pub first : (sets : List Rails) → frame.first ≡ Some sets → AreFirst s net sets
-  pub blank : frame.begun ≡ false → (k : ℕ) → k < mark_count net → flag_at frame.board.due.items k ≡ true
+  pub blank : frame.begun ≡ false → (k : ℕ) → k < mark_count net → flag_at frame.board.due.flags.items k ≡ true
   pub lists : IsTrue frame.listed → AreReaders net frame.board.readers
-  pub kept : (k : ℕ) (d : Gate) → k < length net.gates → flag_at frame.board.due.items k ≡ false → is_listed frame.asked.items (slice_index_or net.gates k d).output.0 ≡ false
+  pub spare : IfSome frame.spare (AreReaders net)
+  pub kept : (k : ℕ) (d : Gate) → k < length net.gates → flag_at frame.board.due.flags.items k ≡ false → is_listed frame.asked.items (slice_index_or net.gates k d).output.0 ≡ false
       → IsGiven s net frame.board.nets.items (slice_index_or net.gates k d)
-  pub carried : (k : ℕ) (d : Latch) → k < length net.latches → flag_at frame.board.due.items (length net.gates + k) ≡ false → is_listed frame.asked.items (slice_index_or net.latches k d).output.0 ≡ false
+  pub carried : (k : ℕ) (d : Latch) → k < length net.latches → flag_at frame.board.due.flags.items (length net.gates + k) ≡ false → is_listed frame.asked.items (slice_index_or net.latches k d).output.0 ≡ false
       → net_at frame.board.nets.items (slice_index_or net.latches k d).output.0 ≡ net_at frame.board.nets.items (slice_index_or net.latches k d).input.0

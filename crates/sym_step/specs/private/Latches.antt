@@ -1,11 +1,12 @@
 -- For private functions. The sets that latches get at a time.
-use Rattle.std.specs.Prelude.{◌≡◌, ◌⊎◌, ◌<◌, All, Bool, false, IsTrue, ℕ, List, length, slice_index_or}
+use Rattle.std.specs.Prelude.{◌≡◌, ◌⊎◌, ◌<◌, All, Bool, false, IfSome, IsTrue, ℕ, List, length, slice_index_or}
 use Rattle.ste_base.specs.declared.id.NodeId.{NodeId}
 use Rattle.dd_nodes.specs.Stores.{Store}
 use Rattle.dual_rail.specs.declared.rails.Rails.{Rails}
 use Rattle.dual_rail.specs.Rail.{AreRails, AreRefs}
 use Rattle.net_core.specs.declared.raw.Latch.{Latch}
 use Rattle.net_core.specs.declared.raw.RawNet.{RawNet}
+use Rattle.net_core.specs.Flat.{IsSettledOrder}
 use Rattle.net_core.specs.Work.{SymbolicSet, uncut}
 use Rattle.sym_step.specs.declared.latches.LatchSet.{LatchSet}
 use Rattle.sym_step.specs.declared.net_rails.NetRails.{NetRails}
@@ -75,10 +76,12 @@ pub record Begins (s : Store) (net : RawNet) (asked : List NodeId) (frame : Fram
   pub long : length frame.board.nets.items ≡ net.nets
   pub refs : All (AreNetRefs s) frame.board.nets.items
   pub full : IsTrue frame.board.full → AreFull frame.board.nets.items
-  pub due : length frame.board.due.items ≡ mark_count net
+  pub due : length frame.board.due.flags.items ≡ mark_count net
+  pub order : IsSettledOrder net frame.board.due.order.items
   pub room : All (λ gate. length gate.inputs < length frame.products.items) net.gates
   pub inside : All (λ node. node.0 < net.nets) frame.asked.items
   pub undriven : AreOpen s net frame.asked.items frame.board.nets.items
   pub lists : IsTrue frame.listed → AreReaders net frame.board.readers
+  pub spare : IfSome frame.spare (AreReaders net)
   pub spared : AreSpared s net asked frame.board
   pub carried : AreCarried net asked frame.board

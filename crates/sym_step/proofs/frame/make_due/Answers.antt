@@ -18,8 +18,8 @@ returns-clause-frame c = λ s f.
     let due = c.mark_drivers-2.new.due in
     let m = c.mark_drivers.ensures in
     let q = c.mark_drivers-2.ensures in
-    let before = subst (λ (ids : List NodeId). AreMarked (λ k. All (λ node. driver_number net.raw node.0 ≢ Some k) ids) frame.board.due.items mid.items) c.as_slice-before.ensures.value m.marked in (
-      with_due s net.raw frame due (q.long ∙ m.long) (λ k lt none. (m.marked k lt (q.marked k (omega (arith, m.long, lt)) none).0).0) p.0,
+    let before = subst (λ (ids : List NodeId). AreMarked (λ k. All (λ node. driver_number net.raw node.0 ≢ Some k) ids) frame.board.due.flags.items mid.flags.items) c.as_slice-before.ensures.value m.marked in (
+      with_due s net.raw frame due (q.long ∙ m.long) (q.order ∙ m.order) (λ k lt none. (m.marked k lt (q.marked k (omega (arith, m.long, lt)) none).0).0) p.0,
       all_spared s net.raw frame c.args.asked.now mid due net.one_driver p.0 p.1 m.long before q.marked,
       all_carried s net.raw frame c.args.asked.now mid due net.one_driver p.0 p.1 m.long before q.marked,
     )

@@ -47,7 +47,7 @@ loop-l-preserved c =
     λ set e. subst (λ (o : Option LatchSet). IfSome o (λ x. x ≡ latch_set old.nets.items latch)) e p.some ∙ ap (λ (v : Vec NetRails). latch_set v.items latch) inv.nets in
     let place : (asked : List NodeId) → HaveMarks asked marks → AreCarried net.raw asked first → c.due_set.result ≡ None → IsInPlace next asked nets n latch = λ asked have was e. elim (p.none e) [
       | inl none ↦
-          let flag : flag_at first.due.items (gates + n) ≡ false = sym (inv.rest (gates + n) (λ j lt same. absurd (omega (arith, lt, same)))) ∙ subst (λ (m : ℕ). flag_at old.due.items (m + n) ≡ false) same_gates none in
+          let flag : flag_at first.due.flags.items (gates + n) ≡ false = sym (inv.rest (gates + n) (λ j lt same. absurd (omega (arith, lt, same)))) ∙ subst (λ (m : ℕ). flag_at old.due.flags.items (m + n) ≡ false) same_gates none in
           let h : IsCarried asked first (gates + n) latch = subst (IsCarried asked first (gates + n)) (sym is) (was n latch inside flag) in
           in_place net.raw asked nets n latch net.in_range c.requires.nets inside is h.uncut h.same
       | inr copied ↦
@@ -58,6 +58,7 @@ loop-l-preserved c =
       nets = p.nets ∙ inv.nets;
       readers = p.readers ∙ inv.readers;
       full = p.full ∙ inv.full;
+      order = p.order ∙ inv.order;
       long = p.long ∙ inv.long;
       rest = λ k away. p.others k (λ e. away n (omega arith) (e ∙ ap (λ (m : ℕ). m + n) same_gates)) ∙ inv.rest k (λ j lt. away j (omega (arith, lt)));
       own = own_next net.raw next nets c.due_set.result sets more grows
@@ -69,5 +70,5 @@ loop-l-preserved c =
       carried = λ asked have was.
           carried_next net.raw asked marks c.args.listed old new n latch inside is have (λ told. subst (AreReaders net.raw) (sym inv.readers) (c.requires.lists told)) p.nets p.readers
           (λ k away. p.others k (λ e. away (e ∙ ap (λ (m : ℕ). m + n) same_gates)))
-          (subst (λ (m : ℕ). flag_at new.due.items (m + n) ≡ false → (flag_at old.due.items (m + n) ≡ false) ⊎ (IsTrue c.args.listed × IsCopied marks old.nets.items latch)) same_gates p.cleared) (inv.carried asked have was);
+          (subst (λ (m : ℕ). flag_at new.due.flags.items (m + n) ≡ false → (flag_at old.due.flags.items (m + n) ≡ false) ⊎ (IsTrue c.args.listed × IsCopied marks old.nets.items latch)) same_gates p.cleared) (inv.carried asked have was);
     }

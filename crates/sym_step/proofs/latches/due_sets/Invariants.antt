@@ -13,8 +13,9 @@ invariant-loop-l l = record {
   nets : l.board.nets ≡ l.fn.board.nets;
   readers : l.board.readers ≡ l.fn.board.readers;
   full : l.board.full ≡ l.fn.board.full;
-  long : length l.board.due.items ≡ length l.fn.board.due.items;
-  rest : (k : ℕ) → ((j : ℕ) → j < l.l → k ≢ length l.net.raw.gates + j) → flag_at l.board.due.items k ≡ flag_at l.fn.board.due.items k;
+  order : l.board.due.order ≡ l.fn.board.due.order;
+  long : length l.board.due.flags.items ≡ length l.fn.board.due.flags.items;
+  rest : (k : ℕ) → ((j : ℕ) → j < l.l → k ≢ length l.net.raw.gates + j) → flag_at l.board.due.flags.items k ≡ flag_at l.fn.board.due.flags.items k;
   own : All (IsSetOf l.net.raw (map (input_rails (map bare l.fn.board.nets.items)) l.net.raw.latches) l.fn.board.nets.items) l.sets.items;
   each : (asked : List NodeId) → HaveMarks asked l.marks → AreCarried l.net.raw asked l.fn.board → (k : ℕ) (d : Latch) → k < l.l → k < length l.net.raw.latches
       → IsAmong l.sets.items (get_or l.net.raw.latches k d).output.0 ⊎ IsInPlace (map (input_rails (map bare l.fn.board.nets.items)) l.net.raw.latches) asked l.fn.board.nets.items k (get_or l.net.raw.latches k d);

@@ -1,6 +1,5 @@
-use Rattle.std.proofs.Common.{◌≡◌, ◌<◌, ◌∷◌, ◌++◌, ℕ, List, All, false, length, get_or-set_same, sym, ◌∙◌, ap, subst, Ok}
+use Rattle.std.proofs.Common.{◌≡◌, ◌<◌, ◌∷◌, ◌++◌, ℕ, List, All, length, get_or-set_same, sym, ◌∙◌, ap, subst, Ok}
 use Rattle.std.specs.Prelude.{slice_get}
-use Rattle.std.proofs.lemmas.List.{get_or_default}
 use Rattle.dd_nodes.specs.Diagram.{Function}
 use Rattle.dd_nodes.specs.Stores.{Store}
 use Rattle.net_core.specs.declared.raw.Gate.{Gate}
@@ -16,11 +15,11 @@ use Rattle.sym_step.proofs.place.renew.Goals as goal
 moved : (s : Store) (sets : ℕ → SymbolicSet) (nets read : List NetRails) (gate : Gate) → read ≡ nets → HaveInputs s sets nets gate.inputs → HaveInputs s sets read gate.inputs
 moved s sets nets read gate e h = subst (λ (xs : List NetRails). HaveInputs s sets xs gate.inputs) (sym e) h
 
-pub returns-then-not-index-clause-have : goal.returns-then-not-index-clause-have
-returns-then-not-index-clause-have g c = λ ds before sets zip have is.
+pub returns-then-not-is_marked-clause-have : goal.returns-then-not-is_marked-clause-have
+returns-then-not-is_marked-clause-have g c = λ ds before sets zip have is.
     let s : Store = g.N.Nodes.store c.args.nodes.now in
     let gate : Gate = c.args.g.now in
-    let p = c.requires.spared (get_or_default c.args.board.now.due.items c.args.number false c.index.result.now c.requires.number ∙ sym c.index.ensures ∙ c.if-not-index.true) in
+    let p = c.requires.spared (sym c.is_marked.ensures ∙ c.if-not-is_marked.true) in
     let r : NetRails = net_at c.args.board.now.nets.items gate.output.0 in
     subst (λ (w : SymbolicSet). AreNetRails s w r) (sym (unlisted s ds c.args.cuts.now gate.output.0 before zip p.uncut ∙ is)) (p.given sets have)
 

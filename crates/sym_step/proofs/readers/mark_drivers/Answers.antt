@@ -19,11 +19,12 @@ loop-node-preserved c =
     let p = c.mark_driver.ensures in
     record {
       long = p.long ∙ inv.long;
-      marked = marked_more (IsOther c.args.net.now.raw) ids k (record { 0 = 0 }) c.args.due.now.items c.loop-node.due.items c.mark_driver.new.due.items lt inv.long inv.marked p.marked;
+      order = p.order ∙ inv.order;
+      marked = marked_more (IsOther c.args.net.now.raw) ids k (record { 0 = 0 }) c.args.due.now.flags.items c.loop-node.due.flags.items c.mark_driver.new.due.flags.items lt inv.long inv.marked p.marked;
     }
 
 pub returns-clause-marked : goal.returns-clause-marked
 returns-clause-marked c =
     let ids : List NodeId = c.args.ids.now in
     let k = c.loop-node.node-index in
-    subst (λ (xs : List NodeId). AreMarked (λ k. All (IsOther c.args.net.now.raw k) xs) c.args.due.now.items c.loop-node.due.items) (take_all k ids (omega (arith, c.loop-node-test.false))) c.loop-node.invariant.marked
+    subst (λ (xs : List NodeId). AreMarked (λ k. All (IsOther c.args.net.now.raw k) xs) c.args.due.now.flags.items c.loop-node.due.flags.items) (take_all k ids (omega (arith, c.loop-node-test.false))) c.loop-node.invariant.marked

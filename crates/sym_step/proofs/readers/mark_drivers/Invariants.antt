@@ -6,6 +6,7 @@ use Rattle.sym_step.proofs.readers.mark_drivers.Given as goal
 -- the gates and latches that drive the first nets have marks
 abbrev pub invariant-loop-node : goal.invariant-loop-node
 invariant-loop-node l = record {
-  long : length l.due.items ≡ length l.fn.due.items;
-  marked : AreMarked (λ k. All (λ node. driver_number l.net.raw node.0 ≢ Some k) (take l.node-index l.ids)) l.fn.due.items l.due.items;
+  long : length l.due.flags.items ≡ length l.fn.due.flags.items;
+  order : l.due.order ≡ l.fn.due.order;
+  marked : AreMarked (λ k. All (λ node. driver_number l.net.raw node.0 ≢ Some k) (take l.node-index l.ids)) l.fn.due.flags.items l.due.flags.items;
 }

@@ -38,7 +38,7 @@ returns-clause-begins c =
     let q = c.latch_sets.ensures in
     on_ok_weaker c.latch_sets.result (λ carried s f.
     let p = c.in_ok-make_due.ensures.frame s f in
-    subst (Begins s net asked) (sym q.rest) (begins s net asked frame c.latch_sets.new.frame.board p.0 p.1 q.nets q.readers q.full q.long q.gates (carried asked c.requires.marks p.2))) q.carried
+    subst (Begins s net asked) (sym q.rest) (begins s net asked frame c.latch_sets.new.frame.board p.0 p.1 q.nets q.readers q.full q.order q.long q.gates (carried asked c.requires.marks p.2))) q.carried
 
 pub returns-clause-held : goal.returns-clause-held
 returns-clause-held c =

@@ -1,12 +1,13 @@
-use Rattle.std.proofs.Common.{◌≡◌, ◌+◌, ◌<◌, List, arith, All, ap, drop, get_or, length, sym, ◌∙◌, subst, Ok}
+use Rattle.std.specs.Global.{Vec}
+use Rattle.std.proofs.Common.{◌≡◌, ◌+◌, ◌<◌, ℕ, List, arith, All, ap, drop, get_or, length, sym, ◌∙◌, subst, Ok}
 use Rattle.std.proofs.lemmas.List.{length-map}
 use Rattle.std.proofs.lemmas.Bool.{false≢true}
 use Rattle.dd_nodes.specs.declared.node.Ref.{Ref}
 use Rattle.dd_nodes.specs.Diagram.{Function}
 use Rattle.dd_nodes.specs.Stores.{Store}
 use Rattle.dual_rail.specs.declared.rails.Rails.{Rails}
-use Rattle.net_core.specs.declared.raw.Gate.{Gate}
 use Rattle.net_core.specs.Work.{SymbolicAsked, SymbolicSet, time_work}
+use Rattle.net_core.specs.Flat.{IsSettledOrder}
 use Rattle.net_core.proofs.Ordered.{settled_by_order}
 use Rattle.ste_base.specs.declared.id.NodeId.{NodeId}
 use Rattle.dual_rail.specs.Rail.{Whatever}
@@ -66,6 +67,9 @@ set_nets-requires-clause-refs g c = (c.in_ok-latches.ensures.begins (g.N.Nodes.s
 pub set_nets-requires-clause-due : goal.set_nets-requires-clause-due
 set_nets-requires-clause-due g c = let size = (c.in_ok-latches.ensures.begins (g.N.Nodes.store c.args.nodes.now) c.requires.frame).due in omega (arith, size)
 
+pub set_nets-requires-clause-order : goal.set_nets-requires-clause-order
+set_nets-requires-clause-order g c = (c.in_ok-latches.ensures.begins (g.N.Nodes.store c.args.nodes.now) c.requires.frame).order
+
 pub set_nets-requires-clause-before : goal.set_nets-requires-clause-before
 set_nets-requires-clause-before g c =
     subst (All (λ (node : NodeId). node.0 < c.args.net.now.raw.nets)) (sym c.deref-6.ensures.value) (c.in_ok-latches.ensures.begins (g.N.Nodes.store c.args.nodes.now) c.requires.frame).inside
@@ -74,13 +78,6 @@ pub set_nets-requires-clause-undriven : goal.set_nets-requires-clause-undriven
 set_nets-requires-clause-undriven g c =
     let s : Store = g.N.Nodes.store c.args.nodes.now in
     subst (λ (xs : List NodeId). AreOpen s c.args.net.now.raw xs c.begin_time.new.frame.board.nets.items) (sym c.deref-6.ensures.value) (c.in_ok-latches.ensures.begins s c.requires.frame).undriven
-
-pub clear-requires : goal.clear-requires
-clear-requires g c =
-    let size = (c.in_ok-latches.ensures.begins (g.N.Nodes.store c.args.nodes.now) c.requires.frame).due in
-    let marks = c.in_ok-set_nets.ensures.follows.marks in
-    let gates = ap (λ (xs : List Gate). length xs) c.gates.ensures in
-    omega (arith, size, marks, gates)
 
 pub returns-in_err-set_nets-clause-built : goal.returns-in_err-set_nets-clause-built
 returns-in_err-set_nets-clause-built g c = λ ls asked sets zip zipc family.
@@ -140,20 +137,22 @@ returns-clause-frame g c =
     let same_room : length room ≡ length frame.products.items = q.room ∙ ap length c.deref_mut.ensures.value in
     let back_room = written frame.products.len room (drop (length room) frame.products.items) (frame.products.ok.0 ∙ sym same_room) in
     let carried = carried_follows net.raw ids frame.board c.set_nets.new.board p.due q.follows (subst (λ (xs : List NodeId). AreCarried net.raw xs frame.board) c.deref-2.ensures.value p.carried) in
-    let gates = ap (λ (xs : List Gate). length xs) c.gates.ensures in
+    let count : length c.set_nets.new.board.due.order.items ≡ length net.raw.gates = ap (λ (v : Vec ℕ). length v.items) q.follows.order ∙ p.order.long in
     record {
       long = q.follows.long ∙ p.long;
       refs = q.refs;
       full = q.follows.full p.full;
-      due = c.clear.ensures.long ∙ q.follows.marks ∙ p.due;
+      due = c.clear_gates.ensures.long ∙ q.follows.marks ∙ p.due;
+      order = subst (λ (v : Vec ℕ). IsSettledOrder net.raw v.items) (sym (c.clear_gates.ensures.order ∙ q.follows.order)) p.order;
       room = subst (λ (xs : List Ref). All (λ gate. length gate.inputs < length xs) net.raw.gates) (sym back_room) (subst (λ n. All (λ gate. length gate.inputs < n) net.raw.gates) (sym same_room) p.room);
       inside = subst (All (λ (node : NodeId). node.0 < net.raw.nets)) (sym c.in_ok-asked.ensures) (nodes_inside net.raw.nets cuts (λ k d l. (c.requires.cuts k d l).node));
       undriven = undriven_here net.raw net.in_range net.one_driver ls asked.cuts exist.0 long s u cuts ids nets keeps exist.1 zipc c.in_ok-asked.ensures have;
       first = not_first u net.raw frame.first c.in_ok-latches.ensures.first;
       blank = λ none. absurd (false≢true (sym none));
       lists = λ told. subst (AreReaders net.raw) (sym q.follows.readers) (p.lists told);
+      spare = p.spare;
       kept = λ k d lt none uncut.
           given_here net.raw net.settled net.in_range net.one_driver net.in_order ls asked.cuts exist.0 long s u cuts nets keeps exist.1 zipc have k d lt
           (sym (ap (λ (ids : List NodeId). is_listed ids (get_or net.raw.gates k d).output.0) c.in_ok-asked.ensures) ∙ uncut);
-      carried = λ k d lt none uncut. (carried k d lt (sym (c.clear.ensures.rest (length net.raw.gates + k) (omega (arith, gates))) ∙ none)).same;
+      carried = λ k d lt none uncut. (carried k d lt (sym (c.clear_gates.ensures.rest (length net.raw.gates + k) (omega (arith, count))) ∙ none)).same;
     }

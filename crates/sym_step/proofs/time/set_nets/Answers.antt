@@ -8,7 +8,7 @@ use Rattle.sym_step.proofs.Cutting.{Demands-keep}
 use Rattle.ste_base.specs.declared.id.NodeId.{NodeId}
 use Rattle.sym_step.specs.private.Frames.{AreSpared}
 use Rattle.sym_step.proofs.Framing.{spared_follows, spared_keeps}
-use Rattle.sym_step.proofs.Reading.{follows_then}
+use Rattle.sym_step.proofs.Reading.{follows_then, order_then}
 use Rattle.sym_step.proofs.Opened.{ok_then}
 use Rattle.sym_step.proofs.Sourced.{to_gates, all_placed}
 use Rattle.sym_step.proofs.time.set_nets.Goals as goal
@@ -37,6 +37,9 @@ place_gates-requires-clause-long g c = c.in_ok-sources.ensures.follows.long ∙ 
 pub place_gates-requires-clause-due : goal.place_gates-requires-clause-due
 place_gates-requires-clause-due g c = subst (λ n. length c.args.net.now.raw.gates ≤ n) (sym c.in_ok-sources.ensures.follows.marks) c.requires.due
 
+pub place_gates-requires-clause-order : goal.place_gates-requires-clause-order
+place_gates-requires-clause-order g c = order_then c.args.board.now c.sources.new.board c.args.net.now.raw c.in_ok-sources.ensures.follows c.requires.order
+
 pub returns-clause-follows : goal.returns-clause-follows
 returns-clause-follows g c = ok_then c.place_gates.result (λ k. follows_then c.args.board.now c.sources.new.board c.place_gates.new.board c.in_ok-sources.ensures.follows k) c.place_gates.ensures.follows
 
@@ -54,7 +57,7 @@ returns-clause-built g c = λ ls asked sets given zipc family.
     let long = given.long in
     let family' : ArePossibleEach t.vars net.raw ls asked sets = subst (λ v. ArePossibleEach v net.raw ls asked sets) (sym p.keeps.vars) family in
     let zipc' = Demands-keep s t asked.cuts c.args.cuts.now gs gt p.keeps zipc in
-    let have0 = to_gates net.raw net.settled sets t c.sources.new.board.nets.items net.one_driver net.in_order (p.have ls asked.cuts sets given family zipc) in
+    let have0 = to_gates net.raw c.sources.new.board.due.order.items sets t c.sources.new.board.nets.items net.one_driver (order_then c.args.board.now c.sources.new.board net.raw p.follows c.requires.order) (p.have ls asked.cuts sets given family zipc) in
     last work Whatever s t u c.place_gates.result gt gu (first work Whatever s t (Ok c.in_ok-sources.field-0) (p.built ls asked.cuts sets given family zipc))
     (c.place_gates.ensures.built ls asked.cuts sets long family' zipc' have0)
 
@@ -72,5 +75,5 @@ returns-clause-have g c =
     let long = given.long in
     let family' : ArePossibleEach t.vars net.raw ls asked sets = subst (λ v. ArePossibleEach v net.raw ls asked sets) (sym p.keeps.vars) family in
     let zipc' = Demands-keep s t asked.cuts c.args.cuts.now gs gt p.keeps zipc in
-    let have0 = to_gates net.raw net.settled sets t c.sources.new.board.nets.items net.one_driver net.in_order (p.have ls asked.cuts sets given family zipc) in
-    all_placed net.raw net.settled sets u c.place_gates.new.board.nets.items (q ls asked.cuts sets long family' zipc' have0)) c.place_gates.ensures.have
+    let have0 = to_gates net.raw c.sources.new.board.due.order.items sets t c.sources.new.board.nets.items net.one_driver (order_then c.args.board.now c.sources.new.board net.raw p.follows c.requires.order) (p.have ls asked.cuts sets given family zipc) in
+    all_placed net.raw c.sources.new.board.due.order.items sets u c.place_gates.new.board.nets.items (q ls asked.cuts sets long family' zipc' have0)) c.place_gates.ensures.have

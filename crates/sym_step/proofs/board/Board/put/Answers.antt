@@ -11,4 +11,4 @@ returns-then-same-clause-follows c =
     (λ d. c.if-same.ensures refl ∙ c.index.ensures ∙ get_or_default nets c.args.id c.index.result.now d c.requires)
 
 pub returns-clause-follows : goal.returns-clause-follows
-returns-clause-follows c = follows_marked c.args.self.now _ c.args.id c.args.r c.requires refl refl c.mark.ensures.long c.stays_full-self.ensures c.mark.ensures.marked
+returns-clause-follows c = follows_marked c.args.self.now _ c.args.id c.args.r c.requires refl c.mark.ensures.order refl c.mark.ensures.long c.stays_full-self.ensures c.mark.ensures.marked

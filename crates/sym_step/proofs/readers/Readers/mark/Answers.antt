@@ -15,9 +15,10 @@ loop-preserved c =
     let is : slot ≡ slot_of slots (spot slots head n) = c.in-Some.ensures.some.1 ∙ ap (slot_of slots) inv.link in
     let e : suc n ≡ n + 1 = omega arith in
     record {
-      long = c.mark_one.ensures.long ∙ inv.long;
+      long = c.mark.ensures.long ∙ inv.long;
+      order = c.mark.ensures.order ∙ inv.order;
       link = ap (λ (s : Slot). s.next) is ∙ ap (spot slots head) e;
-      marked = marked_next slots head n slot.number c.args.due.now.items c.loop.due.items c.mark_one.new.due.items (ap (λ (s : Slot). s.number) is) inv.long inv.marked c.mark_one.ensures.marked;
+      marked = marked_next slots head n slot.number c.args.due.now.flags.items c.loop.due.flags.items c.mark.new.self.flags.items (ap (λ (s : Slot). s.number) is) inv.long inv.marked c.mark.ensures.marked;
     }
 
 pub returns-in_default-clause-marked : goal.returns-in_default-clause-marked
