@@ -75,7 +75,11 @@ impl Frame {
             → IsDiagram s.held s.vars → IsFrame s net.now.raw frame) }
     {
         let nets = vec![in alloc; NetRails::free(); net.nets() as usize]?;
-        let due = Marks::all(alloc, net.settled(), net.gates().len() + net.latches().len())?;
+        let due = Marks::all(
+            alloc,
+            net.settled(),
+            net.gates().len() + net.latches().len(),
+        )?;
         let products = room(alloc, net.gates())?;
         let board = Board {
             nets,

@@ -14,7 +14,7 @@ invariant_of-self-clause-asleep c =
     let p = c.clear_places.ensures in
     let q = c.end_of-end.ensures in
     let cleared : (place : ℕ) → place < length order → place / 64 ≡ block → flag_at new (get_or order place 0) ≡ false = λ place lt here.
-        p.cleared place (omega (arith, here)) (q.whole place lt (omega (arith, here))) in
+    p.cleared place (omega (arith, here)) (q.whole place lt (omega (arith, here))) in
     subst (λ (v : Vec ℕ). AreAsleep new v.items (set c.clear_places.new.self.awake.items block false)) (sym p.order)
     (subst (λ (v : Vec Bool). AreAsleep new order (set v.items block false)) (sym p.awake)
     (asleep_then c.args.self.now.flags.items new order awake block p.fewer cleared c.args.self.now.asleep))
