@@ -1,6 +1,7 @@
 -- Latch outputs and gate outputs have their bits, one after another.
 use Rattle.std.proofs.Common.{◌≡◌, ◌≢◌, ℕ, ◌<◌, ◌+◌, suc, Bool, false, List, [], ◌∷◌, map, length, get_or, set, arith, sym, ap, refl, subst, ◌∙◌, inl, inr}
-use Rattle.std.specs.Prelude.{All, slice_get, Option, Some}
+use Rattle.std.specs.List.{list_all}
+use Rattle.std.specs.Prelude.{◌&&◌, zip, All, slice_get, Option, Some}
 use Rattle.std.proofs.lemmas.List.{get_or-set_same, get_or-set_other, get_or_default, get_or-map}
 use Rattle.std.proofs.lemmas.Bool.{cases_eq, cases_lt}
 use Rattle.ste_base.specs.declared.id.NodeId.{NodeId}
@@ -8,7 +9,8 @@ use Rattle.net_core.specs.declared.cover.Cover.{Cover}
 use Rattle.net_core.specs.declared.raw.Gate.{Gate}
 use Rattle.net_core.specs.declared.raw.Latch.{Latch}
 use Rattle.net_core.specs.declared.raw.RawNet.{RawNet}
-use Rattle.net_core.specs.Cover.{cover_bit}
+use Rattle.net_core.specs.declared.cover.Lit.{Lit}
+use Rattle.net_core.specs.Cover.{admits, cover_bit, matches}
 use Rattle.net_core.specs.Run.{AreGateBits, bit_of, gate_bit}
 use Rattle.net_core.specs.Flat.{IsInRange, IsSettledOrder}
 use Rattle.net_core.proofs.Ordered.{place_of}
@@ -22,6 +24,12 @@ bits_known net_of one other (x ∷ xs) all =
     let here = all 0 x (omega arith) in
     let rest = bits_known net_of one other xs (λ k d l. all (suc k) d (omega arith)) in
     cc
+
+-- a row over the bits of nets
+pub row_bits : (bits : List Bool) (row : List Lit) (nets : List NodeId) → list_all (λ (at : Lit × NodeId). admits at.0 (bit_at bits at.1.0)) (zip row nets) ≡ matches row (map (λ (net : NodeId). bit_at bits net.0) nets)
+row_bits bits [] nets = refl
+row_bits bits (lit ∷ row) [] = refl
+row_bits bits (lit ∷ row) (net ∷ nets) = ap (λ (b : Bool). admits lit (bit_at bits net.0) && b) (row_bits bits row nets)
 
 -- one latch more has its bit
 pub latch_done : (net : RawNet) (bit : ℕ → Bool) (held bits : List Bool) (n : ℕ) (latch : Latch) (b : Bool) → length bits ≡ net.nets → n < length net.latches → latch ≡ get_or net.latches n latch → latch.output.0 < net.nets → b ≡ get_or held n b → held ≡ map (λ l. bit l.output.0) net.latches → AreLatched net n bit bits → AreLatched net (n + 1) bit (set bits latch.output.0 b)

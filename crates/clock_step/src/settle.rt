@@ -1,12 +1,13 @@
 //! The bits of all nets at one time; begin with `settle`.
 
-ghost use Rattle.std.specs.Prelude.{◌≡◌, ◌≢◌, ◌<◌, ℕ, Bool, All, AllPairs, OnOk, length, map};
+ghost use Rattle.std.specs.Prelude.{◌≡◌, ◌≢◌, ◌<◌, ℕ, Bool, All, AllPairs, length, map};
+ghost use Rattle.std.specs.List.{list_all, zip};
+ghost use Rattle.net_core.specs.Cover.{admits, cover_bit, matches, some_matches};
 ghost use Rattle.net_core.specs.Run.{AreGateBits};
 ghost use Rattle.clock_step.specs.Simulation.{bit_in};
 ghost use Rattle.clock_step.specs.private.Settled.{AreBits, AreDetermined, AreLatched, AreSettled, bit_at};
 
-use net_core::{Net, eval};
-use std::alloc::AllocError;
+use net_core::{Cover, Lit, Net, Row};
 use ste_base::NodeId;
 
 /// The bit of a net in a row; a net that the row lacks has 0.
@@ -43,54 +44,66 @@ fn place_latches(net: &Net, held: &[bool], bits: &mut [bool])
     }
 }
 
-/// Puts the bits of these nets into a vector, in place of what it held.
-fn gather(bits: &[bool], nets: &[NodeId], found: &mut Vec<bool>) -> Result<(), AllocError>
-    ensures { OnOk result (found.new.items ≡ map (λ net. bit_at bits.now net.0) nets.now) }
+/// Whether each literal admits the bit of its net.
+fn row_admits(bits: &[bool], row: &[Lit], nets: &[NodeId]) -> bool
+    ensures { result ≡ list_all (λ at. admits at.0 (bit_at bits.now at.1.0))
+        (zip row.now nets.now) }
 {
-    found.clear();
-    for net in nets {
-        found.push(bit_at(bits, *net))?;
-    }
-    Ok(())
+    row.iter()
+        .zip(nets)
+        .all(|(lit, net)| lit.admits(bit_at(bits, *net)))
 }
 
-/// Gives each gate output the gate's bit, one after another. `gathered` holds the bits of one
-/// gate's inputs.
-fn place_gates(net: &Net, bits: &mut [bool], gathered: &mut Vec<bool>) -> Result<(), AllocError>
+/// Whether a row matches the bits of these nets.
+fn row_matches(bits: &[bool], row: &[Lit], nets: &[NodeId]) -> bool
+    ensures { result ≡ matches row.now (map (λ net. bit_at bits.now net.0) nets.now) }
+{
+    row_admits(bits, row, nets)
+}
+
+/// Whether some row matches the bits of these nets.
+fn some_matches(bits: &[bool], rows: &[Row], nets: &[NodeId]) -> bool
+    ensures { result ≡ some_matches rows.now (map (λ net. bit_at bits.now net.0) nets.now) }
+{
+    rows.iter()
+        .any(|row| row_matches(bits, row.as_slice(), nets))
+}
+
+/// The cover's bit for the bits of these nets, one for each input position. It takes no memory.
+fn cover_bit(bits: &[bool], cover: &Cover, nets: &[NodeId]) -> bool
+    ensures { result ≡ cover_bit cover.now (map (λ net. bit_at bits.now net.0) nets.now) }
+{
+    let some = some_matches(bits, cover.rows.as_slice(), nets);
+    if cover.on { some } else { !some }
+}
+
+/// Gives each gate output the gate's bit, one after another.
+fn place_gates(net: &Net, bits: &mut [bool])
     requires { length bits.old ≡ net.now.raw.nets }
-    ensures { OnOk result ((bit : ℕ → Bool) → AreGateBits net.now.raw bit →
+    ensures { (bit : ℕ → Bool) → AreGateBits net.now.raw bit →
         AreSettled net.now.raw net.now.settled 0 bit bits.old →
-        AreSettled net.now.raw net.now.settled (length net.now.settled) bit bits.new) }
+        AreSettled net.now.raw net.now.settled (length net.now.settled) bit bits.new }
 {
     for (n, number) in net.settled().iter().enumerate() {
         let gate = &net.gates()[*number as usize];
-        gather(bits, gate.inputs.as_slice(), gathered)?;
-        let bit = eval(net.cover(gate.cover), gathered);
+        let bit = cover_bit(bits, net.cover(gate.cover), gate.inputs.as_slice());
         bits[gate.output.0 as usize] = bit;
     }
-    Ok(())
 }
 
 /// Gives each net its bit at one time, from a row with a bit for each of these nodes and from what
-/// the latches hold.
-pub fn settle(
-    net: &Net,
-    nodes: &[NodeId],
-    row: &[bool],
-    held: &[bool],
-    bits: &mut [bool],
-    gathered: &mut Vec<bool>,
-) -> Result<(), AllocError>
+/// the latches hold. It takes no memory.
+pub fn settle(net: &Net, nodes: &[NodeId], row: &[bool], held: &[bool], bits: &mut [bool])
     requires within { All (λ node. node.0 < net.now.raw.nets) nodes.now }
     requires different { AllPairs (λ one other. one.0 ≢ other.0) nodes.now }
     requires wide { length row.now ≡ length nodes.now }
     requires held { length held.now ≡ length net.now.raw.latches }
     requires long { length bits.old ≡ net.now.raw.nets }
-    ensures { OnOk result ((bit : ℕ → Bool) →
+    ensures { (bit : ℕ → Bool) →
         AreDetermined net.now.raw nodes.now row.now held.now bit →
-        AreBits net.now.raw bit bits.new) }
+        AreBits net.now.raw bit bits.new }
 {
     place_inputs(bits, nodes, row);
     place_latches(net, held, bits);
-    place_gates(net, bits, gathered)
+    place_gates(net, bits);
 }

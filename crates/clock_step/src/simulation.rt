@@ -65,11 +65,10 @@ fn outputs_of(
     ensures { IfOk result (λ outputs. AreOutputs net.now.raw inputs.now outputs) }
 {
     let nodes = inputs.nodes.as_slice();
-    let mut gathered = Vec::new(alloc);
     let mut held = first_bits(alloc, net)?;
     let mut outputs = Items::new(alloc);
     for row in inputs.rows.as_slice() {
-        settle(net, nodes, row.as_slice(), &held, bits, &mut gathered)?;
+        settle(net, nodes, row.as_slice(), &held, bits);
         outputs.push(outputs_at(alloc, net, bits)?.into())?;
         held = next_bits(alloc, net, bits)?;
     }
@@ -81,8 +80,7 @@ fn outputs_of(
 /// begins with it, and any other with 0. The nodes have to be inputs or free nets of the net.
 ///
 /// The time is linear in rows times the size of the net. Beside the answer, a byte for each row and
-/// output, it takes a byte for each net, two for each latch, and one for each input of the widest
-/// gate.
+/// output, it takes a byte for each net and two for each latch.
 pub fn simulate(alloc: Global, net: &Net, inputs: &Inputs) -> Result<Items<Items<bool>>, AllocError>
     requires { All (λ node. IsTrue (is_undriven net.now.raw node.0)) inputs.now.nodes }
     ensures { IfOk result (λ outputs. AreOutputs net.now.raw inputs.now outputs) }

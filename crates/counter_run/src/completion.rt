@@ -56,10 +56,9 @@ fn complete_times(
 {
     let mut held = copy_of(alloc, first)?;
     let mut row = Vec::new(alloc);
-    let mut gathered = Vec::new(alloc);
     for t in 0..times {
         gather(rows, nodes, t, &mut row)?;
-        settle(net, nodes, &row, &held, bits, &mut gathered)?;
+        settle(net, nodes, &row, &held, bits);
         put_column(rows, t, bits);
         hold_next(net, bits, &mut held)?;
     }

@@ -16,13 +16,13 @@ loop-n-preserved c =
     let is : gate ≡ get_or net.raw.gates (get_or net.settled n 0) gate =
     c.index-gates-number.is ∙ ap (λ (xs : List Gate). get_or xs (get_or c.settled-number-items.result.now n 0) gate) c.gates.ensures
     ∙ ap (λ (xs : List ℕ). get_or net.raw.gates (get_or xs n 0) gate) c.settled-number-items.ensures.same in
-    let are : c.deref.result.now ≡ map (λ input. bit_at bits input.0) gate.inputs =
-    c.deref.ensures.value ∙ c.in_ok-gather.ensures ∙ ap (λ (xs : List NodeId). map (λ input. bit_at bits input.0) xs) c.as_slice.ensures in
+    let ids : List NodeId = c.as_slice.result.now in
+    let are : map (λ (input : NodeId). bit_at bits input.0) ids ≡ map (λ (input : NodeId). bit_at bits input.0) gate.inputs = ap (λ (xs : List NodeId). map (λ (input : NodeId). bit_at bits input.0) xs) c.as_slice.ensures in
     record {
-      long = length-set bits gate.output.0 c.eval-bit.result ∙ c.loop-n.invariant.long;
+      long = length-set bits gate.output.0 c.cover_bit-bit.result ∙ c.loop-n.invariant.long;
       settled = λ bit follow begin.
-          gate_done net.raw net.settled bit net.in_range net.in_order follow n (get_or net.settled n 0) gate c.cover.result.now c.deref.result.now c.eval-bit.result bits
-          c.loop-n.invariant.long within refl is c.cover.ensures are c.eval-bit.ensures (c.loop-n.invariant.settled bit follow begin);
+          gate_done net.raw net.settled bit net.in_range net.in_order follow n (get_or net.settled n 0) gate c.cover.result.now (map (λ (input : NodeId). bit_at bits input.0) ids) c.cover_bit-bit.result bits
+          c.loop-n.invariant.long within refl is c.cover.ensures are c.cover_bit-bit.ensures (c.loop-n.invariant.settled bit follow begin);
     }
 
 pub returns : goal.returns

@@ -26,7 +26,7 @@ loop-row-preserved c =
     let bits = c.settle.new.bits in
     let pushed : c.push.new.self ≡ c.loop-row.outputs ++ c.into.result ∷ [] = c.in_ok-push.ensures.ok in
     let known : (run : ℕ → ℕ → Bool) → IsSimulation net inputs run → AreBits net (run t) bits = λ run simulates.
-    c.in_ok-settle.ensures (run t)
+    c.settle.ensures (run t)
     (determined net inputs c.as_slice-nodes.result.now c.as_slice-row-items.result.now c.row-item.result c.as_slice.result.now c.deref.result.now c.loop-row.held.items t
     c.as_slice-nodes.ensures c.as_slice-row-items.ensures c.as_slice.ensures c.deref.ensures.value c.loop-row-test.true c.row-item.is run simulates (c.loop-row.invariant.held run simulates)) in
     record {

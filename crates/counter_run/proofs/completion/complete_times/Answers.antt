@@ -33,7 +33,7 @@ loop-t-preserved c =
     let tall : length now ≡ net.raw.nets = before.matrix.tall in
     let column = c.put_column.ensures in
     let known : (run : ℕ → ℕ → Bool) → IsGivenRun net.raw (cell given) c.args.first.now c.args.times run → AreBits net.raw (run t) bits = λ run h.
-    c.in_ok-settle.ensures (run t)
+    c.settle.ensures (run t)
     (determined net.raw c.args.nodes.now c.deref.result.now c.deref-in-loop-t.result.now c.args.first.now given now c.args.times t c.requires.nodes c.loop-t-test.true
     (c.deref.ensures.value ∙ c.in_ok-gather.ensures) (λ id. before.later t id (omega arith)) run h (c.deref-in-loop-t.ensures.value ∙ before.held run h c.loop-t-test.true)) in
     record {
