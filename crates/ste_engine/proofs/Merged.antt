@@ -1,6 +1,8 @@
 -- Timelines: what begins at each time, and what runs on.
 use Rattle.std.proofs.Common.{◌≡◌, ℕ, zero, suc, ◌+◌, ◌-◌, ◌<◌, ◌≤◌, Bool, true, false, List, [], ◌∷◌, ◌++◌, length, take, drop, get_or, set, filter, replicate, refl, sym, ◌∙◌, ap, arith, inl, inr}
 use Rattle.std.specs.Prelude.{◌==◌, ◌&&◌, ◌⊎◌, nat_le, nat_lt, if◌then◌else◌}
+use Rattle.std.specs.Prelude.{cond}
+use Rattle.std.specs.List.{list_all}
 use Rattle.std.proofs.lemmas.Bool.Decides.{nat_tests, eqb_tells}
 use Rattle.std.proofs.lemmas.Grind.{get_or-set_at}
 use Rattle.std.proofs.lemmas.List.{append-nil, append_assoc, get_or-set_other, get_or-replicate, get_or_default, length-drop, length-set, length-replicate, take_all}
@@ -185,3 +187,12 @@ starts_put asks depth k d starts next old lt some within was is h = record {
     by_other : (t : ℕ) (b : Bool) → b ≡ false → filter (begins_at t) (take k asks) ++ (if b then a ∷ [] else []) ≡ filter (begins_at t) (take k asks)
     by_other t false e = append-nil (filter (begins_at t) (take k asks))
     by_other t true e = absurd (cc e)
+
+-- what all pass leaves a list as it is
+pub kept_all : (p : Ask → Bool) (xs : List Ask) → list_all p xs ≡ true → filter p xs ≡ xs
+kept_all p [] h = refl
+kept_all p (x ∷ xs) h = by (p x) h (λ rest. kept_all p xs rest)
+  where
+    by : (b : Bool) → (b && list_all p xs) ≡ true → (list_all p xs ≡ true → filter p xs ≡ xs) → cond b (x ∷ filter p xs) (filter p xs) ≡ x ∷ xs
+    by true h rest = ap (λ (ys : List Ask). x ∷ ys) (rest h)
+    by false h rest = absurd (cc h)

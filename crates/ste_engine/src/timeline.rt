@@ -1,6 +1,7 @@
 //! What is asked, time after time, without a look at what is not; begin with `Timeline`.
 
-ghost use Rattle.std.specs.Prelude.{◌≡◌, ◌≤◌, ◌<◌, ◌+◌, ℕ, List, [], All, IfOk, IsOk, filter, length, nat_lt, replicate};
+ghost use Rattle.std.specs.Prelude.{◌≡◌, ◌≤◌, ◌<◌, ◌+◌, ℕ, List, [], All, IfOk, IsOk, IsTrue, filter, length, nat_lt, replicate, slice_index_or, true};
+ghost use Rattle.std.specs.List.{list_all};
 ghost use Rattle.ste_engine.specs.private.Asks.{ArePlaced, cuts_of};
 ghost use Rattle.ste_engine.specs.private.Times.{AreStarts, HasTurned, IsTimeline};
 
@@ -56,6 +57,13 @@ fn lasting(alloc: Global, asks: &[Ask], t: Time) -> Result<Vec<Ask>, AllocError>
     Ok(some)
 }
 
+/// Whether none of these has ended at time t.
+fn all_last(asks: &[Ask], t: Time) -> bool
+    ensures { result ≡ list_all (λ ask. nat_lt t ask.to) asks.now }
+{
+    asks.iter().all(|ask| t < ask.to)
+}
+
 impl Timeline {
     /// What is asked, before time 0.
     pub fn of(alloc: Global, asks: &[Ask], depth: Time) -> Result<Timeline, AllocError>
@@ -69,13 +77,26 @@ impl Timeline {
         })
     }
 
-    /// Goes on to time t, whose turn it is.
+    /// Whether time t changes nothing: nothing begins then, and nothing that runs has ended.
+    fn stays(&self, t: Time) -> bool
+        requires { t < length self.now.starts.items }
+        ensures none { IsTrue result → slice_index_or self.now.starts.items t [] ≡ [] }
+        ensures all { IsTrue result
+            → list_all (λ ask. nat_lt t ask.to) self.now.running.items ≡ true }
+    {
+        self.starts[t as usize].len() == 0 && all_last(&self.running, t)
+    }
+
+    /// Goes on to time t, whose turn it is. It takes no memory where time t changes nothing.
     fn advance(&mut self, alloc: Global, t: Time) -> Result<(), AllocError>
         requires { t < length self.old.starts.items }
         ensures { IsOk result → (asks : List Ask) (depth : ℕ)
             → IsTimeline asks depth t self.old → t < depth → ArePlaced 0 asks
             → IsTimeline asks depth (t + 1) self.new }
     {
+        if self.stays(t) {
+            return Ok(());
+        }
         let lasting = lasting(alloc, &self.running, t)?;
         self.running = merge(alloc, &lasting, self.starts[t as usize].as_slice())?;
         Ok(())

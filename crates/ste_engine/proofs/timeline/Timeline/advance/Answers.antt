@@ -1,9 +1,9 @@
-use Rattle.std.proofs.Common.{◌≡◌, [], ◌∙◌, ap, arith, filter, List}
+use Rattle.std.proofs.Common.{◌≡◌, [], ◌∙◌, ap, arith, filter, List, sym}
 use Rattle.std.specs.Prelude.{nat_lt}
 use Rattle.std.proofs.lemmas.List.{get_or_default}
 use Rattle.ste_engine.specs.declared.asks.Ask.{Ask}
 use Rattle.ste_engine.specs.private.Asks.{begins_at, merge as merge_of, ran_before}
-use Rattle.ste_engine.proofs.Merged.{runs_on}
+use Rattle.ste_engine.proofs.Merged.{kept_all, runs_on}
 use Rattle.ste_engine.proofs.timeline.Timeline.advance.Goals as goal
 
 pub returns : goal.returns
@@ -17,4 +17,18 @@ returns c = λ ok asks depth is lt placed.
     record {
       starts = is.starts;
       running = c.in_ok-self.ensures ∙ ap (λ xs. merge_of xs c.as_slice.result.now) running ∙ ap (λ xs. merge_of (lasts (filter (ran_before t) asks)) xs) beginning ∙ runs_on t 0 asks placed;
+    }
+
+pub returns-then-stays : goal.returns-then-stays
+returns-then-stays c = λ ok asks depth is lt placed.
+    let t = c.args.t in
+    let lasts : List Ask → List Ask = λ xs. filter (λ ask. nat_lt t ask.to) xs in
+    let begins : List Ask = filter (begins_at t) asks in
+    let long = is.starts.long in
+    let p = c.stays.ensures in
+    let none : [] ≡ begins = sym (p.none c.if-stays.true) ∙ is.starts.each t lt in
+    let all : c.args.self.now.running.items ≡ lasts c.args.self.now.running.items = sym (kept_all (λ ask. nat_lt t ask.to) c.args.self.now.running.items (p.all c.if-stays.true)) in
+    record {
+      starts = is.starts;
+      running = all ∙ ap lasts is.running ∙ ap (λ xs. merge_of (lasts (filter (ran_before t) asks)) xs) none ∙ runs_on t 0 asks placed;
     }
