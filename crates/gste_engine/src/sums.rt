@@ -1,12 +1,11 @@
 //! What comes to a vertex, summed in the order of the edges; begin with `sum_of`.
 
-ghost use Rattle.std.specs.Prelude.{◌≡◌, ◌<◌, ◌∷◌, [], List, All, IfOk, length, map, replicate};
+ghost use Rattle.std.specs.Prelude.{◌≡◌, ◌<◌, List, All, IfOk, length, map, replicate};
 ghost use Rattle.std.specs.List.{AllZip};
-ghost use Rattle.dd_nodes.specs.Stores.{IsRef, Means};
+ghost use Rattle.dd_nodes.specs.Stores.{IsRef};
 ghost use Rattle.net_core.specs.Work.{SymbolicSet};
 ghost use Rattle.dual_rail.specs.Rail.{AreRails, AreRefs, Built};
 ghost use Rattle.ste_model.specs.declared.task.Edge.{Edge as AnEdge};
-ghost use Rattle.ste_model.specs.Edges.{IsGraph};
 ghost use Rattle.ste_model.specs.GraphWork.{SymbolicState, sets_functions};
 ghost use Rattle.gste_engine.specs.declared.links.End.TheVariants.{To};
 ghost use Rattle.gste_engine.specs.Tables.{IsState};
@@ -28,13 +27,12 @@ use ste_model::Graph;
 fn no_sets(alloc: Global, net: &Net) -> Result<Vec<Rails>, AllocError>
     ensures { IfOk result (λ sets. sets.items ≡ map (λ latch. no_rails) net.now.raw.latches) }
 {
-    net.latches()
-        .iter()
-        .map(|_| Rails {
-            can0: Ref::FALSE,
-            can1: Ref::FALSE,
-        })
-        .collect(alloc)
+    let none = Rails {
+        can0: Ref::FALSE,
+        can1: Ref::FALSE,
+    };
+    let sets = vec![in alloc; none; net.latches().len()]?;
+    Ok(sets)
 }
 
 /// What a table says of a vertex that is not reached under any assignment.
@@ -53,7 +51,7 @@ pub fn nothing(alloc: Global, net: &Net, graph: &Graph) -> Result<Vec<State>, Al
     ensures { IfOk result (λ table. table.items
         ≡ replicate (length graph.now.vertices) (unreached net.now.raw)) }
 {
-    let mut table = Vec::new(alloc);
+    let mut table = Vec::with_capacity(alloc, graph.vertices.len())?;
     for _ in 0..graph.vertices.len() {
         let state = unreached(alloc, net)?;
         table.push(state)?;
@@ -66,7 +64,7 @@ pub fn nothing_given(alloc: Global, net: &Net, graph: &Graph) -> Result<Vec<Stat
     ensures { IfOk result (λ givens. givens.items
         ≡ replicate (length graph.now.edges) (unreached net.now.raw)) }
 {
-    let mut givens = Vec::new(alloc);
+    let mut givens = Vec::with_capacity(alloc, graph.edges.len())?;
     for _ in 0..graph.edges.len() {
         let state = unreached(alloc, net)?;
         givens.push(state)?;
@@ -100,59 +98,48 @@ pub fn begun(alloc: Global, net: &Net, graph: &Graph) -> Result<Vec<State>, Allo
     Ok(table)
 }
 
-/// The unions of the sets, latch by latch.
+/// The unions of the sets, latch by latch, in the list that has the first ones.
 fn join_all<N: Nodes>(
-    alloc: Global,
     ops: &Ops,
     nodes: &mut N,
-    a: &[Rails],
+    a: Items<Rails>,
     b: &[Rails],
 ) -> Result<Items<Rails>, OpFault>
-    requires long { length a.now ≡ length b.now }
-    requires left { All (AreRefs (N.store nodes.old)) a.now }
+    requires long { length a ≡ length b.now }
+    requires left { All (AreRefs (N.store nodes.old)) a }
     requires right { All (AreRefs (N.store nodes.old)) b.now }
-    ensures { (vs ws : List SymbolicSet) → AllZip (AreRails (N.store nodes.old)) vs a.now
+    ensures { (vs ws : List SymbolicSet) → AllZip (AreRails (N.store nodes.old)) vs a
         → AllZip (AreRails (N.store nodes.old)) ws b.now
         → Built (sets_functions (unions vs ws)) (λ t all. AllZip (AreRails t) (unions vs ws) all)
         (N.store nodes.old) (N.store nodes.new) result }
 {
-    let mut all = Items::new(alloc);
-    for k in 0..a.len() {
-        let one = join(ops, nodes, a[k], b[k])?;
-        match all.push(one) {
-            Ok(()) => {}
-            Err(_) => return Err(OpFault::OutOfMemory),
-        }
+    let mut all = Vec::from(a);
+    for k in 0..b.len() {
+        let one = join(ops, nodes, all[k], b[k])?;
+        all[k] = one;
     }
-    Ok(all)
+    Ok(Items::from(all))
 }
 
 /// A state with what one more edge gives.
 fn with_state<N: Nodes>(
-    alloc: Global,
     ops: &Ops,
     nodes: &mut N,
-    state: &State,
+    state: State,
     more: &State,
 ) -> Result<State, OpFault>
-    requires long { length state.now.latches ≡ length more.now.latches }
-    requires reached { IsRef (N.store nodes.old) state.now.reached }
-    requires latches { All (AreRefs (N.store nodes.old)) state.now.latches }
+    requires long { length state.latches ≡ length more.now.latches }
+    requires reached { IsRef (N.store nodes.old) state.reached }
+    requires latches { All (AreRefs (N.store nodes.old)) state.latches }
     requires more_reached { IsRef (N.store nodes.old) more.now.reached }
     requires more_latches { All (AreRefs (N.store nodes.old)) more.now.latches }
-    ensures { (x y : SymbolicState) → IsState (N.store nodes.old) x state.now
+    ensures { (x y : SymbolicState) → IsState (N.store nodes.old) x state
         → IsState (N.store nodes.old) y more.now
         → Built (state_functions (with_state x y)) (λ t r. IsState t (with_state x y) r)
         (N.store nodes.old) (N.store nodes.new) result }
 {
     let reached = either(ops, nodes, state.reached, more.reached)?;
-    let latches = join_all(
-        alloc,
-        ops,
-        nodes,
-        state.latches.as_slice(),
-        more.latches.as_slice(),
-    )?;
+    let latches = join_all(ops, nodes, state.latches, more.latches.as_slice())?;
     Ok(State { reached, latches })
 }
 
@@ -182,7 +169,7 @@ pub fn sum_of<N: Nodes>(
     };
     let mut k = into.first[vertex];
     while k < givens.len() {
-        sum = with_state(alloc, &ops, nodes, &sum, &givens[k])?;
+        sum = with_state(&ops, nodes, sum, &givens[k])?;
         k = into.next[k];
     }
     Ok(sum)

@@ -20,7 +20,7 @@ returns-in_err-reached g c = λ x y hx hy.
     let t : Store = g.N.Nodes.store c.either.new.nodes in
     let gs = g.met.N.Nodes.diagram c.args.nodes.now in
     let gt = g.met.N.Nodes.diagram c.either.new.nodes in
-    let state : State = c.args.state.now in
+    let state : State = c.args.state in
     let other : State = c.args.more.now in
     let work : List Function = state_functions (with_state x y) in
     let Good : Store → State → Type 0 = λ t r. IsState t (with_state x y) r in
@@ -35,7 +35,7 @@ returns-in_err-latches g c = λ x y hx hy.
     let t : Store = g.N.Nodes.store c.either.new.nodes in
     let gs = g.met.N.Nodes.diagram c.args.nodes.now in
     let gt = g.met.N.Nodes.diagram c.either.new.nodes in
-    let state : State = c.args.state.now in
+    let state : State = c.args.state in
     let other : State = c.args.more.now in
     let work : List Function = state_functions (with_state x y) in
     let Good : Store → State → Type 0 = λ t r. IsState t (with_state x y) r in
@@ -45,8 +45,8 @@ returns-in_err-latches g c = λ x y hx hy.
     let so1 = first work (HasFunction f) s t (Ok reached) a in
     let u : Store = g.N.Nodes.store c.join_all.new.nodes in
     let gu = g.met.N.Nodes.diagram c.join_all.new.nodes in
-    let left : AllZip (AreRails t) x.latches c.as_slice.result.now = subst (λ (xs : List Rails). AllZip (AreRails t) x.latches xs) (sym c.as_slice.ensures) (Zip-keep s t x.latches state.latches gs gt a.spends.keeps hx.latches) in
-    let right : AllZip (AreRails t) y.latches c.as_slice-2.result.now = subst (λ (xs : List Rails). AllZip (AreRails t) y.latches xs) (sym c.as_slice-2.ensures) (Zip-keep s t y.latches other.latches gs gt a.spends.keeps hy.latches) in
+    let left : AllZip (AreRails t) x.latches state.latches = Zip-keep s t x.latches state.latches gs gt a.spends.keeps hx.latches in
+    let right : AllZip (AreRails t) y.latches c.as_slice.result.now = subst (λ (xs : List Rails). AllZip (AreRails t) y.latches xs) (sym c.as_slice.ensures) (Zip-keep s t y.latches other.latches gs gt a.spends.keeps hy.latches) in
     let part : List Function = sets_functions (unions x.latches y.latches) in
     let Latches : Store → List Rails → Type 0 = λ t all. AllZip (AreRails t) (unions x.latches y.latches) all in
     let fault = c.in_err-latches.field-0.0 in
@@ -59,7 +59,7 @@ returns g c = λ x y hx hy.
     let t : Store = g.N.Nodes.store c.either.new.nodes in
     let gs = g.met.N.Nodes.diagram c.args.nodes.now in
     let gt = g.met.N.Nodes.diagram c.either.new.nodes in
-    let state : State = c.args.state.now in
+    let state : State = c.args.state in
     let other : State = c.args.more.now in
     let work : List Function = state_functions (with_state x y) in
     let Good : Store → State → Type 0 = λ t r. IsState t (with_state x y) r in
@@ -69,8 +69,8 @@ returns g c = λ x y hx hy.
     let so1 = first work (HasFunction f) s t (Ok reached) a in
     let u : Store = g.N.Nodes.store c.join_all.new.nodes in
     let gu = g.met.N.Nodes.diagram c.join_all.new.nodes in
-    let left : AllZip (AreRails t) x.latches c.as_slice.result.now = subst (λ (xs : List Rails). AllZip (AreRails t) x.latches xs) (sym c.as_slice.ensures) (Zip-keep s t x.latches state.latches gs gt a.spends.keeps hx.latches) in
-    let right : AllZip (AreRails t) y.latches c.as_slice-2.result.now = subst (λ (xs : List Rails). AllZip (AreRails t) y.latches xs) (sym c.as_slice-2.ensures) (Zip-keep s t y.latches other.latches gs gt a.spends.keeps hy.latches) in
+    let left : AllZip (AreRails t) x.latches state.latches = Zip-keep s t x.latches state.latches gs gt a.spends.keeps hx.latches in
+    let right : AllZip (AreRails t) y.latches c.as_slice.result.now = subst (λ (xs : List Rails). AllZip (AreRails t) y.latches xs) (sym c.as_slice.ensures) (Zip-keep s t y.latches other.latches gs gt a.spends.keeps hy.latches) in
     let part : List Function = sets_functions (unions x.latches y.latches) in
     let Latches : Store → List Rails → Type 0 = λ t all. AllZip (AreRails t) (unions x.latches y.latches) all in
     let latches : List Rails = c.in_ok-latches.latches in
@@ -79,7 +79,7 @@ returns g c = λ x y hx hy.
     (record { reached = Means-keeps t u f reached gt gu b.spends.keeps a.ok; latches = b.ok })
 
 pub join_all-requires-clause-long : goal.join_all-requires-clause-long
-join_all-requires-clause-long g c = ap (λ (xs : List Rails). length xs) c.as_slice.ensures ∙ c.requires.long ∙ ap (λ (xs : List Rails). length xs) (sym c.as_slice-2.ensures)
+join_all-requires-clause-long g c = c.requires.long ∙ ap (λ (xs : List Rails). length xs) (sym c.as_slice.ensures)
 
 pub join_all-requires-clause-left : goal.join_all-requires-clause-left
 join_all-requires-clause-left g c =
@@ -87,9 +87,9 @@ join_all-requires-clause-left g c =
     let t : Store = g.N.Nodes.store c.either.new.nodes in
     let gs = g.met.N.Nodes.diagram c.args.nodes.now in
     let gt = g.met.N.Nodes.diagram c.either.new.nodes in
-    let state : State = c.args.state.now in
+    let state : State = c.args.state in
     let other : State = c.args.more.now in
-    subst (λ (xs : List Rails). All (AreRefs t) xs) (sym c.as_slice.ensures) (All-refs-keep s t state.latches c.in_ok-reached.ensures.keeps c.requires.latches)
+    All-refs-keep s t state.latches c.in_ok-reached.ensures.keeps c.requires.latches
 
 pub join_all-requires-clause-right : goal.join_all-requires-clause-right
 join_all-requires-clause-right g c =
@@ -97,6 +97,6 @@ join_all-requires-clause-right g c =
     let t : Store = g.N.Nodes.store c.either.new.nodes in
     let gs = g.met.N.Nodes.diagram c.args.nodes.now in
     let gt = g.met.N.Nodes.diagram c.either.new.nodes in
-    let state : State = c.args.state.now in
+    let state : State = c.args.state in
     let other : State = c.args.more.now in
-    subst (λ (xs : List Rails). All (AreRefs t) xs) (sym c.as_slice-2.ensures) (All-refs-keep s t other.latches c.in_ok-reached.ensures.keeps c.requires.more_latches)
+    subst (λ (xs : List Rails). All (AreRefs t) xs) (sym c.as_slice.ensures) (All-refs-keep s t other.latches c.in_ok-reached.ensures.keeps c.requires.more_latches)
