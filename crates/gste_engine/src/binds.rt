@@ -1,6 +1,6 @@
 //! What an edge asks, by references; begin with `cuts_of`.
 
-ghost use Rattle.std.specs.Prelude.{◌≡◌, ◌&&◌, IsTrue};
+ghost use Rattle.std.specs.Prelude.{◌&&◌, IsTrue};
 ghost use Rattle.std.specs.List.{AllZip};
 ghost use Rattle.dual_rail.specs.Rail.{Built};
 ghost use Rattle.sym_step.specs.Step.{IsCutBy};
@@ -44,7 +44,7 @@ pub fn cuts_of<N: Nodes>(
         (λ t cuts. AllZip (IsCutBy t) (symbolic_binds binds.now) cuts.items)
         (N.store nodes.old) (N.store nodes.new) result }
 {
-    let mut cuts = Vec::new(alloc);
+    let mut cuts = Vec::with_capacity(alloc, binds.len())?;
     for k in 0..binds.len() {
         let cut = cut_of(ops, nodes, &binds[k])?;
         match cuts.push(cut) {

@@ -1,7 +1,6 @@
 //! One edge under one assignment, by constants; begin with `taken_on`.
 
 ghost use Rattle.std.specs.Prelude.{◌≡◌, ◌<◌, ℕ, All, IfOk, OnOk, length, map};
-ghost use Rattle.dd_nodes.specs.Stores.{function};
 ghost use Rattle.dual_rail.specs.Rail.{AreRefs, set_of};
 ghost use Rattle.sym_step.specs.Step.{rows_of};
 ghost use Rattle.sym_step.specs.private.Frames.{IsFrame};
@@ -55,7 +54,7 @@ fn fixed_sets<N: Nodes>(
         all.items ≡ map (fixed_rails (N.store nodes.old) bits.now) sets.now) }
     ensures store { N.store nodes.new ≡ N.store nodes.old }
 {
-    let mut all = Vec::new(alloc);
+    let mut all = Vec::with_capacity(alloc, sets.len())?;
     for k in 0..sets.len() {
         let one = fixed_rails(nodes, sets[k], bits);
         all.push(one)?;
@@ -78,7 +77,7 @@ fn fixed_bind(bind: &Bind, bits: &[bool]) -> Cut
 fn fixed_binds(alloc: Global, binds: &[Bind], bits: &[bool]) -> Result<Vec<Cut>, AllocError>
     ensures { IfOk result (λ cuts. cuts.items ≡ map (fixed_bind bits.now) binds.now) }
 {
-    let mut cuts = Vec::new(alloc);
+    let mut cuts = Vec::with_capacity(alloc, binds.len())?;
     for bind in binds {
         cuts.push(fixed_bind(bind, bits))?;
     }

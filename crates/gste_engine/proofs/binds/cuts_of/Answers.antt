@@ -4,7 +4,7 @@ use Rattle.std.specs.Prelude.{◌&&◌, IsTrue}
 use Rattle.std.proofs.lemmas.List.{map_more, take_all}
 use Rattle.dd_nodes.specs.Stores.{Store}
 use Rattle.net_core.specs.Work.{SymbolicCut}
-use Rattle.dual_rail.proofs.Works.{Built-lost, Built-made, So-start, Within, first, pass}
+use Rattle.dual_rail.proofs.Works.{Built-lost, Built-made, So-start, Within, first, lost, pass}
 use Rattle.ste_model.specs.declared.task.Bind.{Bind}
 use Rattle.ste_model.specs.Expressions.{reads}
 use Rattle.ste_model.specs.GraphWork.{binds_work, symbolic_bind, symbolic_binds}
@@ -41,6 +41,12 @@ loop-k-preserved g c =
           (zip_push (IsCutBy u) (symbolic_binds (take k binds)) c.loop-k.cuts.items (symbolic_bind q) cut (Demands-keep t u (symbolic_binds (take k binds)) c.loop-k.cuts.items gt gu keeps p.fit) b.ok));
     }
 
+pub returns-in_err-cuts : goal.returns-in_err-cuts
+returns-in_err-cuts g c =
+    let s : Store = g.N.Nodes.store c.args.nodes.now in
+    let binds : List Bind = c.args.binds.now in
+    lost (binds_work binds) (λ t (cuts : Vec Cut Global). AllZip (IsCutBy t) (symbolic_binds binds) cuts.items) s s c.from_residual.result (So-start (binds_work binds) s) c.from_residual.ensures.1
+
 pub returns-in_err-cut : goal.returns-in_err-cut
 returns-in_err-cut g c =
     let s : Store = g.N.Nodes.store c.args.nodes.now in
@@ -55,8 +61,8 @@ returns-in_err-cut g c =
     let lt : k < length binds = omega (arith, c.loop-k-test.true) in
     let fault = c.in_err-cut.field-0.0 in
     let within : Within (bind_work q) (binds_work binds) = λ f h. binds_has binds k q lt f (subst (λ (x : Bind). Contains (bind_work x) f) c.index-binds-k.is h) in
-    pass (binds_work binds) (λ t a. IsCutBy t (symbolic_bind q) a) (λ t (cuts : Vec Cut Global). AllZip (IsCutBy t) (symbolic_binds binds) cuts.items) s s u fault c.from_residual.result gs gu (So-start (binds_work binds) s)
-    (turned (binds_work binds) (bind_work q) (λ t a. IsCutBy t (symbolic_bind q) a) s t u (Err fault) gt gu within c.loop-k.invariant.so c.in_err-cut.ensures) c.from_residual.ensures.1
+    pass (binds_work binds) (λ t a. IsCutBy t (symbolic_bind q) a) (λ t (cuts : Vec Cut Global). AllZip (IsCutBy t) (symbolic_binds binds) cuts.items) s s u fault c.from_residual-in_err-cut.result gs gu (So-start (binds_work binds) s)
+    (turned (binds_work binds) (bind_work q) (λ t a. IsCutBy t (symbolic_bind q) a) s t u (Err fault) gt gu within c.loop-k.invariant.so c.in_err-cut.ensures) c.from_residual-in_err-cut.ensures.1
 
 pub returns-in-Err : goal.returns-in-Err
 returns-in-Err g c =
