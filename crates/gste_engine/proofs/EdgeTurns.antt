@@ -2,7 +2,7 @@
 use Rattle.std.proofs.Common.{◌≡◌, ℕ, zero, suc, ◌+◌, ◌<◌, List, [], ◌∷◌, ◌++◌, length, take, get_or, map, refl, sym, ◌∙◌, ap, subst, arith, All, Contains, Result}
 use Rattle.std.specs.List.{AllZip, flat_map}
 use Rattle.std.proofs.lemmas.Grind.{flat_map-append}
-use Rattle.std.proofs.lemmas.List.{append-nil, get_or_default, map_more, take_more}
+use Rattle.std.proofs.lemmas.List.{append-nil, map_more, take_more}
 use Rattle.std.proofs.lemmas.List.Elements.{Contains-append_left, Contains-append_right}
 use Rattle.dd_nodes.specs.Diagram.{Function}
 use Rattle.dd_nodes.specs.Stores.{Store, IsRef, Keeps, Means}
@@ -13,11 +13,11 @@ use Rattle.net_core.specs.declared.raw.RawNet.{RawNet}
 use Rattle.net_core.specs.Run.{IsSettled}
 use Rattle.net_core.specs.Work.{ArePossibleEach, SymbolicCut, SymbolicSet, chain, disjunction, never, sum, sums, whole}
 use Rattle.dual_rail.specs.declared.rails.Rails.{Rails}
-use Rattle.dual_rail.specs.Rail.{AreRails, AreRefs, Built}
+use Rattle.dual_rail.specs.Rail.{AreRails, Built}
 use Rattle.dual_rail.proofs.Turns.{within_more}
-use Rattle.dual_rail.proofs.Works.{SoFar, Within, behind, here, refs_of}
+use Rattle.dual_rail.proofs.Works.{SoFar, Within, behind, here}
 use Rattle.sym_step.specs.declared.cut.Cut.{Cut}
-use Rattle.sym_step.specs.Step.{IsCutBy, IsCutOf, rails_at}
+use Rattle.sym_step.specs.Step.{IsCutBy, IsCutOf}
 use Rattle.sym_step.proofs.Cutting.{SymbolicCut-keeps}
 use Rattle.sym_step.proofs.Whole.{sets_exist}
 use Rattle.ste_engine.proofs.Found.{within_both}
@@ -99,14 +99,6 @@ edge_left s t net edge r result settled refs call =
     let is : IsState s x r = own_is s net r refs in
     let family = sets_exist net s.vars x.latches (symbolic_asked_on edge) settled (own_long s net r refs) in
     (x, family.0, call x.reached x.latches family.0 is.reached is.latches family.1)
-
-abbrev no_net : Rails
-no_net = record { can0 = record { 0 = 1 }; can1 = record { 0 = 1 } }
-
--- each net has references
-pub found_nets : (net : RawNet) (x : SymbolicState) (sets : ℕ → SymbolicSet) (t : Store) (r : EdgeFound) → IsEdgeFound net x sets t r → All (AreRefs t) r.nets
-found_nets net x sets t r m = λ k d lt.
-    subst (AreRefs t) (get_or_default r.nets k no_net d lt) (refs_of t (sets k) (rails_at r.nets k) (m.nets k (let n = m.long in omega (arith, n, lt))))
 
 pub Cuts-keep : (s t : Store) (ds : List SymbolicCut) (cuts : List Cut) → IsGood s → IsGood t → Keeps s t → AllZip (IsCutBy s) ds cuts → AllZip (IsCutBy t) ds cuts
 Cuts-keep s t ds cuts gs gt k zip = zip_weaker (IsCutBy s) (IsCutBy t) ds cuts (λ d c h. SymbolicCut-keeps s t d c gs gt k h) zip

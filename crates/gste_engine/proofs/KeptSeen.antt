@@ -19,6 +19,7 @@ use Rattle.ste_model.specs.declared.task.Edge.{Edge}
 use Rattle.ste_model.specs.GraphTable.{VertexState}
 use Rattle.ste_model.specs.GraphWork.{SymbolicState, state_at, symbolic_asked_on, symbolic_binds}
 use Rattle.sym_step.specs.Step.{HaveSets, rails_at}
+use Rattle.sym_step.specs.private.Frames.{nets_of}
 use Rattle.gste_engine.specs.declared.edge.EdgeFound.{EdgeFound}
 use Rattle.gste_engine.specs.declared.state.State.{State}
 use Rattle.gste_engine.specs.Tables.{HasStates, IsEdgeFound, IsState}
@@ -74,7 +75,7 @@ seen_zip t net sets nets have [] = tt
 seen_zip t net sets nets have (bind ∷ binds) = (λ lt. have bind.node.0 lt, seen_zip t net sets nets have binds)
 
 pub edge_seen : (net : RawNet) (states : ℕ → SymbolicState) (sets : Edge → ℕ → SymbolicSet) (edges : List Edge) (table : List State) (s u : Store) (k : ℕ) (edge : Edge) (source : State) (found : EdgeFound) → IsGood s → IsGood u → k < length edges → edge ≡ get_or edges k edge → edge.from < length table → source ≡ get_or table edge.from source → HasStates states (length table) s table → ArePossibleOn s.vars net states sets edges
-    → Keeps s u → IsEdgeFound net (states edge.from) (sets edge) u found → IsSeenFrom u net edge source (map (rails_of found.nets) edge.con)
+    → Keeps s u → IsEdgeFound net (states edge.from) (sets edge) u found → IsSeenFrom u net edge source (map (rails_of (nets_of found.frame)) edge.con)
 edge_seen net states sets edges table s u k edge source found gs gu lt is inside is_source has possible keeps h =
     let x : SymbolicState = states edge.from in
     let old : IsState s x source = subst (λ (r : State). IsState s x r) (sym is_source) (has.each edge.from source inside) in
@@ -84,8 +85,8 @@ edge_seen net states sets edges table s u k edge source found gs gu lt is inside
       sets = sets edge;
       is_source = State-keeps s u x source gs gu keeps old;
       possible = subst (λ v. ArePossibleEach v net x.latches (symbolic_asked_on edge) (sets edge)) (sym keeps.vars) family;
-      nets = λ id l. (rails_at found.nets id, h.nets id l);
-      seen = seen_zip u net (sets edge) found.nets h.nets edge.con;
+      nets = λ id l. (rails_at (nets_of found.frame) id, h.nets id l);
+      seen = seen_zip u net (sets edge) (nets_of found.frame) h.nets edge.con;
     }
 
 -- ---- by cuts

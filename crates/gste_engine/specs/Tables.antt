@@ -7,6 +7,7 @@ use Rattle.net_core.specs.declared.raw.RawNet.{RawNet}
 use Rattle.net_core.specs.Work.{SymbolicSet}
 use Rattle.dual_rail.specs.Rail.{AreRails, AreRefs}
 use Rattle.sym_step.specs.Step.{HaveSets}
+use Rattle.sym_step.specs.private.Frames.{nets_of}
 use Rattle.ste_model.specs.declared.task.Edge.{Edge}
 use Rattle.ste_model.specs.declared.task.Graph.{Graph}
 use Rattle.ste_model.specs.Edges.{IsGraph}
@@ -28,11 +29,11 @@ pub record AreStateRefs (t : Store) (net : RawNet) (r : State) : Type 0 where
   pub reached : IsRef t r.reached
   pub latches : All (AreRefs t) r.latches
 
--- What an edge gives, where this is the state of its source, and these are the sets of its time step: those of all nets,
--- where it is feasible, and what it gives to its target.
+-- What an edge gives, where this is the state of its source, and these are the sets of its time step: those of all nets, in
+-- its frame, where it is feasible, and what it gives to its target.
 pub record IsEdgeFound (net : RawNet) (source : SymbolicState) (sets : ℕ → SymbolicSet) (t : Store) (r : EdgeFound) : Type 0 where
-  pub long : length r.nets ≡ net.nets
-  pub nets : HaveSets net sets t r.nets
+  pub long : length (nets_of r.frame) ≡ net.nets
+  pub nets : HaveSets net sets t (nets_of r.frame)
   pub feasible : Means t (feasible_where net source sets) r.feasible
   pub next : AllZip (AreRails t) (given_by net source sets).latches r.next
 

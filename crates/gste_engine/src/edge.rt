@@ -1,14 +1,14 @@
 //! One edge on a table; begin with `edge_found`.
 
-ghost use Rattle.std.specs.Prelude.{◌≡◌, ◌<◌, ℕ, List, All, OnOk, length, map};
+ghost use Rattle.std.specs.Prelude.{◌≡◌, ◌<◌, ℕ, List, All, IfOk, map};
 ghost use Rattle.std.specs.List.{AllZip};
 ghost use Rattle.dd_nodes.specs.Diagram.{Function};
-ghost use Rattle.dd_nodes.specs.Stores.{IsRef, Means};
+ghost use Rattle.dd_nodes.specs.Stores.{IsRef, Means, Store};
 ghost use Rattle.net_core.specs.declared.raw.RawNet.{RawNet};
 ghost use Rattle.net_core.specs.Work.{ArePossibleEach, SymbolicSet};
-ghost use Rattle.dual_rail.specs.Rail.{AreRails, AreRefs, Built};
+ghost use Rattle.dual_rail.specs.Rail.{AreRails, Built};
 ghost use Rattle.sym_step.specs.Step.{IsStep, rows_of};
-ghost use Rattle.sym_step.specs.private.Frames.{IsFrame};
+ghost use Rattle.sym_step.specs.private.Frames.{IsFrame, next_of, step_of};
 ghost use Rattle.ste_model.specs.GraphNeed.{BindsReadBelow};
 ghost use Rattle.ste_model.specs.GraphWork.{SymbolicState, edge_work, symbolic_asked_on};
 ghost use Rattle.gste_engine.specs.Tables.{AreStateRefs, IsEdgeFound};
@@ -21,42 +21,56 @@ use dd_nodes::{Nodes, Ref};
 use dd_ops::{OpFault, Ops};
 use dual_rail::{Rails, both};
 use net_core::Net;
-use std::alloc::Global;
+use std::alloc::{AllocError, Global};
 use ste_base::Items;
 use ste_model::Edge;
-use sym_step::{Frame, GateRows, Step, advance};
+use sym_step::{Frame, GateRows, renew};
 
-/// What one edge gives on a table: the sets of all nets at its time step, where it is feasible, and the sets of the latch
-/// inputs where it is, with no bit elsewhere.
+/// What one edge gives on a table: a frame of its time step, which has the sets of all nets, where it is feasible, and
+/// the sets of the latch inputs where it is, with no bit elsewhere.
 #[derive(Debug, Drop)]
 pub struct EdgeFound {
-    pub nets: Items<Rails>,
+    pub frame: Frame,
     pub feasible: Ref,
     pub next: Items<Rails>,
 }
 
-/// Where the edge is feasible, and what it gives, from the sets of its time step.
+/// A frame before a time at which the latches have the sets that a table says of a vertex, from a frame of any time.
+fn frame_at(alloc: Global, source: &State, frame: Frame) -> Result<Frame, AllocError>
+    ensures frame { IfOk result (λ begun. (s : Store) (net : RawNet)
+        → IsFrame s net frame → AreStateRefs s net source.now → IsFrame s net begun) }
+    ensures next { IfOk result (λ begun. (net : RawNet) → next_of net begun ≡ source.now.latches) }
+{
+    let latches = source.latches.as_slice().to_vec(alloc)?;
+    Ok(frame.restarted(Items::from(latches)))
+}
+
+/// Where the edge is feasible, and what it gives, from the frame of its time step. `empty` is where some net has no
+/// bit.
 fn given<N: Nodes>(
     alloc: Global,
     ops: &Ops,
     nodes: &mut N,
+    net: &Net,
     reached: Ref,
-    made: Step,
+    empty: Ref,
+    frame: Frame,
 ) -> Result<EdgeFound, OpFault>
     requires reached { IsRef (N.store nodes.old) reached }
-    requires contradictory { IsRef (N.store nodes.old) made.contradictory }
-    requires next { All (AreRefs (N.store nodes.old)) made.next }
-    ensures { (net : RawNet) (source : SymbolicState) (sets : ℕ → SymbolicSet)
+    requires empty { IsRef (N.store nodes.old) empty }
+    requires frame { IsFrame (N.store nodes.old) net.now.raw frame }
+    ensures found { (source : SymbolicState) (sets : ℕ → SymbolicSet)
         → Means (N.store nodes.old) source.reached reached
-        → IsStep net sets (N.store nodes.old) made
-        → Built (given_work net source sets) (IsEdgeFound net source sets)
+        → IsStep net.now.raw sets (N.store nodes.old) (step_of net.now.raw frame empty)
+        → Built (given_work net.now.raw source sets) (IsEdgeFound net.now.raw source sets)
         (N.store nodes.old) (N.store nodes.new) result }
+    ensures frame { IfOk result (λ found. found.frame ≡ frame) }
 {
-    let clear = ops.not(nodes, made.contradictory)?;
+    let clear = ops.not(nodes, empty)?;
     let feasible = both(ops, nodes, reached, clear)?;
-    let next = gated_all(alloc, ops, nodes, made.next.as_slice(), feasible)?;
+    let next = gated_all(alloc, ops, nodes, net.latches(), &frame, feasible)?;
     Ok(EdgeFound {
-        nets: made.nets,
+        frame,
         feasible,
         next,
     })
@@ -68,7 +82,7 @@ fn given<N: Nodes>(
 /// looked at.
 ///
 /// Each node that is made is a node of the edge's work functions, and `StepsOut` comes only where all steps are spent and
-/// such a node is not held. After any error what was held stays, and the frame is not to be used.
+/// such a node is not held. After any error what was held stays, and the frame is gone.
 pub fn edge_found<N: Nodes>(
     alloc: Global,
     nodes: &mut N,
@@ -76,13 +90,13 @@ pub fn edge_found<N: Nodes>(
     rows: &GateRows,
     edge: &Edge,
     source: &State,
-    frame: &mut Frame,
+    frame: Frame,
 ) -> Result<EdgeFound, OpFault>
     requires rows { rows.now.covers ≡ map rows_of net.now.raw.covers }
     requires nets { All (λ bind. bind.node.0 < net.now.raw.nets) edge.now.ant }
     requires reads { BindsReadBelow (N.store nodes.old).vars edge.now.ant }
     requires source { AreStateRefs (N.store nodes.old) net.now.raw source.now }
-    requires frame { IsFrame (N.store nodes.old) net.now.raw frame.old }
+    requires frame { IsFrame (N.store nodes.old) net.now.raw frame }
 
     // The possible sets of the edge's time step, where it is feasible, and its next sets.
     ensures found { (r : Function) (ls : List SymbolicSet) (sets : ℕ → SymbolicSet)
@@ -93,21 +107,21 @@ pub fn edge_found<N: Nodes>(
         (IsEdgeFound net.now.raw (record { reached = r; latches = ls }) sets)
         (N.store nodes.old) (N.store nodes.new) result }
 
-    // The frame is then one of this time step.
-    ensures frame { OnOk result (IsFrame (N.store nodes.new) net.now.raw frame.new) }
+    // The frame is one of this time step.
+    ensures frame { IfOk result (λ found. IsFrame (N.store nodes.new) net.now.raw found.frame) }
 {
     let ops = Ops::new(alloc);
     let cuts = cuts_of(alloc, &ops, nodes, edge.ant.as_slice())?;
-    let made = advance(
+    let mut begun = frame_at(alloc, source, frame)?;
+    let empty = renew(
         alloc,
         &ops,
         nodes,
         net,
         rows,
-        source.latches.as_slice(),
         cuts.as_slice(),
-        frame,
+        &mut begun,
     )?;
-    let found = given(alloc, &ops, nodes, source.reached, made)?;
+    let found = given(alloc, &ops, nodes, net, source.reached, empty, begun)?;
     Ok(found)
 }

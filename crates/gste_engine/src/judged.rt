@@ -96,9 +96,9 @@ fn with_edge<N: Nodes>(
     if source.reached != Ref::FALSE {
         return with_found(&ops, nodes, seen, cuts, given.reached, found);
     }
-    let mut frame = Frame::blank(alloc, net)?;
-    let made = edge_found(alloc, nodes, net, rows, edge, source, &mut frame)?;
-    let sets = match seen_by(alloc, made.nets.as_slice(), edge.con.as_slice()) {
+    let frame = Frame::blank(alloc, net)?;
+    let made = edge_found(alloc, nodes, net, rows, edge, source, frame)?;
+    let sets = match seen_by(alloc, net, &made.frame, edge.con.as_slice()) {
         Ok(sets) => sets,
         Err(_) => return Err(OpFault::OutOfMemory),
     };

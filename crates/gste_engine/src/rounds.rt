@@ -1,23 +1,24 @@
 //! The rounds, for all assignments at once, up to the least closed table; begin with `settle`.
 
-ghost use Rattle.std.specs.Prelude.{◌≡◌, ◌<◌, ◌≤◌, ◌+◌, [], ℕ, suc, List, All, IfOk, drop, length, map, set};
+ghost use Rattle.std.specs.Prelude.{◌≡◌, ◌<◌, ◌≤◌, ◌+◌, [], ℕ, All, IfOk, drop, length, map};
 ghost use Rattle.std.specs.List.{AllZip};
 ghost use Rattle.net_core.specs.Work.{ArePossibleEach, SymbolicSet};
 ghost use Rattle.dual_rail.specs.Rail.{Built};
 ghost use Rattle.sym_step.specs.Step.{rows_of};
+ghost use Rattle.sym_step.specs.private.Frames.{nets_of};
 ghost use Rattle.ste_model.specs.declared.task.Edge.{Edge as AnEdge};
 ghost use Rattle.ste_model.specs.GraphNeed.{AreWholeRounds};
 ghost use Rattle.ste_model.specs.GraphTable.{enough};
-ghost use Rattle.ste_model.specs.GraphWork.{SymbolicState, edge_work, given_by, symbolic_asked_on};
+ghost use Rattle.ste_model.specs.GraphWork.{SymbolicState, given_by, symbolic_asked_on};
 ghost use Rattle.gste_engine.specs.declared.links.End.TheVariants.{From, To};
-ghost use Rattle.gste_engine.specs.Tables.{AreEdgesOver, AreStateRefs, HasStates, IsGraphOver, IsState, rounds_work};
+ghost use Rattle.gste_engine.specs.Tables.{AreStateRefs, HasStates, IsGraphOver, IsState, rounds_work};
 ghost use Rattle.gste_engine.specs.private.Links.{AreLinks};
 ghost use Rattle.gste_engine.specs.private.Rounds.{AreEnds, AtStart, IsBetween, IsLast, IsProgress, IsSettledOn, IsSwept, IsTurn, IsWave, IsWithGiven, IsWithSum, edges_work, one_round_work};
 ghost use Rattle.gste_engine.specs.private.Seen.{rails_of};
 ghost use Rattle.gste_engine.specs.private.Sums.{HaveFunctions, arrivals_work};
 ghost use Rattle.gste_engine.specs.private.Waiting.{IsWaiting};
 
-use crate::edge::{EdgeFound, edge_found};
+use crate::edge::edge_found;
 use crate::links::{End, Links, links_of};
 use crate::same::same_state;
 use crate::seen::seen_by;
@@ -67,27 +68,25 @@ fn with_given(
     Ok(more)
 }
 
-/// The same with what is found of the edge `k`. The sets of all nets are let go, and what they refer to stays held.
+/// The same with what is found of the edge `k`. What its consequents name is read from its frame, which the wave has
+/// already.
 fn with_edge(
     alloc: Global,
+    net: &Net,
     edge: &Edge,
     k: usize,
-    found: EdgeFound,
+    given: State,
     wave: Wave,
 ) -> Result<Wave, AllocError>
     requires known { k < length wave.givens.items }
     requires count { k < length wave.seen.items }
     requires waiting { IsWaiting wave.waiting }
     requires to { edge.now.to < length wave.waiting.flags.items }
-    ensures { IfOk result (λ more. IsWithGiven wave k edge.now.to
-        (record { reached = found.feasible; latches = found.next })
-        (map (rails_of found.nets) edge.now.con) more) }
+    requires nets { length (nets_of wave.frame) ≡ net.now.raw.nets }
+    ensures { IfOk result (λ more. IsWithGiven wave k edge.now.to given
+        (map (rails_of (nets_of wave.frame)) edge.now.con) more) }
 {
-    let seen = seen_by(alloc, found.nets.as_slice(), edge.con.as_slice())?;
-    let given = State {
-        reached: found.feasible,
-        latches: found.next,
-    };
+    let seen = seen_by(alloc, net, &wave.frame, edge.con.as_slice())?;
     with_given(wave, k, edge.to as usize, given, seen)
 }
 
@@ -130,8 +129,13 @@ fn renewed<N: Nodes>(
     while k < edges.len() {
         let edge = &edges[k];
         let source = &table[edge.from as usize];
-        let found = edge_found(alloc, nodes, net, rows, edge, source, &mut wave.frame)?;
-        wave = match with_edge(alloc, edge, k, found, wave) {
+        let found = edge_found(alloc, nodes, net, rows, edge, source, wave.frame)?;
+        wave.frame = found.frame;
+        let given = State {
+            reached: found.feasible,
+            latches: found.next,
+        };
+        wave = match with_edge(alloc, net, edge, k, given, wave) {
             Ok(more) => more,
             Err(_) => return Err(OpFault::OutOfMemory),
         };
@@ -380,7 +384,7 @@ fn round<N: Nodes>(
 fn nothing_seen(alloc: Global, graph: &Graph) -> Result<Vec<Items<Rails>>, AllocError>
     ensures { IfOk result (λ seen. length seen.items ≡ length graph.now.edges) }
 {
-    let mut seen = Vec::new(alloc);
+    let mut seen = Vec::with_capacity(alloc, graph.edges.len())?;
     for _ in 0..graph.edges.len() {
         seen.push(Items::new(alloc))?;
     }

@@ -1,22 +1,25 @@
-use Rattle.std.proofs.Common.{◌∙◌, ap, List, length, sym, subst, All, Ok, Err, Vec, Global}
+use Rattle.std.proofs.Common.{ℕ, List, sym, subst, All, Ok, Err, Vec, Global}
 use Rattle.std.specs.List.{AllZip}
 use Rattle.dd_nodes.specs.Diagram.{Function}
 use Rattle.dd_nodes.specs.Stores.{Store}
 use Rattle.dd_nodes.proofs.Stores.{Keeps-trans, Means-keeps}
 use Rattle.dd_nodes.proofs.Walks.{IsFrom-grows}
+use Rattle.net_core.specs.declared.raw.RawNet.{RawNet}
 use Rattle.net_core.specs.Run.{IsSettled}
 use Rattle.net_core.specs.Work.{ArePossibleEach, SymbolicSet, time_work}
 use Rattle.net_core.proofs.Ordered.{settled_by_order}
 use Rattle.ste_model.specs.declared.task.Bind.{Bind}
 use Rattle.ste_model.specs.declared.task.Edge.{Edge}
 use Rattle.ste_model.specs.GraphWork.{SymbolicState, binds_work, edge_work, symbolic_asked_on, symbolic_binds}
+use Rattle.dd_nodes.specs.declared.node.Ref.{Ref}
 use Rattle.dual_rail.specs.declared.rails.Rails.{Rails}
-use Rattle.dual_rail.specs.Rail.{AreRails, AreRefs, Built}
-use Rattle.dual_rail.proofs.Turns.{All-refs-keep, Zip-keep}
-use Rattle.dual_rail.proofs.Works.{Built-wider, So-start, first, last, more, pass}
+use Rattle.dual_rail.specs.Rail.{AreRails, Built}
+use Rattle.dual_rail.proofs.Turns.{Zip-keep}
+use Rattle.dual_rail.proofs.Works.{Built-wider, So-start, first, last, lost, more, pass}
 use Rattle.sym_step.specs.declared.cut.Cut.{Cut}
-use Rattle.sym_step.specs.declared.made.Step.{Step}
+use Rattle.sym_step.specs.declared.frame.Frame.{Frame}
 use Rattle.sym_step.specs.Step.{IsCutBy, IsCutOf, IsStep}
+use Rattle.sym_step.specs.private.Frames.{IsFrame, step_of}
 use Rattle.sym_step.proofs.Framing.{frame_keeps}
 use Rattle.sym_step.proofs.Whole.{sets_exist}
 use Rattle.gste_engine.specs.declared.edge.EdgeFound.{EdgeFound}
@@ -34,6 +37,9 @@ AreCuts binds t cuts = AllZip (IsCutBy t) (symbolic_binds binds) cuts.items
 abbrev state_of : Function → List SymbolicSet → SymbolicState
 state_of r ls = record { reached = r; latches = ls }
 
+abbrev HasStep : RawNet → (ℕ → SymbolicSet) → Frame → Store → Ref → Type 0
+HasStep net sets frame t r = IsStep net sets t (step_of net frame r)
+
 pub returns-in_err-cuts-clause-found : goal.returns-in_err-cuts-clause-found
 returns-in_err-cuts-clause-found g c = λ r ls sets mr zip family.
     let s : Store = g.N.Nodes.store c.args.nodes.now in
@@ -49,8 +55,8 @@ returns-in_err-cuts-clause-found g c = λ r ls sets mr zip family.
     pass work (AreCuts edge.ant) (IsEdgeFound net.raw (state_of r ls) sets) s s t fault c.from_residual.result gs gt (So-start work s)
     (Built-wider work (binds_work edge.ant) (AreCuts edge.ant) s t (Err fault) (binds_in net.raw (state_of r ls) sets edge) a) c.from_residual.ensures.1
 
-pub returns-in_err-made-clause-found : goal.returns-in_err-made-clause-found
-returns-in_err-made-clause-found g c = λ r ls sets mr zip family.
+pub returns-in_err-begun-clause-found : goal.returns-in_err-begun-clause-found
+returns-in_err-begun-clause-found g c = λ r ls sets mr zip family.
     let s : Store = g.N.Nodes.store c.args.nodes.now in
     let t : Store = g.N.Nodes.store c.cuts_of.new.nodes in
     let gs = g.met.N.Nodes.diagram c.args.nodes.now in
@@ -58,19 +64,35 @@ returns-in_err-made-clause-found g c = λ r ls sets mr zip family.
     let net = c.args.net.now in
     let edge : Edge = c.args.edge.now in
     let source : State = c.args.source.now in
-    let work : List Function = edge_work net.raw edge (state_of r ls) sets in
     let cuts : Vec Cut Global = c.in_ok-cuts.cuts in
     let a : Built (binds_work edge.ant) (AreCuts edge.ant) s t (Ok cuts) = subst (λ (xs : List Bind). Built (binds_work xs) (AreCuts xs) s t (Ok cuts)) c.as_slice.ensures c.in_ok-cuts.ensures in
-    let u : Store = g.N.Nodes.store c.advance.new.nodes in
-    let gu = g.met.N.Nodes.diagram c.advance.new.nodes in
+    let work : List Function = edge_work net.raw edge (state_of r ls) sets in
     let so1 = first work (AreCuts edge.ant) s t (Ok cuts) (Built-wider work (binds_work edge.ant) (AreCuts edge.ant) s t (Ok cuts) (binds_in net.raw (state_of r ls) sets edge) a) in
-    let latches : AllZip (AreRails t) ls c.as_slice-2.result.now = subst (λ (xs : List Rails). AllZip (AreRails t) ls xs) (sym c.as_slice-2.ensures) (Zip-keep s t ls source.latches gs gt a.spends.keeps zip) in
-    let asks : AllZip (IsCutBy t) (symbolic_binds edge.ant) c.as_slice-3.result.now = subst (λ (xs : List Cut). AllZip (IsCutBy t) (symbolic_binds edge.ant) xs) (sym c.as_slice-3.ensures.value) a.ok in
+    lost work (IsEdgeFound net.raw (state_of r ls) sets) s t c.from_residual-in_err-begun.result so1 c.from_residual-in_err-begun.ensures.1
+
+pub returns-in_err-empty-clause-found : goal.returns-in_err-empty-clause-found
+returns-in_err-empty-clause-found g c = λ r ls sets mr zip family.
+    let s : Store = g.N.Nodes.store c.args.nodes.now in
+    let t : Store = g.N.Nodes.store c.cuts_of.new.nodes in
+    let gs = g.met.N.Nodes.diagram c.args.nodes.now in
+    let gt = g.met.N.Nodes.diagram c.cuts_of.new.nodes in
+    let net = c.args.net.now in
+    let edge : Edge = c.args.edge.now in
+    let source : State = c.args.source.now in
+    let cuts : Vec Cut Global = c.in_ok-cuts.cuts in
+    let a : Built (binds_work edge.ant) (AreCuts edge.ant) s t (Ok cuts) = subst (λ (xs : List Bind). Built (binds_work xs) (AreCuts xs) s t (Ok cuts)) c.as_slice.ensures c.in_ok-cuts.ensures in
+    let work : List Function = edge_work net.raw edge (state_of r ls) sets in
+    let so1 = first work (AreCuts edge.ant) s t (Ok cuts) (Built-wider work (binds_work edge.ant) (AreCuts edge.ant) s t (Ok cuts) (binds_in net.raw (state_of r ls) sets edge) a) in
+    let u : Store = g.N.Nodes.store c.renew.new.nodes in
+    let gu = g.met.N.Nodes.diagram c.renew.new.nodes in
+    let latches = subst (λ (xs : List Rails). AllZip (AreRails t) ls xs) (sym (c.in_ok-begun.ensures.next net.raw)) (Zip-keep s t ls source.latches gs gt a.spends.keeps zip) in
+    let asks : AllZip (IsCutBy t) (symbolic_binds edge.ant) c.as_slice-2.result.now = subst (λ (xs : List Cut). AllZip (IsCutBy t) (symbolic_binds edge.ant) xs) (sym c.as_slice-2.ensures.value) a.ok in
     let here = subst (λ v. ArePossibleEach v net.raw ls (symbolic_asked_on edge) sets) (sym a.spends.keeps.vars) family in
     let time : List Function = time_work net.raw ls (symbolic_asked_on edge) sets in
-    let fault = c.in_err-made.field-0.0 in
-    pass work (IsStep net.raw sets) (IsEdgeFound net.raw (state_of r ls) sets) s t u fault c.from_residual-in_err-made.result gt gu so1
-    (Built-wider work time (IsStep net.raw sets) t u (Err fault) (time_in net.raw (state_of r ls) sets edge) (c.in_err-made.ensures.built ls (symbolic_asked_on edge) sets latches asks here)) c.from_residual-in_err-made.ensures.1
+    let Step : Store → Ref → Type 0 = HasStep net.raw sets c.renew.new.frame in
+    let fault = c.in_err-empty.field-0.0 in
+    pass work Step (IsEdgeFound net.raw (state_of r ls) sets) s t u fault c.from_residual-in_err-empty.result gt gu so1
+    (Built-wider work time Step t u (Err fault) (time_in net.raw (state_of r ls) sets edge) (c.in_err-empty.ensures.built ls (symbolic_asked_on edge) sets latches asks here)) c.from_residual-in_err-empty.ensures.1
 
 pub returns-in_err-found-clause-found : goal.returns-in_err-found-clause-found
 returns-in_err-found-clause-found g c = λ r ls sets mr zip family.
@@ -81,25 +103,26 @@ returns-in_err-found-clause-found g c = λ r ls sets mr zip family.
     let net = c.args.net.now in
     let edge : Edge = c.args.edge.now in
     let source : State = c.args.source.now in
-    let work : List Function = edge_work net.raw edge (state_of r ls) sets in
     let cuts : Vec Cut Global = c.in_ok-cuts.cuts in
     let a : Built (binds_work edge.ant) (AreCuts edge.ant) s t (Ok cuts) = subst (λ (xs : List Bind). Built (binds_work xs) (AreCuts xs) s t (Ok cuts)) c.as_slice.ensures c.in_ok-cuts.ensures in
-    let u : Store = g.N.Nodes.store c.advance.new.nodes in
-    let gu = g.met.N.Nodes.diagram c.advance.new.nodes in
+    let work : List Function = edge_work net.raw edge (state_of r ls) sets in
     let so1 = first work (AreCuts edge.ant) s t (Ok cuts) (Built-wider work (binds_work edge.ant) (AreCuts edge.ant) s t (Ok cuts) (binds_in net.raw (state_of r ls) sets edge) a) in
-    let latches : AllZip (AreRails t) ls c.as_slice-2.result.now = subst (λ (xs : List Rails). AllZip (AreRails t) ls xs) (sym c.as_slice-2.ensures) (Zip-keep s t ls source.latches gs gt a.spends.keeps zip) in
-    let asks : AllZip (IsCutBy t) (symbolic_binds edge.ant) c.as_slice-3.result.now = subst (λ (xs : List Cut). AllZip (IsCutBy t) (symbolic_binds edge.ant) xs) (sym c.as_slice-3.ensures.value) a.ok in
+    let u : Store = g.N.Nodes.store c.renew.new.nodes in
+    let gu = g.met.N.Nodes.diagram c.renew.new.nodes in
+    let latches = subst (λ (xs : List Rails). AllZip (AreRails t) ls xs) (sym (c.in_ok-begun.ensures.next net.raw)) (Zip-keep s t ls source.latches gs gt a.spends.keeps zip) in
+    let asks : AllZip (IsCutBy t) (symbolic_binds edge.ant) c.as_slice-2.result.now = subst (λ (xs : List Cut). AllZip (IsCutBy t) (symbolic_binds edge.ant) xs) (sym c.as_slice-2.ensures.value) a.ok in
     let here = subst (λ v. ArePossibleEach v net.raw ls (symbolic_asked_on edge) sets) (sym a.spends.keeps.vars) family in
     let time : List Function = time_work net.raw ls (symbolic_asked_on edge) sets in
-    let made : Step = c.in_ok-made.made in
-    let b : Built work (IsStep net.raw sets) t u (Ok made) = Built-wider work time (IsStep net.raw sets) t u (Ok made) (time_in net.raw (state_of r ls) sets edge) (c.in_ok-made.ensures.built ls (symbolic_asked_on edge) sets latches asks here) in
-    let so2 = more work (IsStep net.raw sets) s t u (Ok made) gt gu so1 b in
+    let Step : Store → Ref → Type 0 = HasStep net.raw sets c.renew.new.frame in
+    let empty : Ref = c.in_ok-empty.empty in
+    let b : Built work Step t u (Ok empty) = Built-wider work time Step t u (Ok empty) (time_in net.raw (state_of r ls) sets edge) (c.in_ok-empty.ensures.built ls (symbolic_asked_on edge) sets latches asks here) in
+    let so2 = more work Step s t u (Ok empty) gt gu so1 b in
     let v : Store = g.N.Nodes.store c.given.new.nodes in
     let gv = g.met.N.Nodes.diagram c.given.new.nodes in
     let fault = c.in_err-found.field-0.0 in
     pass work (IsEdgeFound net.raw (state_of r ls) sets) (IsEdgeFound net.raw (state_of r ls) sets) s u v fault c.from_residual-in_err-found.result gu gv so2
     (Built-wider work (given_work net.raw (state_of r ls) sets) (IsEdgeFound net.raw (state_of r ls) sets) u v (Err fault) (given_in net.raw (state_of r ls) sets edge)
-    (c.in_err-found.ensures net.raw (state_of r ls) sets (Means-keeps s u r source.reached gs gu so2.keeps mr) b.ok)) c.from_residual-in_err-found.ensures.1
+    (c.in_err-found.ensures.found (state_of r ls) sets (Means-keeps s u r source.reached gs gu so2.keeps mr) b.ok)) c.from_residual-in_err-found.ensures.1
 
 pub returns-clause-found : goal.returns-clause-found
 returns-clause-found g c = λ r ls sets mr zip family.
@@ -110,31 +133,29 @@ returns-clause-found g c = λ r ls sets mr zip family.
     let net = c.args.net.now in
     let edge : Edge = c.args.edge.now in
     let source : State = c.args.source.now in
-    let work : List Function = edge_work net.raw edge (state_of r ls) sets in
     let cuts : Vec Cut Global = c.in_ok-cuts.cuts in
     let a : Built (binds_work edge.ant) (AreCuts edge.ant) s t (Ok cuts) = subst (λ (xs : List Bind). Built (binds_work xs) (AreCuts xs) s t (Ok cuts)) c.as_slice.ensures c.in_ok-cuts.ensures in
-    let u : Store = g.N.Nodes.store c.advance.new.nodes in
-    let gu = g.met.N.Nodes.diagram c.advance.new.nodes in
+    let work : List Function = edge_work net.raw edge (state_of r ls) sets in
     let so1 = first work (AreCuts edge.ant) s t (Ok cuts) (Built-wider work (binds_work edge.ant) (AreCuts edge.ant) s t (Ok cuts) (binds_in net.raw (state_of r ls) sets edge) a) in
-    let latches : AllZip (AreRails t) ls c.as_slice-2.result.now = subst (λ (xs : List Rails). AllZip (AreRails t) ls xs) (sym c.as_slice-2.ensures) (Zip-keep s t ls source.latches gs gt a.spends.keeps zip) in
-    let asks : AllZip (IsCutBy t) (symbolic_binds edge.ant) c.as_slice-3.result.now = subst (λ (xs : List Cut). AllZip (IsCutBy t) (symbolic_binds edge.ant) xs) (sym c.as_slice-3.ensures.value) a.ok in
+    let u : Store = g.N.Nodes.store c.renew.new.nodes in
+    let gu = g.met.N.Nodes.diagram c.renew.new.nodes in
+    let latches = subst (λ (xs : List Rails). AllZip (AreRails t) ls xs) (sym (c.in_ok-begun.ensures.next net.raw)) (Zip-keep s t ls source.latches gs gt a.spends.keeps zip) in
+    let asks : AllZip (IsCutBy t) (symbolic_binds edge.ant) c.as_slice-2.result.now = subst (λ (xs : List Cut). AllZip (IsCutBy t) (symbolic_binds edge.ant) xs) (sym c.as_slice-2.ensures.value) a.ok in
     let here = subst (λ v. ArePossibleEach v net.raw ls (symbolic_asked_on edge) sets) (sym a.spends.keeps.vars) family in
     let time : List Function = time_work net.raw ls (symbolic_asked_on edge) sets in
-    let made : Step = c.in_ok-made.made in
-    let b : Built work (IsStep net.raw sets) t u (Ok made) = Built-wider work time (IsStep net.raw sets) t u (Ok made) (time_in net.raw (state_of r ls) sets edge) (c.in_ok-made.ensures.built ls (symbolic_asked_on edge) sets latches asks here) in
-    let so2 = more work (IsStep net.raw sets) s t u (Ok made) gt gu so1 b in
+    let Step : Store → Ref → Type 0 = HasStep net.raw sets c.renew.new.frame in
+    let empty : Ref = c.in_ok-empty.empty in
+    let b : Built work Step t u (Ok empty) = Built-wider work time Step t u (Ok empty) (time_in net.raw (state_of r ls) sets edge) (c.in_ok-empty.ensures.built ls (symbolic_asked_on edge) sets latches asks here) in
+    let so2 = more work Step s t u (Ok empty) gt gu so1 b in
     let v : Store = g.N.Nodes.store c.given.new.nodes in
     let gv = g.met.N.Nodes.diagram c.given.new.nodes in
     let found : EdgeFound = c.in_ok-found.found in
     last work (IsEdgeFound net.raw (state_of r ls) sets) s u v (Ok found) gu gv so2
     (Built-wider work (given_work net.raw (state_of r ls) sets) (IsEdgeFound net.raw (state_of r ls) sets) u v (Ok found) (given_in net.raw (state_of r ls) sets edge)
-    (c.in_ok-found.ensures net.raw (state_of r ls) sets (Means-keeps s u r source.reached gs gu so2.keeps mr) b.ok))
+    (c.in_ok-found.ensures.found (state_of r ls) sets (Means-keeps s u r source.reached gs gu so2.keeps mr) b.ok))
 
-pub advance-requires-clause-long : goal.advance-requires-clause-long
-advance-requires-clause-long g c = ap (λ (xs : List Rails). length xs) c.as_slice-2.ensures ∙ c.requires.source.long
-
-pub advance-requires-clause-latches : goal.advance-requires-clause-latches
-advance-requires-clause-latches g c =
+pub renew-requires-clause-cuts : goal.renew-requires-clause-cuts
+renew-requires-clause-cuts g c =
     let s : Store = g.N.Nodes.store c.args.nodes.now in
     let t : Store = g.N.Nodes.store c.cuts_of.new.nodes in
     let gs = g.met.N.Nodes.diagram c.args.nodes.now in
@@ -144,66 +165,48 @@ advance-requires-clause-latches g c =
     let source : State = c.args.source.now in
     let cuts : Vec Cut Global = c.in_ok-cuts.cuts in
     let a : Built (binds_work edge.ant) (AreCuts edge.ant) s t (Ok cuts) = subst (λ (xs : List Bind). Built (binds_work xs) (AreCuts xs) s t (Ok cuts)) c.as_slice.ensures c.in_ok-cuts.ensures in
-    subst (λ (xs : List Rails). All (AreRefs t) xs) (sym c.as_slice-2.ensures) (All-refs-keep s t source.latches a.spends.keeps c.requires.source.latches)
+    subst (λ (xs : List Cut). All (IsCutOf t net.raw) xs) (sym c.as_slice-2.ensures.value) (cuts_of_net t net.raw edge.ant cuts.items a.ok c.requires.nets)
 
-pub advance-requires-clause-cuts : goal.advance-requires-clause-cuts
-advance-requires-clause-cuts g c =
+pub renew-requires-clause-frame : goal.renew-requires-clause-frame
+renew-requires-clause-frame g c =
     let s : Store = g.N.Nodes.store c.args.nodes.now in
     let t : Store = g.N.Nodes.store c.cuts_of.new.nodes in
     let gs = g.met.N.Nodes.diagram c.args.nodes.now in
     let gt = g.met.N.Nodes.diagram c.cuts_of.new.nodes in
     let net = c.args.net.now in
-    let edge : Edge = c.args.edge.now in
-    let source : State = c.args.source.now in
-    let cuts : Vec Cut Global = c.in_ok-cuts.cuts in
-    let a : Built (binds_work edge.ant) (AreCuts edge.ant) s t (Ok cuts) = subst (λ (xs : List Bind). Built (binds_work xs) (AreCuts xs) s t (Ok cuts)) c.as_slice.ensures c.in_ok-cuts.ensures in
-    subst (λ (xs : List Cut). All (IsCutOf t net.raw) xs) (sym c.as_slice-3.ensures.value) (cuts_of_net t net.raw edge.ant cuts.items a.ok c.requires.nets)
+    let keeps = c.in_ok-cuts.ensures.spends.keeps in
+    c.in_ok-begun.ensures.frame t net.raw (frame_keeps s t net.raw c.args.frame net.in_range gs gt keeps c.requires.frame) (StateRefs-keep s t net.raw c.args.source.now keeps c.requires.source)
 
 pub given-requires-clause-reached : goal.given-requires-clause-reached
 given-requires-clause-reached g c =
     let s : Store = g.N.Nodes.store c.args.nodes.now in
     let t : Store = g.N.Nodes.store c.cuts_of.new.nodes in
-    let gs = g.met.N.Nodes.diagram c.args.nodes.now in
-    let gt = g.met.N.Nodes.diagram c.cuts_of.new.nodes in
-    let net = c.args.net.now in
-    let edge : Edge = c.args.edge.now in
+    let u : Store = g.N.Nodes.store c.renew.new.nodes in
     let source : State = c.args.source.now in
-    let cuts : Vec Cut Global = c.in_ok-cuts.cuts in
-    let a : Built (binds_work edge.ant) (AreCuts edge.ant) s t (Ok cuts) = subst (λ (xs : List Bind). Built (binds_work xs) (AreCuts xs) s t (Ok cuts)) c.as_slice.ensures c.in_ok-cuts.ensures in
-    let u : Store = g.N.Nodes.store c.advance.new.nodes in
-    IsFrom-grows s.held u.held 0 source.reached (Keeps-trans s t u a.spends.keeps c.in_ok-made.ensures.keeps).grows c.requires.source.reached
-
-pub advance-requires-clause-frame : goal.advance-requires-clause-frame
-advance-requires-clause-frame g c =
-    let s : Store = g.N.Nodes.store c.args.nodes.now in
-    let t : Store = g.N.Nodes.store c.cuts_of.new.nodes in
-    let gs = g.met.N.Nodes.diagram c.args.nodes.now in
-    let gt = g.met.N.Nodes.diagram c.cuts_of.new.nodes in
-    let net = c.args.net.now in
-    frame_keeps s t net.raw c.args.frame.now net.in_range gs gt c.in_ok-cuts.ensures.spends.keeps c.requires.frame
+    IsFrom-grows s.held u.held 0 source.reached (Keeps-trans s t u c.in_ok-cuts.ensures.spends.keeps c.in_ok-empty.ensures.keeps).grows c.requires.source.reached
 
 pub returns-clause-frame : goal.returns-clause-frame
 returns-clause-frame g c =
     let s : Store = g.N.Nodes.store c.args.nodes.now in
     let t : Store = g.N.Nodes.store c.cuts_of.new.nodes in
-    let u : Store = g.N.Nodes.store c.advance.new.nodes in
-    let v : Store = g.N.Nodes.store c.given.new.nodes in
     let gs = g.met.N.Nodes.diagram c.args.nodes.now in
     let gt = g.met.N.Nodes.diagram c.cuts_of.new.nodes in
-    let gu = g.met.N.Nodes.diagram c.advance.new.nodes in
-    let gv = g.met.N.Nodes.diagram c.given.new.nodes in
     let net = c.args.net.now in
     let edge : Edge = c.args.edge.now in
     let source : State = c.args.source.now in
-    let settled : IsSettled net.raw = settled_by_order net.raw net.settled net.in_order in
     let cuts : Vec Cut Global = c.in_ok-cuts.cuts in
     let a : Built (binds_work edge.ant) (AreCuts edge.ant) s t (Ok cuts) = subst (λ (xs : List Bind). Built (binds_work xs) (AreCuts xs) s t (Ok cuts)) c.as_slice.ensures c.in_ok-cuts.ensures in
+    let u : Store = g.N.Nodes.store c.renew.new.nodes in
+    let v : Store = g.N.Nodes.store c.given.new.nodes in
+    let gu = g.met.N.Nodes.diagram c.renew.new.nodes in
+    let gv = g.met.N.Nodes.diagram c.given.new.nodes in
+    let settled : IsSettled net.raw = settled_by_order net.raw net.settled net.in_order in
     let refs : AreStateRefs t net.raw source = StateRefs-keep s t net.raw source a.spends.keeps c.requires.source in
     let x : SymbolicState = own_state t source in
     let is : IsState t x source = own_is t net.raw source refs in
     let family = sets_exist net.raw t.vars x.latches (symbolic_asked_on edge) settled (own_long t net.raw source refs) in
-    let latches : AllZip (AreRails t) x.latches c.as_slice-2.result.now = subst (λ (xs : List Rails). AllZip (AreRails t) x.latches xs) (sym c.as_slice-2.ensures) is.latches in
-    let asks : AllZip (IsCutBy t) (symbolic_binds edge.ant) c.as_slice-3.result.now = subst (λ (xs : List Cut). AllZip (IsCutBy t) (symbolic_binds edge.ant) xs) (sym c.as_slice-3.ensures.value) a.ok in
-    let b = c.in_ok-made.ensures.built x.latches (symbolic_asked_on edge) family.0 latches asks family.1 in
-    let d = c.in_ok-found.ensures net.raw x family.0 (Means-keeps t u x.reached source.reached gt gu b.spends.keeps is.reached) b.ok in
-    frame_keeps u v net.raw c.advance.new.frame net.in_range gu gv d.spends.keeps c.in_ok-made.ensures.frame
+    let latches = subst (λ (xs : List Rails). AllZip (AreRails t) x.latches xs) (sym (c.in_ok-begun.ensures.next net.raw)) is.latches in
+    let asks : AllZip (IsCutBy t) (symbolic_binds edge.ant) c.as_slice-2.result.now = subst (λ (xs : List Cut). AllZip (IsCutBy t) (symbolic_binds edge.ant) xs) (sym c.as_slice-2.ensures.value) a.ok in
+    let b = c.in_ok-empty.ensures.built x.latches (symbolic_asked_on edge) family.0 latches asks family.1 in
+    let d = c.in_ok-found.ensures.found x family.0 (Means-keeps t u x.reached source.reached gt gu b.spends.keeps is.reached) b.ok in
+    subst (λ (frame : Frame). IsFrame v net.raw frame) (sym c.in_ok-found.ensures.frame) (frame_keeps u v net.raw c.renew.new.frame net.in_range gu gv d.spends.keeps c.in_ok-empty.ensures.frame)

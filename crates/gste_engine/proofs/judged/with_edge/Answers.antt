@@ -1,6 +1,7 @@
 use Rattle.std.proofs.Common.{◌≡◌, ◌≢◌, ℕ, zero, suc, Bool, true, not, List, length, map, sym, ap, ◌∙◌, subst, arith, All, Ok, Err, Vec, Global}
 use Rattle.std.specs.Prelude.{◌==◌}
 use Rattle.std.specs.List.{AllZip}
+use Rattle.std.proofs.lemmas.List.{length-map}
 use Rattle.dd_nodes.specs.Diagram.{Function}
 use Rattle.dd_nodes.specs.Stores.{Store}
 use Rattle.dd_nodes.proofs.Stores.{Keeps-trans, Means-keeps}
@@ -19,6 +20,7 @@ use Rattle.dual_rail.proofs.Turns.{Zip-keep, zip_long}
 use Rattle.dual_rail.proofs.Works.{Built-lost, Built-wider, So-start, first, lost, more, pass}
 use Rattle.sym_step.specs.declared.cut.Cut.{Cut}
 use Rattle.sym_step.specs.Step.{IsCutBy, IsCutOf, rails_at}
+use Rattle.sym_step.specs.private.Frames.{bare, nets_of}
 use Rattle.sym_step.proofs.Cutting.{demands_long}
 use Rattle.gste_engine.specs.declared.edge.EdgeFound.{EdgeFound}
 use Rattle.gste_engine.specs.declared.state.State.{State}
@@ -45,8 +47,8 @@ not_zero : (n : ℕ) (b : Bool) → b ≡ not (n == 0) → b ≡ true → n ≢ 
 not_zero zero b e is none = absurd (cc (sym is ∙ e))
 not_zero (suc n) b e is none = omega (arith, none)
 
-seen_are : (nets read : List Rails) (binds asked : List Bind) (sets now : List Rails) → now ≡ sets → sets ≡ map (rails_of read) asked → read ≡ nets → asked ≡ binds → map (rails_of nets) binds ≡ now
-seen_are nets read binds asked sets now e f h k = sym (e ∙ f ∙ ap (λ (rs : List Rails). map (rails_of rs) asked) h ∙ ap (λ (bs : List Bind). map (rails_of nets) bs) k)
+seen_are : (nets : List Rails) (binds asked : List Bind) (sets now : List Rails) → now ≡ sets → sets ≡ map (rails_of nets) asked → asked ≡ binds → map (rails_of nets) binds ≡ now
+seen_are nets binds asked sets now e f k = sym (e ∙ f ∙ ap (λ (bs : List Bind). map (rails_of nets) bs) k)
 
 pub returns-in_err-wanted : goal.returns-in_err-wanted
 returns-in_err-wanted g c = λ r ls sets f h e mr zip family sums.
@@ -78,6 +80,9 @@ returns-in_err-frame g c = λ r ls sets f h e mr zip family sums.
 
 pub edge_found-requires-clause-reads : goal.edge_found-requires-clause-reads
 edge_found-requires-clause-reads g c = subst (λ v. BindsReadBelow v c.args.edge.now.ant) (sym c.in_ok-wanted.ensures.spends.keeps.vars) c.requires.reads
+
+pub seen_by-requires : goal.seen_by-requires
+seen_by-requires g c = length-map c.in_ok-made.made.frame.board.nets.items bare ∙ c.in_ok-made.ensures.frame.long
 
 pub returns-in_err-made : goal.returns-in_err-made
 returns-in_err-made g c = λ r ls sets f h e mr zip family sums.
@@ -182,14 +187,14 @@ returns g c = λ r ls sets f h e mr zip family sums.
     let result = c.with_found-2.result in
     let z : Function = feasible_where net x sets in
     let ds : List SymbolicCut = symbolic_binds edge.con in
-    let zs : AreSeenBy u net sets edge.con (map (rails_of given.nets) edge.con) = seen_zip u net sets given.nets b.ok.nets edge.con in
-    let seen_is : map (rails_of given.nets) edge.con ≡ c.as_slice-3.result.now = seen_are given.nets c.as_slice.result.now edge.con c.as_slice-2.result.now c.in-Ok.sets c.as_slice-3.result.now c.as_slice-3.ensures c.in-Ok.ensures c.as_slice.ensures c.as_slice-2.ensures in
-    let zr : AllZip (λ d r. AreRails u (sets d.node) r) ds c.as_slice-3.result.now = subst (λ (xs : List Rails). AllZip (λ d r. AreRails u (sets d.node) r) ds xs) seen_is (wanted_zip u net sets edge.con (map (rails_of given.nets) edge.con) c.requires.wanted zs) in
+    let zs : AreSeenBy u net sets edge.con (map (rails_of (nets_of given.frame)) edge.con) = seen_zip u net sets (nets_of given.frame) b.ok.nets edge.con in
+    let seen_is : map (rails_of (nets_of given.frame)) edge.con ≡ c.as_slice-2.result.now = seen_are (nets_of given.frame) edge.con c.as_slice.result.now c.in-Ok.sets c.as_slice-2.result.now c.as_slice-2.ensures c.in-Ok.ensures c.as_slice.ensures in
+    let zr : AllZip (λ d r. AreRails u (sets d.node) r) ds c.as_slice-2.result.now = subst (λ (xs : List Rails). AllZip (λ d r. AreRails u (sets d.node) r) ds xs) seen_is (wanted_zip u net sets edge.con (map (rails_of (nets_of given.frame)) edge.con) c.requires.wanted zs) in
     let asks : AllZip (IsCutBy u) ds wanted.items = Cuts-keep t u ds wanted.items gt gu b.spends.keeps a.ok.wanted in
     let d : Built (with_found_work sets ds z f h e) (AreFoundWith net edge x sets f h e) u v result =
     c.with_found-2.ensures sets ds z f h e zr (subst (λ (xs : List Cut). AllZip (IsCutBy u) ds xs) (sym {A = List Cut} c.as_slice-cuts.ensures.value) asks) b.ok.feasible
     (record { strong = Means-keeps s u f c.args.found.strong gs gu so2.keeps sums.strong; weak = Means-keeps s u h c.args.found.weak gs gu so2.keeps sums.weak; feasible = Means-keeps s u e c.args.found.feasible gs gu so2.keeps sums.feasible }) in
-    edge_done net edge x sets f h e s u v wanted.items result gu gv so2 asks (Refs-held t u (bind_functions edge.ant) gt gu b.spends.keeps a.ok.given) (λ id lt. (rails_at given.nets id, b.ok.nets id lt)) d
+    edge_done net edge x sets f h e s u v wanted.items result gu gv so2 asks (Refs-held t u (bind_functions edge.ant) gt gu b.spends.keeps a.ok.given) (λ id lt. (rails_at (nets_of given.frame) id, b.ok.nets id lt)) d
 
 pub with_found-requires-clause-seen : goal.with_found-requires-clause-seen
 with_found-requires-clause-seen g c =
@@ -306,9 +311,9 @@ with_found-requires-2-clause-seen g c =
     let x = mine.0 in
     let sets = mine.1 in
     let b : Built (edge_work net edge x sets) (IsEdgeFound net x sets) t u (Ok given) = mine.2 in
-    let zs : AreSeenBy u net sets edge.con (map (rails_of given.nets) edge.con) = seen_zip u net sets given.nets b.ok.nets edge.con in
-    let seen_is : map (rails_of given.nets) edge.con ≡ c.as_slice-3.result.now = seen_are given.nets c.as_slice.result.now edge.con c.as_slice-2.result.now c.in-Ok.sets c.as_slice-3.result.now c.as_slice-3.ensures c.in-Ok.ensures c.as_slice.ensures c.as_slice-2.ensures in
-    subst (λ (xs : List Rails). All (AreRefs u) xs) seen_is (wanted_refs u net sets edge.con (map (rails_of given.nets) edge.con) c.requires.wanted zs)
+    let zs : AreSeenBy u net sets edge.con (map (rails_of (nets_of given.frame)) edge.con) = seen_zip u net sets (nets_of given.frame) b.ok.nets edge.con in
+    let seen_is : map (rails_of (nets_of given.frame)) edge.con ≡ c.as_slice-2.result.now = seen_are (nets_of given.frame) edge.con c.as_slice.result.now c.in-Ok.sets c.as_slice-2.result.now c.as_slice-2.ensures c.in-Ok.ensures c.as_slice.ensures in
+    subst (λ (xs : List Rails). All (AreRefs u) xs) seen_is (wanted_refs u net sets edge.con (map (rails_of (nets_of given.frame)) edge.con) c.requires.wanted zs)
 
 pub with_found-requires-2-clause-long : goal.with_found-requires-2-clause-long
 with_found-requires-2-clause-long g c =
@@ -329,9 +334,9 @@ with_found-requires-2-clause-long g c =
     let x = mine.0 in
     let sets = mine.1 in
     let b : Built (edge_work net edge x sets) (IsEdgeFound net x sets) t u (Ok given) = mine.2 in
-    let zs : AreSeenBy u net sets edge.con (map (rails_of given.nets) edge.con) = seen_zip u net sets given.nets b.ok.nets edge.con in
-    let seen_is : map (rails_of given.nets) edge.con ≡ c.as_slice-3.result.now = seen_are given.nets c.as_slice.result.now edge.con c.as_slice-2.result.now c.in-Ok.sets c.as_slice-3.result.now c.as_slice-3.ensures c.in-Ok.ensures c.as_slice.ensures c.as_slice-2.ensures in
-    let n = zip_long (λ (d : SymbolicCut) (r : Rails). AreRails u (sets d.node) r) (symbolic_binds edge.con) (map (rails_of given.nets) edge.con) (wanted_zip u net sets edge.con (map (rails_of given.nets) edge.con) c.requires.wanted zs) in
+    let zs : AreSeenBy u net sets edge.con (map (rails_of (nets_of given.frame)) edge.con) = seen_zip u net sets (nets_of given.frame) b.ok.nets edge.con in
+    let seen_is : map (rails_of (nets_of given.frame)) edge.con ≡ c.as_slice-2.result.now = seen_are (nets_of given.frame) edge.con c.as_slice.result.now c.in-Ok.sets c.as_slice-2.result.now c.as_slice-2.ensures c.in-Ok.ensures c.as_slice.ensures in
+    let n = zip_long (λ (d : SymbolicCut) (r : Rails). AreRails u (sets d.node) r) (symbolic_binds edge.con) (map (rails_of (nets_of given.frame)) edge.con) (wanted_zip u net sets edge.con (map (rails_of (nets_of given.frame)) edge.con) c.requires.wanted zs) in
     let m = demands_long t (symbolic_binds edge.con) wanted.items a.ok.wanted in
     ap (λ (xs : List Rails). length xs) (sym seen_is) ∙ sym n ∙ m ∙ ap (λ (xs : List Cut). length xs) (sym {A = List Cut} c.as_slice-cuts.ensures.value)
 

@@ -1,5 +1,5 @@
 use Rattle.std.proofs.Common.{◌≡◌, ◌+◌, ◌<◌, ℕ, List, drop, length, map, get_or, sym, ◌∙◌, ap, subst, arith, All, Ok, Err}
-use Rattle.std.proofs.lemmas.List.{get_or_default}
+use Rattle.std.proofs.lemmas.List.{get_or_default, length-map}
 use Rattle.dd_nodes.specs.Diagram.{Function}
 use Rattle.dd_nodes.specs.Stores.{Store}
 use Rattle.dd_nodes.proofs.Stores.{Keeps-refl, Keeps-trans}
@@ -8,6 +8,7 @@ use Rattle.dual_rail.proofs.Works.{Built-lost, Built-made, So-start, more, pass}
 use Rattle.net_core.specs.declared.raw.RawNet.{RawNet}
 use Rattle.net_core.specs.Run.{IsSettled}
 use Rattle.net_core.proofs.Ordered.{settled_by_order}
+use Rattle.sym_step.specs.private.Frames.{bare, nets_of}
 use Rattle.ste_model.specs.declared.task.Edge.{Edge}
 use Rattle.ste_model.specs.declared.task.Graph.{Graph}
 use Rattle.gste_engine.specs.declared.edge.EdgeFound.{EdgeFound}
@@ -90,7 +91,7 @@ loop-k-preserved g c =
     let b : Built (edges_work net states sets graph.edges) (IsEdgeFound net (states edge.from) (sets edge)) t u (Ok found) = edge_built net states sets graph.edges table t u k edge source (Ok found) gt gu lt is start is_source has possible c.in_ok-found.ensures.found in
     let keeps = b.spends.keeps in
     let made : IsGivenFrom u net edge source given = edge_given net states sets graph.edges table t u k edge source found gt gu lt is start is_source has possible keeps b.ok in
-    let seen : IsSeenFrom u net edge source (map (rails_of found.nets) edge.con) = edge_seen net states sets graph.edges table t u k edge source found gt gu lt is start is_source has possible keeps b.ok in
+    let seen : IsSeenFrom u net edge source (map (rails_of (nets_of found.frame)) edge.con) = edge_seen net states sets graph.edges table t u k edge source found gt gu lt is start is_source has possible keeps b.ok in
     let old : Wave = c.loop-k.wave in
     let new : Wave = c.in-Ok.more in
     let next = c.index-k-in-loop-k.result.now in
@@ -98,7 +99,7 @@ loop-k-preserved g c =
     record {
       keeps = Keeps-trans s t u p.keeps keeps;
       here = at.here;
-      wave = wave_turn net graph table t u (drop (i + 1) changed) v k next edge source given (map (rails_of found.nets) edge.con) old new c.edge_found.new.frame gt gu keeps lt is start is_source made seen c.in_ok-found.ensures.frame c.in-Ok.ensures at p.wave;
+      wave = wave_turn net graph table t u (drop (i + 1) changed) v k next edge source given (map (rails_of (nets_of found.frame)) edge.con) old new found.frame gt gu keeps lt is start is_source made seen c.in_ok-found.ensures.frame c.in-Ok.ensures at p.wave;
       so = λ states sets has possible.
           let there : ArePossibleOn t.vars net states sets graph.edges = subst (λ v. ArePossibleOn v net states sets graph.edges) (sym p.keeps.vars) possible in
           let mine = edge_built net states sets graph.edges table t u k edge source (Ok found) gt gu lt is start is_source (States-keep states (length table) s t table gs gt p.keeps has) there c.in_ok-found.ensures.found in
@@ -216,3 +217,6 @@ edge_found-requires-clause-source g c =
     let refs : All (AreStateRefs t net) table = All-states-keep s t net table c.loop-k.invariant.keeps c.requires.table in
     let long = c.requires.long in
     subst (AreStateRefs t net) (sym c.index-table-edge.is) (refs edge.from source (omega (arith, long, start)))
+
+pub with_edge-requires-clause-nets : goal.with_edge-requires-clause-nets
+with_edge-requires-clause-nets g c = length-map c.in_ok-found.found.frame.board.nets.items bare ∙ c.in_ok-found.ensures.frame.long

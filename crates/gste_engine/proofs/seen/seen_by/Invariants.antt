@@ -1,7 +1,8 @@
-use Rattle.std.proofs.Common.{◌≡◌, ◌++◌, drop, map}
+use Rattle.std.proofs.Common.{◌≡◌, take, map}
+use Rattle.sym_step.specs.private.Frames.{nets_of}
 use Rattle.gste_engine.specs.private.Seen.{rails_of}
 use Rattle.gste_engine.proofs.seen.seen_by.Given as goal
 
--- with the rest it is all
+-- the sets of the nets that the first bindings name
 abbrev pub invariant-loop-bind : goal.invariant-loop-bind
-invariant-loop-bind l = l.seen ++ map (rails_of l.nets) (drop l.bind-index l.binds) ≡ map (rails_of l.nets) l.binds
+invariant-loop-bind l = l.seen.items ≡ map (rails_of (nets_of l.frame)) (take l.bind-index l.binds)
