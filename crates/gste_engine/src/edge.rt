@@ -113,15 +113,7 @@ pub fn edge_found<N: Nodes>(
     let ops = Ops::new(alloc);
     let cuts = cuts_of(alloc, &ops, nodes, edge.ant.as_slice())?;
     let mut begun = frame_at(alloc, source, frame)?;
-    let empty = renew(
-        alloc,
-        &ops,
-        nodes,
-        net,
-        rows,
-        cuts.as_slice(),
-        &mut begun,
-    )?;
+    let empty = renew(alloc, &ops, nodes, net, rows, cuts.as_slice(), &mut begun)?;
     let found = given(alloc, &ops, nodes, net, source.reached, empty, begun)?;
     Ok(found)
 }

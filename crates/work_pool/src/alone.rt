@@ -8,7 +8,7 @@ ghost use Rattle.work_pool.specs.Pool.{IsTaskOver};
 ghost use Rattle.work_pool.specs.Told.{IsToldOf};
 
 use crate::gate::Gate;
-use crate::pool::{MOST_NETS, check};
+use crate::pool::{check, passed_on};
 use dd_growing::GrowingNodes;
 use dd_nodes::Nodes;
 use net_core::Net;
@@ -45,9 +45,7 @@ fn check_anew(
 {
     nodes.begin(steps);
     let report = check(alloc, nodes, net, rows, task, cubes, last);
-    if net.nets() > MOST_NETS {
-        *last = None;
-    }
+    *last = passed_on(alloc, net, last.take());
     report
 }
 

@@ -3,7 +3,8 @@
 ghost use Rattle.std.specs.Prelude.{◌≡◌, ℕ, ◌+◌, ◌*◌, ◌^◌, ◌<◌, ◌≤◌, List, [], length, map, All, IfOk, IfSome, IsTrue, get_or};
 ghost use Rattle.std.specs.List.{AllZip};
 ghost use Rattle.std.specs.List.Sorted.{IsNonDecreasingBy, IsPermutation};
-ghost use Rattle.dd_nodes.specs.Stores.{Keeps, gives_up};
+ghost use Rattle.dd_nodes.specs.Diagram.{IsDiagram};
+ghost use Rattle.dd_nodes.specs.Stores.{Keeps, Store, gives_up};
 ghost use Rattle.net_core.specs.declared.raw.RawNet.{RawNet};
 ghost use Rattle.net_core.specs.Flat.{IsInRange};
 ghost use Rattle.ste_model.specs.declared.task.Task.{Task as ATask};
@@ -115,19 +116,31 @@ fn hand_on<N: Nodes>(jobs: &mut [Job<N>], i: usize, last: &mut Option<Frame>)
     }
 }
 
-/// The most nets of a net whose last frame goes on to another task. That of a larger one leaves the processor's cache
-/// meanwhile, and to mark what is due by its lists takes longer than to evaluate all.
-pub(crate) const MOST_NETS: u32 = 32768;
+/// The most nets of a net whose last frame goes on to another task as it is. That of a larger one leaves the processor's
+/// cache meanwhile, and to mark what is due by its lists takes longer than to evaluate all.
+const MOST_NETS: u32 = 32768;
 
-/// Lets the last frame go where it is that of a large net.
-fn let_go<N: Nodes>(net: &Net, job: &Job<N>, last: &mut Option<Frame>)
+/// The frame that goes on to another task: the last one, or where the net is large that one as one of no time.
+pub(crate) fn passed_on(alloc: Global, net: &Net, last: Option<Frame>) -> Option<Frame>
+    ensures { (s : Store) (raw : RawNet) → IsDiagram s.held s.vars → IfSome last (IsFrame s raw)
+        → IfSome result (IsFrame s raw) }
+{
+    let Some(frame) = last else {
+        return None;
+    };
+    if net.nets() > MOST_NETS {
+        return Some(frame.forgotten(alloc));
+    }
+    Some(frame)
+}
+
+/// Makes of the last frame the one that goes on to another job.
+fn pass_on<N: Nodes>(alloc: Global, net: &Net, job: &Job<N>, last: &mut Option<Frame>)
     requires { IfSome last.old (IsFrame (N.store job.now.nodes) net.now.raw) }
     ensures { IfSome last.new (IsFrame (N.store job.now.nodes) net.now.raw) }
 {
     let _ = job;
-    if net.nets() > MOST_NETS {
-        *last = None;
-    }
+    *last = passed_on(alloc, net, last.take());
 }
 
 /// Does a job.
@@ -159,7 +172,7 @@ fn work_at<N: Nodes, G: Gate>(
     let number = numbers[job.place as usize];
     gate.at_task(number);
     work(alloc, net, rows, &tasks[number as usize], cubes, job, last);
-    let_go(net, job, last);
+    pass_on(alloc, net, job, last);
 }
 
 /// Each of these jobs is done once, one after another. What the store of one remembers goes over to that of the next, and so

@@ -1,7 +1,10 @@
-use Rattle.std.proofs.Common.{◌≡◌, refl, sym, subst}
+use Rattle.std.proofs.Common.{◌≡◌, Option, refl, sym, subst}
+use Rattle.std.specs.Prelude.{IfSome}
 use Rattle.dd_nodes.specs.Stores.{Keeps, Store, gets}
 use Rattle.dd_growing.specs.Growing.{grown_store}
 use Rattle.dd_growing.specs.private.GrowingLaws.{growing_diagram}
+use Rattle.sym_step.specs.declared.frame.Frame.{Frame}
+use Rattle.sym_step.specs.private.Frames.{IsFrame}
 use Rattle.work_pool.proofs.Frames.{last_keeps}
 use Rattle.work_pool.proofs.alone.check_anew.Goals as goal
 
@@ -16,3 +19,11 @@ check-report-requires-clause-last c =
     last_keeps s t c.args.net.now.raw c.args.last.now c.args.net.now.in_range
     (growing_diagram old.vars old.nodes.items old.slots.items old.ordered old.indexed) (growing_diagram new.vars new.nodes.items new.slots.items new.ordered new.indexed)
     keeps c.requires.last
+
+pub returns-clause-last : goal.returns-clause-last
+returns-clause-last c =
+    let new = c.check-report.new.nodes in
+    let t : Store = grown_store new.nodes.items new.base new.limit new.vars in
+    let net = c.args.net.now.raw in
+    c.passed_on.ensures t net (growing_diagram new.vars new.nodes.items new.slots.items new.ordered new.indexed)
+    (subst (λ (o : Option Frame). IfSome o (IsFrame t net)) (sym c.take.ensures.value) c.check-report.ensures.last)
