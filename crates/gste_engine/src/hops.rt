@@ -78,7 +78,7 @@ pub fn hops_of<N: Nodes>(
     ensures same { MakesNothing (N.store nodes.old) (N.store nodes.new) }
 {
     let edges = graph.edges.as_slice();
-    let mut hops = Vec::with_capacity(alloc, edges.len())?;
+    let mut hops = Vec::new(alloc);
     let mut frame = Frame::blank(alloc, net)?;
     for k in 0..edges.len() {
         let edge = &edges[k];

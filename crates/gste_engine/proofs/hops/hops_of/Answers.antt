@@ -8,9 +8,10 @@ use Rattle.ste_engine.proofs.PlaceTurns.{nothing_more}
 use Rattle.ste_model.specs.declared.task.Edge.{Edge}
 use Rattle.ste_model.specs.GraphHops.{AreEdgeHops, IsEdgeHop}
 use Rattle.gste_engine.specs.declared.state.State.{State}
-use Rattle.gste_engine.specs.Tables.{IsEdgeOver}
+use Rattle.gste_engine.specs.Tables.{AreStateRefs, IsEdgeOver}
 use Rattle.gste_engine.specs.private.Taken.{table_at}
 use Rattle.gste_engine.proofs.EdgeHops.{more_hops, source_is}
+use Rattle.gste_engine.proofs.StateRefs.{All-states-keep}
 use Rattle.gste_engine.proofs.hops.hops_of.Goals as goal
 
 pub hop_of-requires-clause-con : goal.hop_of-requires-clause-con
@@ -61,3 +62,29 @@ returns-clause-hops g c = λ states has.
     let k = c.loop-k.k in
     let long = ap (λ (xs : List Edge). length xs) c.as_slice-edges.ensures in
     subst (λ (xs : List Edge). AreEdgeHops (FailsBy c.args.failure) c.args.net.now.raw c.args.bits.now (table_at c.args.bits.now states) xs c.loop-k.hops.items) (take_all k edges (omega (arith, c.loop-k-test.false, long))) (c.loop-k.invariant.so states has)
+
+pub hop_of-requires-clause-source : goal.hop_of-requires-clause-source
+hop_of-requires-clause-source g c =
+    let s : Store = g.N.Nodes.store c.args.nodes.now in
+    let t : Store = g.N.Nodes.store c.loop-k.nodes in
+    let net : RawNet = c.args.net.now.raw in
+    let table : List State = c.args.table.now in
+    let edges : List Edge = c.args.graph.now.edges in
+    let k = c.loop-k.k in
+    let edge : Edge = c.index-edges-k.result in
+    let all : c.as_slice-edges.result.now ≡ edges = c.as_slice-edges.ensures in
+    let long = ap (λ (xs : List Edge). length xs) all in
+    let lt : k < length edges = omega (arith, c.loop-k-test.true, long) in
+    let is : edge ≡ get_or edges k edge = c.index-edges-k.is ∙ ap (λ (xs : List Edge). get_or xs k edge) all in
+    let over : IsEdgeOver net s.vars (length c.args.graph.now.vertices) edge = subst (IsEdgeOver net s.vars (length c.args.graph.now.vertices)) (sym is) (c.requires.graph.edges k edge lt) in
+    let inside : edge.from < length table = subst (λ n. edge.from < n) (sym c.requires.vertices) over.start in
+    let refs : All (AreStateRefs t net) table = All-states-keep s t net table c.loop-k.invariant.same.keeps c.requires.table in
+    subst (AreStateRefs t net) (sym c.index-table-edge.is) (refs edge.from c.index-table-edge.result inside)
+
+pub returns-in_err-hop-clause-same : goal.returns-in_err-hop-clause-same
+returns-in_err-hop-clause-same g c =
+    nothing_more (g.N.Nodes.store c.args.nodes.now) (g.N.Nodes.store c.loop-k.nodes) (g.N.Nodes.store c.hop_of.new.nodes) c.loop-k.invariant.same c.hop_of.ensures.same
+
+pub returns-in_err-push-clause-same : goal.returns-in_err-push-clause-same
+returns-in_err-push-clause-same g c =
+    nothing_more (g.N.Nodes.store c.args.nodes.now) (g.N.Nodes.store c.loop-k.nodes) (g.N.Nodes.store c.hop_of.new.nodes) c.loop-k.invariant.same c.hop_of.ensures.same

@@ -432,3 +432,7 @@ with_found-requires-2-clause-found g c =
       weak = IsFrom-grows s.held u.held 0 c.args.found.weak keeps.grows c.requires.found.weak;
       feasible = IsFrom-grows s.held u.held 0 c.args.found.feasible keeps.grows c.requires.found.feasible;
     }
+
+pub edge_found-requires-clause-source : goal.edge_found-requires-clause-source
+edge_found-requires-clause-source g c =
+    StateRefs-keep (g.N.Nodes.store c.args.nodes.now) (g.N.Nodes.store c.asked_on.new.nodes) c.args.net.now.raw c.args.source.now c.asked_on.ensures.spends.keeps c.requires.source

@@ -11,6 +11,7 @@ use Rattle.net_core.proofs.Ordered.{settled_by_order}
 use Rattle.sym_step.specs.private.Frames.{bare, nets_of}
 use Rattle.ste_model.specs.declared.task.Edge.{Edge}
 use Rattle.ste_model.specs.declared.task.Graph.{Graph}
+use Rattle.ste_model.specs.GraphNeed.{BindsReadBelow}
 use Rattle.gste_engine.specs.declared.edge.EdgeFound.{EdgeFound}
 use Rattle.gste_engine.specs.declared.links.End.TheVariants.{From}
 use Rattle.gste_engine.specs.declared.links.Links.{Links}
@@ -220,3 +221,16 @@ edge_found-requires-clause-source g c =
 
 pub with_edge-requires-clause-nets : goal.with_edge-requires-clause-nets
 with_edge-requires-clause-nets g c = length-map c.in_ok-found.found.frame.board.nets.items bare ∙ c.in_ok-found.ensures.frame.long
+
+pub edge_found-requires-clause-reads : goal.edge_found-requires-clause-reads
+edge_found-requires-clause-reads g c =
+    let s : Store = g.N.Nodes.store c.args.nodes.now in
+    let net : RawNet = c.args.net.now.raw in
+    let graph : Graph = c.args.graph.now in
+    let k = c.loop-k.k in
+    let es : c.as_slice-edges.result.now ≡ graph.edges = c.as_slice-edges.ensures in
+    let lt : k < length graph.edges = subst (λ (xs : List Edge). k < length xs) es c.loop-k-test.true in
+    let edge : Edge = c.index-edges-k.result in
+    let is : edge ≡ get_or graph.edges k edge = subst (λ (xs : List Edge). edge ≡ get_or xs k edge) es c.index-edges-k.is in
+    let over : IsEdgeOver net s.vars (length graph.vertices) edge = subst (IsEdgeOver net s.vars (length graph.vertices)) (sym is) (c.requires.graph.edges k edge lt) in
+    subst (λ (n : ℕ). BindsReadBelow n edge.ant) (sym c.loop-k.invariant.keeps.vars) over.reads
