@@ -1,4 +1,4 @@
-use Rattle.std.proofs.Common.{List, All, sym, subst}
+use Rattle.std.proofs.Common.{List, All, ap, length, sym, subst, ◌∙◌}
 use Rattle.dd_nodes.specs.Stores.{Store, Keeps}
 use Rattle.dd_nodes.proofs.Walks.{IsFrom-grows}
 use Rattle.net_core.specs.declared.raw.RawNet.{RawNet}
@@ -48,3 +48,13 @@ advance_of-requires-clause-cuts g c =
     let s : Store = g.N.Nodes.store c.loop-time.nodes in
     let net : RawNet = c.args.net.now.raw in
     c.cuts_at-now.ensures s net (subst (All (IsCutOf s net)) (sym c.deref.ensures.value) c.loop-time.invariant.cuts)
+
+pub loop-time-init : goal.loop-time-init
+loop-time-init g c =
+    let s : Store = g.N.Nodes.store c.var-2.new.nodes in
+    record {
+      long = ap length c.from-latches.ensures ∙ c.in_ok-unknowns.ensures.long ∙ ap length c.latches.ensures;
+      latches = subst (λ (xs : List Rails). All (AreRefs s) xs) (sym c.from-latches.ensures) (c.in_ok-unknowns.ensures.refs s);
+      cuts = c.in_ok-cuts.ensures;
+      frame = c.in_ok-frame.ensures s (g.met.N.Nodes.diagram c.var-2.new.nodes);
+    }
