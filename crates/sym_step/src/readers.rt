@@ -171,7 +171,8 @@ impl Readers {
     pub fn mark(&self, id: u32, due: &mut Marks)
         ensures long { length due.new.flags.items ≡ length due.old.flags.items }
         ensures order { due.new.order ≡ due.old.order }
-        ensures marked { AreMarked (λ k. ¬ Lists self.now id k) due.old.flags.items due.new.flags.items }
+        ensures marked { AreMarked (λ k. ¬ Lists self.now id k)
+            due.old.flags.items due.new.flags.items }
     {
         let mut link = self.head(id);
         for _ in 0..self.slots.len() {
