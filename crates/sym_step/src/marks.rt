@@ -95,13 +95,14 @@ impl Marks {
         self.awake[block] = true;
     }
 
-    /// Marks a gate or latch, by number, where there is a mark for it.
+    /// Marks a gate or latch, by number, where there is a mark for it. One that is marked is not looked at further, since
+    /// its block is awake.
     pub fn mark(&mut self, number: usize)
         ensures long { length self.new.flags.items ≡ length self.old.flags.items }
         ensures order { self.new.order ≡ self.old.order }
         ensures marked { AreMarked (λ k. number ≢ k) self.old.flags.items self.new.flags.items }
     {
-        if number >= self.flags.len() {
+        if number >= self.flags.len() || self.flags[number] {
             return;
         }
         self.wake(number);
