@@ -148,3 +148,23 @@ no_rows width (Close kept ∷ rest) e is = absurd cc
 pub nothing_long : (pieces : List Piece) → length pieces ≡ 0 → pieces ≡ []
 nothing_long [] e = refl
 nothing_long (p ∷ ps) e = absurd (omega (arith, e))
+
+-- ---- rows without -
+
+-- one more literal
+pub full_put : (width : ℕ) (full rows : List (List Lit)) (begun more : List Lit) (lit : Lit) (pieces rest : List Piece) → pieces ≡ Put lit ∷ rest → more ≡ begun ++ lit ∷ []
+    → full ++ rows_from width begun pieces ≡ rows → full ++ rows_from width more rest ≡ rows
+full_put width full rows begun more lit pieces rest is longer so =
+    ap (λ (row : List Lit). full ++ rows_from width row rest) longer ∙ sym (ap (λ ps. full ++ rows_from width begun ps) is) ∙ so
+
+-- one more row, as wide as the list
+pub full_close : (width : ℕ) (full more rows : List (List Lit)) (begun left : List Lit) (kept : ℕ) (pieces rest : List Piece) → pieces ≡ Close kept ∷ rest → length begun ≡ width → more ≡ full ++ begun ∷ []
+    → left ≡ take kept begun → full ++ rows_from width begun pieces ≡ rows → more ++ rows_from width left rest ≡ rows
+full_close width full more rows begun left kept pieces rest is wide longer cut so =
+    let none : width - length begun ≡ 0 = omega (arith, wide) in
+    let whole : padded width begun ≡ begun = ap (λ n. begun ++ replicate n Any) none ∙ append-nil begun in
+    ap (λ (rs : List (List Lit)). rs ++ rows_from width left rest) longer
+    ∙ append_assoc full (begun ∷ []) (rows_from width left rest)
+    ∙ ap (λ (row : List Lit). full ++ (begun ∷ rows_from width row rest)) cut
+    ∙ ap (λ (row : List Lit). full ++ (row ∷ rows_from width (take kept begun) rest)) (sym whole)
+    ∙ sym (ap (λ ps. full ++ rows_from width begun ps) is) ∙ so

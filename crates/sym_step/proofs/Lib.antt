@@ -12,6 +12,8 @@ pub mod OtherRail
 pub mod Pairs
 pub mod Summing
 pub mod RowSums
+pub mod Ordered
+pub mod Halving
 pub mod Whole
 pub mod Asleep
 pub mod Chains

@@ -1,6 +1,6 @@
 //! The set that a gate gives; begin with `gate_at`.
 
-ghost use Rattle.std.specs.Prelude.{◌≡◌, ◌↔◌, ◌≢◌, ◌<◌, ◌∷◌, [], ℕ, Bool, true, List, All, IfSome, IsTrue, length, not};
+ghost use Rattle.std.specs.Prelude.{◌≡◌, ◌≢◌, ◌<◌, ◌∷◌, [], ℕ, Bool, true, List, All, IfSome, IsTrue, length, not};
 ghost use Rattle.net_core.specs.declared.cover.Lit.TheVariants.{Any};
 ghost use Rattle.net_core.specs.Cover.{some_matches};
 ghost use Rattle.net_core.specs.Work.{AreWide, SymbolicSet, conjunction, disjunction, factor, gate_set, gate_work};
@@ -18,6 +18,7 @@ use dd_nodes::{Nodes, Ref};
 use dd_ops::{OpFault, Ops};
 use dual_rail::{Rails, both, either, opposite};
 use net_core::Lit;
+use std::alloc::Global;
 use ste_base::NodeId;
 
 /// The literals of the only row of a list over two inputs; none where there are more rows, or the second literal is `-`.
@@ -155,6 +156,7 @@ fn exclusive<N: Nodes>(
 /// takes one product and one sum, and any gate of which the inputs are known the sum of its shorter list of rows and one
 /// negation. `products` lends room for the products of the first literals of a row.
 pub fn gate_at<N: Nodes>(
+    alloc: Global,
     ops: &Ops,
     nodes: &mut N,
     rows: &CoverRows,
@@ -204,21 +206,15 @@ pub fn gate_at<N: Nodes>(
         }
     }
     if known {
-        return by_shorter(ops, nodes, rows, products, nets, inputs);
+        return by_shorter(alloc, ops, nodes, rows, products, nets, inputs);
     }
-    by_rows(ops, nodes, rows, products, nets, inputs)
-}
-
-/// The number of pieces of a list of rows; 0 exactly where there is no row.
-fn size(rows: &RowList) -> usize
-    ensures { (result ≡ 0) ↔ (rows.now.list ≡ []) }
-{
-    rows.pieces().len()
+    by_rows(alloc, ops, nodes, rows, products, nets, inputs)
 }
 
 /// Where some row of a list matches, and where none does, of inputs that each have exactly one bit: one sum, and its
 /// negation.
 fn by_list<N: Nodes>(
+    alloc: Global,
     ops: &Ops,
     nodes: &mut N,
     rows: &RowList,
@@ -237,7 +233,7 @@ fn by_list<N: Nodes>(
         (HasSet (list_set rows.now.list (sets_at sets inputs.now)))
         (N.store nodes.old) (N.store nodes.new) result }
 {
-    let can1 = rows_sum(ops, nodes, rows, products, nets, inputs)?;
+    let can1 = rows_sum(alloc, ops, nodes, rows, products, nets, inputs)?;
     let can0 = opposite(ops, nodes, can1)?;
     Ok(Rails { can0, can1 })
 }
@@ -245,6 +241,7 @@ fn by_list<N: Nodes>(
 /// The set that a gate gives, where each input has exactly one bit everywhere. One input's rails are at hand, so that
 /// nothing is called for a buffer or an inverter.
 fn by_shorter<N: Nodes>(
+    alloc: Global,
     ops: &Ops,
     nodes: &mut N,
     rows: &CoverRows,
@@ -270,12 +267,12 @@ fn by_shorter<N: Nodes>(
         (N.store nodes.old) (N.store nodes.new) result }
 {
     if inputs.len() == 1 {
-        return by_rows(ops, nodes, rows, products, nets, inputs);
+        return by_rows(alloc, ops, nodes, rows, products, nets, inputs);
     }
-    if size(&rows.on) <= size(&rows.off) {
-        return by_list(ops, nodes, &rows.on, products, nets, inputs);
+    if rows.on.size() <= rows.off.size() {
+        return by_list(alloc, ops, nodes, &rows.on, products, nets, inputs);
     }
-    let opposed = by_list(ops, nodes, &rows.off, products, nets, inputs)?;
+    let opposed = by_list(alloc, ops, nodes, &rows.off, products, nets, inputs)?;
     Ok(Rails {
         can0: opposed.can1,
         can1: opposed.can0,
@@ -284,6 +281,7 @@ fn by_shorter<N: Nodes>(
 
 /// The same by the products and sums of all rows.
 fn by_rows<N: Nodes>(
+    alloc: Global,
     ops: &Ops,
     nodes: &mut N,
     rows: &CoverRows,
@@ -303,8 +301,8 @@ fn by_rows<N: Nodes>(
         (HasSet (gate_set rows.now.on.list rows.now.off.list (sets_at sets inputs.now)))
         (N.store nodes.old) (N.store nodes.new) result }
 {
-    let can1 = rows_sum(ops, nodes, &rows.on, products, nets, inputs)?;
-    let can0 = rows_sum(ops, nodes, &rows.off, products, nets, inputs)?;
+    let can1 = rows_sum(alloc, ops, nodes, &rows.on, products, nets, inputs)?;
+    let can0 = rows_sum(alloc, ops, nodes, &rows.off, products, nets, inputs)?;
     Ok(Rails { can0, can1 })
 }
 

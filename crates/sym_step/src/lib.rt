@@ -3,6 +3,7 @@
 #![tactic(auto)]
 
 mod board;
+mod by_halves;
 pub mod cut;
 mod cuts;
 mod flagged;

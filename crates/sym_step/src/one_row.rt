@@ -17,6 +17,7 @@ use dd_nodes::{Nodes, Ref};
 use dd_ops::{OpFault, Ops};
 use dual_rail::{Rails, either};
 use net_core::{Cover, Lit};
+use std::alloc::Global;
 use ste_base::NodeId;
 
 /// Whether there are only `-` from `from` on.
@@ -108,6 +109,7 @@ fn refused<N: Nodes>(
 /// Where the only row of a list matches, and where it does not. `products` lends room for the products of its first
 /// literals.
 pub fn by_row<N: Nodes>(
+    alloc: Global,
     ops: &Ops,
     nodes: &mut N,
     rows: &RowList,
@@ -132,7 +134,7 @@ pub fn by_row<N: Nodes>(
         }))
         (N.store nodes.old) (N.store nodes.new) result }
 {
-    let can1 = rows_sum(ops, nodes, rows, products, nets, inputs)?;
+    let can1 = rows_sum(alloc, ops, nodes, rows, products, nets, inputs)?;
     let can0 = refused(ops, nodes, row, nets, inputs)?;
     Ok(Rails { can0, can1 })
 }

@@ -28,10 +28,12 @@ use dd_nodes::{Nodes, Ref};
 use dd_ops::{OpFault, Ops};
 use dual_rail::Rails;
 use net_core::{Cover, Gate, Lit, Net};
+use std::alloc::Global;
 use ste_base::NodeId;
 
 /// The set that a gate gives whose cover has this row alone, with ones but for its last literal, where no input is empty.
 fn rising_gate<N: Nodes>(
+    alloc: Global,
     ops: &Ops,
     nodes: &mut N,
     cover: &Cover,
@@ -58,9 +60,9 @@ fn rising_gate<N: Nodes>(
         (N.store nodes.old) (N.store nodes.new) result }
 {
     if cover.on {
-        return by_row(ops, nodes, &rows.on, row, products, nets, inputs);
+        return by_row(alloc, ops, nodes, &rows.on, row, products, nets, inputs);
     }
-    let swapped = by_row(ops, nodes, &rows.off, row, products, nets, inputs)?;
+    let swapped = by_row(alloc, ops, nodes, &rows.off, row, products, nets, inputs)?;
     Ok(Rails {
         can0: swapped.can1,
         can1: swapped.can0,
@@ -70,6 +72,7 @@ fn rising_gate<N: Nodes>(
 /// The set that a gate of this cover gives, where none of its inputs is empty anywhere where `full` says so, and each has
 /// exactly one bit everywhere where `known` does.
 fn cover_gate<N: Nodes>(
+    alloc: Global,
     ops: &Ops,
     nodes: &mut N,
     cover: &Cover,
@@ -99,14 +102,15 @@ fn cover_gate<N: Nodes>(
 {
     if full && !known && inputs.len() > 2 {
         if let Some(row) = only_rising(cover) {
-            return rising_gate(ops, nodes, cover, rows, row, products, nets, inputs);
+            return rising_gate(alloc, ops, nodes, cover, rows, row, products, nets, inputs);
         }
     }
-    gate_at(ops, nodes, rows, products, nets, inputs, full, known)
+    gate_at(alloc, ops, nodes, rows, products, nets, inputs, full, known)
 }
 
 /// The set of a gate's output, where its inputs have these sets.
 fn place<N: Nodes>(
+    alloc: Global,
     ops: &Ops,
     nodes: &mut N,
     net: &Net,
@@ -144,7 +148,7 @@ fn place<N: Nodes>(
     let Filling { full, known } = filling_of(nets, inputs);
     let cover = &net.covers()[g.cover as usize];
     let given = cover_gate(
-        ops, nodes, cover, lists, products, nets, inputs, full, known,
+        alloc, ops, nodes, cover, lists, products, nets, inputs, full, known,
     )?;
     cut_full(ops, nodes, cuts, marks, g.output.0, given, full, known)
 }
@@ -152,6 +156,7 @@ fn place<N: Nodes>(
 /// Gives a gate's output its set, where its inputs have these sets; a gate that is not due keeps that of before, and nothing
 /// is called. `number` is the gate's.
 fn renew<N: Nodes>(
+    alloc: Global,
     ops: &Ops,
     nodes: &mut N,
     net: &Net,
@@ -177,7 +182,8 @@ fn renew<N: Nodes>(
     requires marks { AreMarks cuts.now marks.now }
     requires marked { length marks.now ≡ length board.old.nets.items }
     requires spared { flag_at board.old.due.flags.items number ≡ false
-        → IsSpared (N.store nodes.old) net.now.raw (map (λ c. c.node) cuts.now) board.old number g.now }
+        → IsSpared (N.store nodes.old) net.now.raw (map (λ c. c.node) cuts.now)
+        board.old number g.now }
     ensures room { length products.new ≡ length products.old }
     ensures nets { OnOk result (board.new.nets.items
         ≡ set board.old.nets.items g.now.output.0 (net_at board.new.nets.items g.now.output.0)) }
@@ -202,13 +208,14 @@ fn renew<N: Nodes>(
         return Ok(());
     }
     let nets = board.nets.as_slice();
-    let r = place(ops, nodes, net, rows, cuts, marks, products, nets, g)?;
+    let r = place(alloc, ops, nodes, net, rows, cuts, marks, products, nets, g)?;
     board.put(g.output.0, r);
     Ok(())
 }
 
 /// Gives the gates' outputs their sets, one after another; those that are not due keep them.
 pub fn place_gates<N: Nodes>(
+    alloc: Global,
     ops: &Ops,
     nodes: &mut N,
     net: &Net,
@@ -256,7 +263,7 @@ pub fn place_gates<N: Nodes>(
         let number = board.due.number_at(place);
         let g = &net.gates()[number];
         renew(
-            ops, nodes, net, rows, cuts, marks, products, board, number, g,
+            alloc, ops, nodes, net, rows, cuts, marks, products, board, number, g,
         )?;
         place = board.due.next(place + 1);
     }

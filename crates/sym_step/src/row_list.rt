@@ -1,6 +1,6 @@
 //! Lists of rows, each by what it shares with the row before; begin with `RowList`.
 
-ghost use Rattle.std.specs.Prelude.{◌≡◌, ◌≤◌, ◌<◌, ◌++◌, ◌∷◌, [], ℕ, Bool, true, false, List, length, take, drop, All, IfOk, OnOk, IsTrue, slice_index_or};
+ghost use Rattle.std.specs.Prelude.{◌≡◌, ◌↔◌, ◌≤◌, ◌<◌, ◌++◌, ◌∷◌, [], ℕ, Bool, true, false, List, length, take, drop, All, IfOk, OnOk, IsTrue, slice_index_or};
 ghost use Rattle.net_core.specs.declared.cover.Lit.{Lit};
 ghost use Rattle.net_core.specs.declared.cover.Lit.TheVariants.{Any};
 ghost use Rattle.net_core.specs.Work.{AreWide};
@@ -104,6 +104,13 @@ impl RowList {
         ensures sound { IsTrue (are_sound self.now.width 0 false result.now) }
     {
         self.pieces.as_slice()
+    }
+
+    /// The number of pieces; 0 exactly where there is no row. It takes no memory.
+    pub fn size(&self) -> usize
+        ensures { (result ≡ 0) ↔ (self.now.list ≡ []) }
+    {
+        self.pieces().len()
     }
 
     /// The list of these rows, each with a literal for each of `width` inputs.

@@ -9,6 +9,7 @@ ghost use Rattle.net_core.specs.Work.{SymbolicSet, conjunction, disjunction, fac
 ghost use Rattle.dual_rail.specs.Rail.{Built, HasFunction};
 ghost use Rattle.sym_step.specs.private.NetSets.{AreNetRails, AreNetRefs, HaveInputs, sets_at};
 
+use crate::by_halves::{rows_to_halve, sum_by_halves};
 use crate::net_rails::NetRails;
 use crate::piece::Piece;
 use crate::row_list::RowList;
@@ -16,6 +17,7 @@ use dd_nodes::{Nodes, Ref};
 use dd_ops::{OpFault, Ops};
 use dual_rail::{both, either};
 use net_core::Lit;
+use std::alloc::Global;
 use ste_base::NodeId;
 
 /// The product so far with what a literal asks of one more input.
@@ -57,7 +59,8 @@ fn filled<N: Nodes>(
         → length row ≡ length inputs.now
         → ((k : ℕ) → from ≤ k → k < length row → slice_index_or row k Any ≡ Any)
         → HaveInputs (N.store nodes.old) sets nets.now inputs.now
-        → Means (N.store nodes.old) (product (take from (factors row (sets_at sets inputs.now)))) all
+        → Means (N.store nodes.old)
+        (product (take from (factors row (sets_at sets inputs.now)))) all
         → Built (products (factors row (sets_at sets inputs.now)))
         (HasFunction (product (factors row (sets_at sets inputs.now))))
         (N.store nodes.old) (N.store nodes.new) result }
@@ -91,7 +94,8 @@ fn closed<N: Nodes>(
         → ((k : ℕ) → from ≤ k → k < length row → slice_index_or row k Any ≡ Any)
         → HaveInputs (N.store nodes.old) sets nets.now inputs.now
         → Means (N.store nodes.old) f sum
-        → Means (N.store nodes.old) (product (take from (factors row (sets_at sets inputs.now)))) all
+        → Means (N.store nodes.old)
+        (product (take from (factors row (sets_at sets inputs.now)))) all
         → Built (disjunction f (product (factors row (sets_at sets inputs.now)))
         ∷ products (factors row (sets_at sets inputs.now)))
         (HasFunction (disjunction f (product (factors row (sets_at sets inputs.now)))))
@@ -101,9 +105,8 @@ fn closed<N: Nodes>(
     either(ops, nodes, sum, whole)
 }
 
-/// The sum of the products of the rows: where some choice from the inputs' sets is matched by some row. The inputs are
-/// nets by number. `products` lends room for the products of the first literals of a row.
-pub fn rows_sum<N: Nodes>(
+/// The sum of the products of the rows, one row after another.
+fn row_by_row<N: Nodes>(
     ops: &Ops,
     nodes: &mut N,
     rows: &RowList,
@@ -140,4 +143,33 @@ pub fn rows_sum<N: Nodes>(
         }
     }
     Ok(sum)
+}
+
+/// The sum of the products of the rows: where some choice from the inputs' sets is matched by some row. The inputs are
+/// nets by number. `products` lends room for the products of the first literals of a row. A long list without `-` over
+/// variables in order is summed by halves.
+pub fn rows_sum<N: Nodes>(
+    alloc: Global,
+    ops: &Ops,
+    nodes: &mut N,
+    rows: &RowList,
+    products: &mut [Ref],
+    nets: &[NetRails],
+    inputs: &[NodeId],
+) -> Result<Ref, OpFault>
+    requires width { rows.now.width ≡ length inputs.now }
+    requires room { length inputs.now < length products.old }
+    requires inside { All (λ input. input.0 < length nets.now) inputs.now }
+    requires refs { All (AreNetRefs (N.store nodes.old)) nets.now }
+    ensures room { length products.new ≡ length products.old }
+    ensures built { (sets : ℕ → SymbolicSet)
+        → HaveInputs (N.store nodes.old) sets nets.now inputs.now
+        → Built (rows_work rows.now.list (sets_at sets inputs.now))
+        (HasFunction (sum (row_products rows.now.list (sets_at sets inputs.now))))
+        (N.store nodes.old) (N.store nodes.new) result }
+{
+    match rows_to_halve(alloc, nodes, rows, nets, inputs)? {
+        Some(full) => sum_by_halves(alloc, nodes, full.as_slice(), nets, inputs),
+        None => row_by_row(ops, nodes, rows, products, nets, inputs),
+    }
 }

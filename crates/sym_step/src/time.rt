@@ -97,6 +97,7 @@ fn finished(alloc: Global, net: &Net, frame: &Frame, contradictory: Ref) -> Resu
 /// latches that do not have theirs yet, `asked` are the nets that are cut, and `before` those that were cut at the time
 /// before.
 fn set_nets<N: Nodes>(
+    alloc: Global,
     ops: &Ops,
     nodes: &mut N,
     net: &Net,
@@ -142,7 +143,7 @@ fn set_nets<N: Nodes>(
         → HaveNets net.now.raw sets (N.store nodes.new) board.new.nets.items) }
 {
     sources(ops, nodes, net, latches, cuts, marks, asked, before, board)?;
-    place_gates(ops, nodes, net, rows, cuts, marks, products, board)
+    place_gates(alloc, ops, nodes, net, rows, cuts, marks, products, board)
 }
 
 /// Begins a time: the gates and latches whose outputs are cut now or were before are due, and the result is the sets of the
@@ -208,6 +209,7 @@ fn renew_frame<N: Nodes>(
     let asked = asked_nets(alloc, cuts)?;
     let latches = begin_time(alloc, net, &marks, &asked, frame)?;
     set_nets(
+        alloc,
         ops,
         nodes,
         net,

@@ -1,6 +1,6 @@
 use Rattle.std.proofs.Common.{◌≡◌, length, drop}
 use Rattle.sym_step.specs.private.NetSets.{IsGoing}
-use Rattle.sym_step.proofs.sums.rows_sum.Given as goal
+use Rattle.sym_step.proofs.sums.row_by_row.Given as goal
 
 -- the pieces that are left lead to the sum
 abbrev pub invariant-loop-piece : goal.invariant-loop-piece
