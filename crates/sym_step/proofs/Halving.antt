@@ -1,12 +1,13 @@
 -- A sum over rows by halves: what the calls for both halves leave, and what the node over them is.
 use Rattle.std.proofs.Common.{◌≡◌, ℕ, zero, suc, ◌+◌, ◌<◌, ◌≤◌, Bool, true, false, List, [], ◌∷◌, length, map, inl, inr, refl, sym, ◌∙◌, subst, arith, get_or, drop, ◌-◌, Some, Result}
 use Rattle.std.proofs.lemmas.List.{drop_more}
-use Rattle.std.specs.Prelude.{◌==◌, IsSome}
+use Rattle.std.specs.List.{list_any}
+use Rattle.std.specs.Prelude.{◌==◌, IsSome, if◌then◌else◌}
 use Rattle.dd_nodes.specs.declared.node.Node.{Node}
 use Rattle.ste_base.specs.declared.id.NodeId.{NodeId}
 use Rattle.dd_nodes.specs.declared.node.Ref.{Ref}
 use Rattle.dd_nodes.specs.Diagram.{Function, IsCofactor}
-use Rattle.dd_nodes.specs.Stores.{Store, Keeps, Means, node_of}
+use Rattle.dd_nodes.specs.Stores.{function, Store, IsRef, Keeps, Means, node_of}
 use Rattle.dd_nodes.specs.Functions.{IsCofactorOf}
 use Rattle.dd_nodes.specs.Spending.{Has, Spends}
 use Rattle.dd_nodes.proofs.Walks.{IsCofactor-trans, from_constant}
@@ -16,7 +17,7 @@ use Rattle.dd_ops.proofs.Terminal.{one_bit, zero_bit}
 use Rattle.dd_ops.specs.declared.fault.OpFault.{OpFault}
 use Rattle.dd_ops.specs.private.Recursion.{Splits}
 use Rattle.net_core.specs.declared.cover.Lit.{Lit}
-use Rattle.net_core.specs.Cases.{half_of_rows, without_first}
+use Rattle.net_core.specs.Cases.{begins_with, half_of_rows, without_first}
 use Rattle.net_core.specs.Work.{SymbolicSet}
 use Rattle.dual_rail.specs.Rail.{Built, HasFunction}
 use Rattle.dual_rail.proofs.Works.{SoFar, Built-covers, Built-good, here, last}
@@ -24,7 +25,7 @@ use Rattle.sym_step.specs.declared.net_rails.NetRails.{NetRails}
 use Rattle.sym_step.specs.private.NetSets.{HaveInputs, net_at, sets_at}
 use Rattle.sym_step.specs.private.Ordered.{AreOrdered, IsFree, IsVariable}
 use Rattle.sym_step.proofs.NetRefs.{Inputs-keep}
-use Rattle.sym_step.proofs.Ordered.{total, total_end, ordered-keeps, ordered-less, whole_free, half_cofactor, halves_split}
+use Rattle.sym_step.proofs.Ordered.{total, total_end, total_last, ordered-keeps, ordered-less, whole_free, half_cofactor, halves_split}
 
 -- what is made for a cofactor is made for the function
 spends_below : (f g : Function) (s t : Store) (out : Type 0) → IsCofactor s.vars f g → Spends (g ∷ []) s t out → Spends (f ∷ []) s t out
@@ -57,6 +58,21 @@ all_of s (row ∷ rows) ws d lt e = subst (λ (vs : List SymbolicSet). Means s (
   ref = from_constant s.held 0 (record { 0 = 1 }) (omega arith);
   value = λ bits l. one_bit s (record { 0 = 1 }) bits d refl ∙ sym (total_end row rows bits);
 })
+
+-- the rows of one input that admit its bit
+pub last_of : (s : Store) (b : Bool) (rows : List (List Lit)) (ws : List SymbolicSet) (r : Ref) → IsGood s → ws ≡ [] → r ≡ (if (list_any (begins_with b) rows) then record { 0 = 1 } else record { 0 = 0 })
+    → Means s (total (half_of_rows b rows) ws) r
+last_of s b rows ws r d none is =
+    subst (λ (vs : List SymbolicSet). Means s (total (half_of_rows b rows) vs) r) (sym none)
+    (subst (λ (x : Ref). Means s (total (half_of_rows b rows) []) x) (sym is) (record { ref = held (list_any (begins_with b) rows); value = λ bits l. bit bits (list_any (begins_with b) rows) ∙ sym (total_last b rows bits) }))
+  where
+    held : (a : Bool) → IsRef s (if a then record { 0 = 1 } else record { 0 = 0 })
+    held true = from_constant s.held 0 (record { 0 = 1 }) (omega arith)
+    held false = from_constant s.held 0 (record { 0 = 0 }) (omega arith)
+
+    bit : (bits : List Bool) (a : Bool) → function s (if a then record { 0 = 1 } else record { 0 = 0 }) bits ≡ a
+    bit bits true = one_bit s (record { 0 = 1 }) bits d refl
+    bit bits false = zero_bit s (record { 0 = 0 }) bits d refl
 
 module _ (s : Store) (sets : ℕ → SymbolicSet) (nets : List NetRails) (ds : IsGood s) (input : NodeId) (others : List NodeId) (rows : List (List Lit)) (have : HaveInputs s sets nets (input ∷ others)) where
   abbrev ws : List SymbolicSet

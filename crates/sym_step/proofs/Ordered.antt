@@ -1,6 +1,7 @@
 -- Inputs that are variables in order, or free: their sets, and sums over rows of them, which split at the first variable.
 use Rattle.std.proofs.Common.{◌≡◌, ℕ, ◌+◌, ◌-◌, ◌≤◌, ◌<◌, Bool, true, false, not, List, [], ◌∷◌, length, drop, get_or, map, filter, inl, inr, refl, sym, ◌∙◌, ap, subst, arith}
 use Rattle.std.specs.Prelude.{◌&&◌, ◌||◌, if◌then◌else◌}
+use Rattle.std.specs.List.{list_any}
 use Rattle.std.proofs.lemmas.List.{get_or-drop, drop-drop}
 use Rattle.std.proofs.lemmas.List.Elements.{All-head, All-tail}
 use Rattle.ste_base.specs.declared.id.NodeId.{NodeId}
@@ -113,6 +114,18 @@ total_free ((lit ∷ lits) ∷ rows) w ws bits z o =
 pub total_end : (row : List Lit) (rows : List (List Lit)) (bits : List Bool) → total (row ∷ rows) [] bits ≡ true
 total_end [] rows bits = sum_cons (product (factors [] [])) (row_products rows []) bits
 total_end (lit ∷ row) rows bits = sum_cons (product (factors (lit ∷ row) [])) (row_products rows []) bits
+
+-- of one input the rows that admit its bit decide
+pub total_last : (b : Bool) (rows : List (List Lit)) (bits : List Bool) → total (half_of_rows b rows) [] bits ≡ list_any (begins_with b) rows
+total_last b [] bits = refl
+total_last b (row ∷ rows) bits = by (total_last b rows bits) (begins_with b row)
+  where
+    others : List (List Lit)
+    others = filter (begins_with b) rows
+
+    by : total (half_of_rows b rows) [] bits ≡ list_any (begins_with b) rows → (a : Bool) → total (map without_first (if a then row ∷ others else others)) [] bits ≡ (a || list_any (begins_with b) rows)
+    by rest true = total_end (without_first row) (map without_first others) bits
+    by rest false = rest
 
 -- ---- what a sum reads
 

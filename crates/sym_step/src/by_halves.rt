@@ -2,11 +2,12 @@
 //! one node for each first part of the rows; begin with
 //! `sum_by_halves`.
 
-ghost use Rattle.std.specs.Prelude.{◌≡◌, ◌≢◌, ◌↔◌, ◌+◌, ◌<◌, ◌∷◌, [], ℕ, List, All, IfOk, IfSome, IsTrue, length, map};
+ghost use Rattle.std.specs.Prelude.{◌≡◌, ◌≢◌, ◌↔◌, ◌+◌, ◌<◌, ◌∷◌, [], ℕ, All, IfOk, IfSome, IsTrue, length, map, if◌then◌else◌};
 ghost use Rattle.dd_nodes.specs.Diagram.{Function, IsFrom};
 ghost use Rattle.dd_ops.specs.Answer.{Answer};
 ghost use Rattle.dd_ops.specs.private.Recursion.{Splits};
-ghost use Rattle.net_core.specs.Cases.{half_of_rows, without_first};
+ghost use Rattle.std.specs.List.{list_any};
+ghost use Rattle.net_core.specs.Cases.{begins_with, half_of_rows, without_first};
 ghost use Rattle.net_core.specs.Work.{SymbolicSet, row_products, sum};
 ghost use Rattle.dual_rail.specs.Rail.{Built, HasFunction};
 ghost use Rattle.sym_step.specs.private.NetSets.{AreNetRefs, HaveInputs, net_at, sets_at};
@@ -162,6 +163,29 @@ fn half<'a>(alloc: Global, rows: &[&'a [Lit]], bit: bool) -> Result<Vec<&'a [Lit
     Ok(half)
 }
 
+/// Whether a row begins with a literal that admits the bit, or has none.
+fn begins_with(row: &[Lit], bit: bool) -> bool
+    ensures { result ≡ begins_with bit row.now }
+{
+    match row.first() {
+        Some(lit) => lit.admits(bit),
+        None => true,
+    }
+}
+
+/// The constant 1 where some row begins with a literal that admits the bit, and else the constant 0.
+fn some_admits(rows: &[&[Lit]], bit: bool) -> Ref
+    ensures { result ≡ (if list_any (begins_with bit) (map (λ row. row.now) rows.now)
+        then Ref.TRUE else Ref.FALSE) }
+{
+    for row in rows {
+        if begins_with(*row, bit) {
+            return Ref::TRUE;
+        }
+    }
+    Ref::FALSE
+}
+
 /// The rows, each without its first literal.
 fn behind<'a>(alloc: Global, rows: &[&'a [Lit]]) -> Result<Vec<&'a [Lit]>, AllocError>
     ensures { IfOk result (λ rest. map (λ row. row.now) rest.items
@@ -216,6 +240,12 @@ fn sum_of<N: Nodes>(
     if is_free(r) {
         let rest = behind(alloc, rows)?;
         return sum_of(alloc, nodes, rest.as_slice(), nets, others);
+    }
+    if others.is_empty() {
+        let lo = some_admits(rows, false);
+        let hi = some_admits(rows, true);
+        let var = nodes.node(r.can1).var;
+        return split_at(nodes, var, lo, hi);
     }
     let lo = {
         let zeros = half(alloc, rows, false)?;

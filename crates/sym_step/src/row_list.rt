@@ -1,6 +1,6 @@
 //! Lists of rows, each by what it shares with the row before; begin with `RowList`.
 
-ghost use Rattle.std.specs.Prelude.{◌≡◌, ◌↔◌, ◌≤◌, ◌<◌, ◌++◌, ◌∷◌, [], ℕ, Bool, true, false, List, length, take, drop, All, IfOk, OnOk, IsTrue, slice_index_or};
+ghost use Rattle.std.specs.Prelude.{◌≡◌, ◌↔◌, ◌≤◌, ◌<◌, ◌++◌, ◌∷◌, [], ℕ, true, false, List, length, take, IfOk, OnOk, IsTrue, slice_index_or};
 ghost use Rattle.net_core.specs.declared.cover.Lit.{Lit};
 ghost use Rattle.net_core.specs.declared.cover.Lit.TheVariants.{Any};
 ghost use Rattle.net_core.specs.Work.{AreWide};

@@ -703,6 +703,52 @@ fn steps_with_a_frame_agree_with_steps_without(rt: HostRuntime) -> Result<(), Fa
     Ok(())
 }
 
+/// A model of one gate of eight inputs with more than a hundred rows, none with a `-`: the output is 1 where one of `c` and
+/// `f` is 1, and where both are and `h` is.
+fn long_text(alloc: Global) -> Result<Vec<u8>, AllocError> {
+    let head = ".model m\n.inputs a b c d e f g h\n.outputs y\n.names a b c d e f g h y\n";
+    let mut text = head.as_bytes().to_vec(alloc)?;
+    for number in 0..256u32 {
+        let ones = (number >> 5 & 1) + (number >> 2 & 1);
+        if ones == 1 || ones == 2 && number & 1 == 1 {
+            for place in [7u32, 6, 5, 4, 3, 2, 1, 0] {
+                text.push(if number >> place & 1 == 1 { b'1' } else { b'0' })?;
+            }
+            text.extend_from_slice(" 1\n".as_bytes())?;
+        }
+    }
+    text.extend_from_slice(".end\n".as_bytes())?;
+    Ok(text)
+}
+
+/// What is asked of its inputs: variables in the order of the inputs, in the other order, one under a guard, one of both
+/// inputs, and constants beside one.
+const ASKED_OF_MANY: &[&[(&str, Bit, Bit)]] = &[
+    &[("c", Bit::One, Bit::P), ("f", Bit::One, Bit::Q)],
+    &[("c", Bit::One, Bit::Q), ("f", Bit::One, Bit::P)],
+    &[("c", Bit::P, Bit::Q), ("f", Bit::One, Bit::Q)],
+    &[("c", Bit::One, Bit::P), ("f", Bit::One, Bit::P)],
+    &[
+        ("a", Bit::One, Bit::One),
+        ("f", Bit::One, Bit::Q),
+        ("h", Bit::One, Bit::Zero),
+    ],
+    &[("h", Bit::One, Bit::P)],
+    &[],
+];
+
+#[test]
+fn long_lists_of_rows_agree_with_the_plain_checker(rt: HostRuntime) -> Result<(), Fail> {
+    let alloc = rt.alloc();
+    let text = long_text(alloc)?;
+    assert!(rt; text.len() <= 10000);
+    for (case, asked) in ASKED_OF_MANY.iter().enumerate() {
+        assert!(rt; case_agrees(alloc, &text, *asked)?, "{case}");
+        assert!(rt; case_frames_agree(alloc, &text, *asked)?, "{case}");
+    }
+    Ok(())
+}
+
 /// A net of one gate, the AND of so many free nets.
 fn and_of(alloc: Global, inputs: u32) -> Result<Net, Fail>
     requires { inputs ≤ 1000 }

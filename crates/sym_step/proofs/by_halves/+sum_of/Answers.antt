@@ -7,7 +7,7 @@ use Rattle.dd_nodes.specs.declared.node.Ref.{Ref}
 use Rattle.dd_nodes.specs.Diagram.{Function}
 use Rattle.dd_nodes.specs.Stores.{Store, Keeps, Means}
 use Rattle.dd_nodes.specs.declared.node.Node.{Node}
-use Rattle.dd_nodes.proofs.Stores.{IsGood, Means-keeps}
+use Rattle.dd_nodes.proofs.Stores.{IsGood, Keeps-refl, Means-keeps}
 use Rattle.dd_ops.specs.declared.fault.OpFault.{OpFault}
 use Rattle.dd_ops.specs.private.Recursion.{Splits}
 use Rattle.net_core.specs.declared.cover.Lit.{Lit}
@@ -20,7 +20,7 @@ use Rattle.sym_step.specs.private.NetSets.{AreNetRails, AreNetRefs, HaveInputs, 
 use Rattle.sym_step.specs.private.Ordered.{AreOrdered, IsFree}
 use Rattle.sym_step.proofs.NetRefs.{All-net-refs-keep, Inputs-keep, own_inputs}
 use Rattle.sym_step.proofs.Ordered.{total, ordered-keeps}
-use Rattle.sym_step.proofs.Halving.{none_of, all_of, free_turn, half_turn, split_turn, others_ordered, AtVariable, at_variable, node_is, node_held, some_row}
+use Rattle.sym_step.proofs.Halving.{none_of, all_of, last_of, free_turn, half_turn, split_turn, others_ordered, AtVariable, at_variable, node_is, node_held, some_row}
 use Rattle.sym_step.proofs.by_halves.+sum_of.Goals as goal
 
 -- the rows behind their borrows
@@ -165,6 +165,28 @@ module _ (s : Store) (ds : IsGood s) (rows : List (Bor (List Lit))) (nets : List
   pub own_split : (u w : Store) (lo hi : Ref) (n : Node) → IsGood u → w ≡ u → u.held r.can1 ≡ Some n → AreDone own u lo hi → Splits w n.var lo hi (whole own rows inputs)
   own_split u w lo hi n du e held p = parts_split own u w lo hi n du have_own p.so.keeps e held p.low p.high
 
+pub returns-then-is_empty-2 : goal.returns-then-is_empty-2
+returns-then-is_empty-2 g t0 c = λ sets have.
+    let s : Store = g.N.Nodes.store c.args.nodes.now in
+    let x : Store = g.N.Nodes.store c.node-var.new.self in
+    let w : Store = g.N.Nodes.store c.split_at.new.nodes in
+    let ds = g.met.N.Nodes.diagram c.args.nodes.now in
+    let rows : List (Bor (List Lit)) = c.args.rows.now in
+    let nets : List NetRails = c.args.nets.now in
+    let inputs : List NodeId = c.args.inputs.now in
+    let input : NodeId = c.in-Some.input.now in
+    let others : List NodeId = c.in-Some.others.now in
+    let eq : inputs ≡ input ∷ others = c.in-Some.ensures.cases.0 in
+    let other : IsFree c.set_of-r.result → ⊥ = λ free. false≢true (sym c.if-is_free.false ∙ c.is_free.ensures.1 free) in
+    let f : Function = whole sets rows inputs in
+    let none = ap (sets_at sets) (nil_from_length others (eqb-true (length others) 0 (sym c.if-is_empty-2.ensures))) in
+    let split = parts_split s ds rows nets inputs others input c.set_of-r.result eq c.set_of-r.ensures c.requires.inside c.requires.refs c.requires.ordered other sets s x c.some_admits-lo.result c.some_admits-hi.result c.node-var.result ds have (Keeps-refl s) c.node-var.ensures.store c.node-var.ensures.node
+    (last_of s false (rows_of rows) (sets_at sets others) c.some_admits-lo.result ds none c.some_admits-lo.ensures)
+    (last_of s true (rows_of rows) (sets_at sets others) c.some_admits-hi.result ds none c.some_admits-hi.ensures) in
+    last (f ∷ []) (HasFunction f) s x w c.split_at.result (g.met.N.Nodes.diagram c.node-var.new.self) (g.met.N.Nodes.diagram c.split_at.new.nodes)
+    (subst (λ (y : Store). SoFar (f ∷ []) s y) (sym c.node-var.ensures.store) (So-start (f ∷ []) s))
+    (Built-answer (f ∷ []) f f x w c.split_at.result (here f []) (λ bits l. refl) (c.split_at.ensures f split))
+
 pub sum_of-requires-2 : goal.sum_of-requires-2
 sum_of-requires-2 g t0 c κs within =
     let s : Store = g.N.Nodes.store c.args.nodes.now in
@@ -256,8 +278,8 @@ returns-in_err-hi g t0 c = λ sets have.
     (ap rows_of c.as_slice-3.ensures.value ∙ c.in_ok-ones.ensures) have so c.in_err-hi.ensures)
     c.from_residual-in_err-hi.ensures.1
 
-pub node-var-requires : goal.node-var-requires
-node-var-requires g t0 c =
+pub node-var-requires-2 : goal.node-var-requires-2
+node-var-requires-2 g t0 c =
     let s : Store = g.N.Nodes.store c.args.nodes.now in
     let t : Store = g.N.Nodes.store c.sum_of-2.new.nodes in
     let u : Store = g.N.Nodes.store c.sum_of-3.new.nodes in
@@ -276,8 +298,8 @@ node-var-requires g t0 c =
     let at = at_variable s nets inputs others input c.set_of-r.result eq c.set_of-r.ensures other c.requires.ordered in
     node_held s u at.v c.set_of-r.result (net_at nets input.0) c.set_of-r.ensures done.so.keeps at.is
 
-pub split_at-requires-clause-lo : goal.split_at-requires-clause-lo
-split_at-requires-clause-lo g t0 c =
+pub split_at-requires-2-clause-lo : goal.split_at-requires-2-clause-lo
+split_at-requires-2-clause-lo g t0 c =
     let s : Store = g.N.Nodes.store c.args.nodes.now in
     let t : Store = g.N.Nodes.store c.sum_of-2.new.nodes in
     let u : Store = g.N.Nodes.store c.sum_of-3.new.nodes in
@@ -293,11 +315,11 @@ split_at-requires-clause-lo g t0 c =
     let other : IsFree c.set_of-r.result → ⊥ = λ free. false≢true (sym c.if-is_free.false ∙ c.is_free.ensures.1 free) in
     let done = own_done s ds rows nets inputs others input c.set_of-r.result eq c.set_of-r.ensures c.requires.inside c.requires.refs c.requires.ordered other t u c.as_slice-2.result.now c.as_slice-3.result.now c.in_ok-lo.lo c.in_ok-hi.hi dt du
     (ap rows_of c.as_slice-2.ensures.value ∙ c.in_ok-zeros.ensures) (ap rows_of c.as_slice-3.ensures.value ∙ c.in_ok-ones.ensures) c.in_ok-lo.ensures c.in_ok-hi.ensures in
-    let split = own_split s ds rows nets inputs others input c.set_of-r.result eq c.set_of-r.ensures c.requires.inside c.requires.refs c.requires.ordered other u (g.N.Nodes.store c.node-var.new.self) c.in_ok-lo.lo c.in_ok-hi.hi c.node-var.result du c.node-var.ensures.store c.node-var.ensures.node done in
+    let split = own_split s ds rows nets inputs others input c.set_of-r.result eq c.set_of-r.ensures c.requires.inside c.requires.refs c.requires.ordered other u (g.N.Nodes.store c.node-var-2.new.self) c.in_ok-lo.lo c.in_ok-hi.hi c.node-var-2.result du c.node-var-2.ensures.store c.node-var-2.ensures.node done in
     split.low
 
-pub split_at-requires-clause-hi : goal.split_at-requires-clause-hi
-split_at-requires-clause-hi g t0 c =
+pub split_at-requires-2-clause-hi : goal.split_at-requires-2-clause-hi
+split_at-requires-2-clause-hi g t0 c =
     let s : Store = g.N.Nodes.store c.args.nodes.now in
     let t : Store = g.N.Nodes.store c.sum_of-2.new.nodes in
     let u : Store = g.N.Nodes.store c.sum_of-3.new.nodes in
@@ -313,7 +335,7 @@ split_at-requires-clause-hi g t0 c =
     let other : IsFree c.set_of-r.result → ⊥ = λ free. false≢true (sym c.if-is_free.false ∙ c.is_free.ensures.1 free) in
     let done = own_done s ds rows nets inputs others input c.set_of-r.result eq c.set_of-r.ensures c.requires.inside c.requires.refs c.requires.ordered other t u c.as_slice-2.result.now c.as_slice-3.result.now c.in_ok-lo.lo c.in_ok-hi.hi dt du
     (ap rows_of c.as_slice-2.ensures.value ∙ c.in_ok-zeros.ensures) (ap rows_of c.as_slice-3.ensures.value ∙ c.in_ok-ones.ensures) c.in_ok-lo.ensures c.in_ok-hi.ensures in
-    let split = own_split s ds rows nets inputs others input c.set_of-r.result eq c.set_of-r.ensures c.requires.inside c.requires.refs c.requires.ordered other u (g.N.Nodes.store c.node-var.new.self) c.in_ok-lo.lo c.in_ok-hi.hi c.node-var.result du c.node-var.ensures.store c.node-var.ensures.node done in
+    let split = own_split s ds rows nets inputs others input c.set_of-r.result eq c.set_of-r.ensures c.requires.inside c.requires.refs c.requires.ordered other u (g.N.Nodes.store c.node-var-2.new.self) c.in_ok-lo.lo c.in_ok-hi.hi c.node-var-2.result du c.node-var-2.ensures.store c.node-var-2.ensures.node done in
     split.high
 
 pub returns : goal.returns
@@ -331,12 +353,12 @@ returns g t0 c = λ sets have.
     let others : List NodeId = c.in-Some.others.now in
     let eq : inputs ≡ input ∷ others = c.in-Some.ensures.cases.0 in
     let other : IsFree c.set_of-r.result → ⊥ = λ free. false≢true (sym c.if-is_free.false ∙ c.is_free.ensures.1 free) in
-    let x : Store = g.N.Nodes.store c.node-var.new.self in
-    let w : Store = g.N.Nodes.store c.split_at.new.nodes in
+    let x : Store = g.N.Nodes.store c.node-var-2.new.self in
+    let w : Store = g.N.Nodes.store c.split_at-2.new.nodes in
     let f : Function = whole sets rows inputs in
     let done = both_done s ds rows nets inputs others input c.set_of-r.result eq c.set_of-r.ensures c.requires.inside c.requires.refs c.requires.ordered other sets t u c.as_slice-2.result.now c.as_slice-3.result.now c.in_ok-lo.lo c.in_ok-hi.hi dt du
     (ap rows_of c.as_slice-2.ensures.value ∙ c.in_ok-zeros.ensures) (ap rows_of c.as_slice-3.ensures.value ∙ c.in_ok-ones.ensures) have c.in_ok-lo.ensures c.in_ok-hi.ensures in
-    let split = parts_split s ds rows nets inputs others input c.set_of-r.result eq c.set_of-r.ensures c.requires.inside c.requires.refs c.requires.ordered other sets u x c.in_ok-lo.lo c.in_ok-hi.hi c.node-var.result du have done.so.keeps c.node-var.ensures.store c.node-var.ensures.node done.low done.high in
-    last (f ∷ []) (HasFunction f) s x w c.split_at.result (g.met.N.Nodes.diagram c.node-var.new.self) (g.met.N.Nodes.diagram c.split_at.new.nodes)
-    (subst (λ (y : Store). SoFar (f ∷ []) s y) (sym c.node-var.ensures.store) done.so)
-    (Built-answer (f ∷ []) f f x w c.split_at.result (here f []) (λ bits l. refl) (c.split_at.ensures f split))
+    let split = parts_split s ds rows nets inputs others input c.set_of-r.result eq c.set_of-r.ensures c.requires.inside c.requires.refs c.requires.ordered other sets u x c.in_ok-lo.lo c.in_ok-hi.hi c.node-var-2.result du have done.so.keeps c.node-var-2.ensures.store c.node-var-2.ensures.node done.low done.high in
+    last (f ∷ []) (HasFunction f) s x w c.split_at-2.result (g.met.N.Nodes.diagram c.node-var-2.new.self) (g.met.N.Nodes.diagram c.split_at-2.new.nodes)
+    (subst (λ (y : Store). SoFar (f ∷ []) s y) (sym c.node-var-2.ensures.store) done.so)
+    (Built-answer (f ∷ []) f f x w c.split_at-2.result (here f []) (λ bits l. refl) (c.split_at-2.ensures f split))
