@@ -1,6 +1,5 @@
-//! Sums over long lists of rows, where the inputs are variables in order, or free: from the last variable up to the first,
-//! one node for each first part of the rows; begin with
-//! `sum_by_halves`.
+//! Sums over long lists of rows whose inputs are variables in order, or free: from the last variable up to the first, one
+//! node for each first part of the rows; begin with `sum_by_halves`.
 
 ghost use Rattle.std.specs.Prelude.{◌≡◌, ◌≢◌, ◌↔◌, ◌+◌, ◌<◌, ◌∷◌, [], ℕ, All, IfOk, IfSome, IsTrue, length, map, if◌then◌else◌};
 ghost use Rattle.dd_nodes.specs.Diagram.{Function, IsFrom};
@@ -213,7 +212,7 @@ fn split_at<N: Nodes>(nodes: &mut N, var: u32, lo: Ref, hi: Ref) -> Result<Ref, 
 }
 
 /// The sum of the products of rows over inputs that are variables in order, or free. Each node that is made is one of the
-/// sum's own.
+/// sum's own, and calls are as deep as there are inputs.
 fn sum_of<N: Nodes>(
     alloc: Global,
     nodes: &mut N,
@@ -260,7 +259,7 @@ fn sum_of<N: Nodes>(
 }
 
 /// The sum of the products of rows over inputs that are variables in order, or free. Each node that is made is one of the
-/// sum's own.
+/// sum's own. Each row is looked at once for each input, and calls are as deep as there are inputs.
 pub fn sum_by_halves<N: Nodes>(
     alloc: Global,
     nodes: &mut N,
