@@ -14,6 +14,7 @@ pub mod Summing
 pub mod RowSums
 pub mod Ordered
 pub mod Halving
+pub mod Numbered
 pub mod Whole
 pub mod Asleep
 pub mod Chains

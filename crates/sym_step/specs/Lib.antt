@@ -1,4 +1,5 @@
 pub mod Rows
+pub mod Lists
 pub mod Samples
 pub mod Step
 pub mod private

@@ -143,7 +143,7 @@ fn place<N: Nodes>(
         (HasNetSet (after_cuts ds before g.now.output.0))
         (N.store nodes.old) (N.store nodes.new) result }
 {
-    let lists = &rows.covers.as_slice()[g.cover as usize];
+    let lists = rows.lists(g.cover as usize);
     let inputs = g.inputs.as_slice();
     let Filling { full, known } = filling_of(nets, inputs);
     let cover = &net.covers()[g.cover as usize];

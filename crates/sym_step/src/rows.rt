@@ -1,13 +1,15 @@
 //! The rows of all covers; begin with `GateRows`.
 
-ghost use Rattle.std.specs.Prelude.{◌≡◌, ◌≤◌, List, map, All, IfOk};
+ghost use Rattle.std.specs.Prelude.{◌≡◌, ◌≤◌, ◌<◌, map, All, IfOk, IsTrue, length};
 ghost use Rattle.net_core.specs.Cases.{cases_of, others_in};
 ghost use Rattle.net_core.specs.Cover.{IsCover};
 ghost use Rattle.sym_step.specs.Step.{rows_of};
+ghost use Rattle.sym_step.specs.private.Numbers.{kind_at};
 
 use crate::row_list::RowList;
-use net_core::{Cover, Net, other_rows};
+use net_core::{Cover, Lit, Net, Row, other_rows};
 use std::alloc::{AllocError, Global};
+use std::marker::Model;
 use ste_base::Items;
 
 /// Both lists of rows of a cover: the rows that match where its bit is 1, and those that match where it is 0.
@@ -18,11 +20,30 @@ pub struct CoverRows {
 }
 
 /// Both lists of rows of every cover of a net, by the cover's number. The rows that a cover leaves out are found once,
-/// and all gates of the cover share them.
+/// and all gates of the cover share them, as do covers that are the same, mostly: a netlist from a tool has a cover for
+/// each of its gates. Contracts see both lists of each cover.
 #[derive(Debug, Drop)]
 pub struct GateRows {
-    pub covers: Items<CoverRows>,
+    kinds: Items<CoverRows>,
+    numbers: Items<usize>,
+    ghost inside: { All (λ k. k < length kinds) numbers },
 }
+
+impl Model for GateRows {
+    ghost use Rattle.std.specs.Prelude.{map};
+    ghost use Rattle.sym_step.specs.Lists.{CoverLists};
+    ghost use Rattle.sym_step.specs.private.Numbers.{kind_at};
+
+    ghost Value = { CoverLists };
+
+    ghost view = { λ r. record { covers = map (kind_at r.kinds) r.numbers } };
+}
+
+/// So many places for covers that were met.
+const PLACES: usize = 251;
+
+/// How many rows of a cover, and literals of a row, its place is told by.
+const TOLD_BY: usize = 8;
 
 /// The rows that a cover leaves out.
 fn others(alloc: Global, cover: &Cover) -> Result<RowList, AllocError>
@@ -57,7 +78,82 @@ fn cover_rows(alloc: Global, cover: &Cover) -> Result<CoverRows, AllocError>
     }
 }
 
+/// The number of a literal.
+fn number_of(lit: Lit) -> u32 {
+    match lit {
+        Lit::Zero => 1,
+        Lit::One => 2,
+        Lit::Any => 3,
+    }
+}
+
+/// A sum that goes on with the first literals of a row.
+fn row_sum(sum: u32, row: &[Lit]) -> u32 {
+    let mut sum = sum.wrapping_mul(31);
+    for k in 0..row.len().min(TOLD_BY) {
+        sum = sum.wrapping_mul(5).wrapping_add(number_of(row[k]));
+    }
+    sum
+}
+
+/// The place of a cover among those that were met: one place for covers that are the same.
+fn place_of(cover: &Cover) -> usize
+    ensures { result < 251 }
+{
+    let rows = cover.rows.as_slice();
+    let mut sum = cover.inputs.wrapping_mul(2).wrapping_add(cover.on as u32);
+    for k in 0..rows.len().min(TOLD_BY) {
+        sum = row_sum(sum, rows[k].as_slice());
+    }
+    (sum % 251) as usize
+}
+
+/// Whether both rows have the same literals.
+fn same_row(a: &[Lit], b: &[Lit]) -> bool
+    ensures { IsTrue result → a.now ≡ b.now }
+{
+    if a.len() != b.len() {
+        return false;
+    }
+    for k in 0..a.len() {
+        if a[k] != b[k] {
+            return false;
+        }
+    }
+    true
+}
+
+/// Whether both lists have the same rows.
+fn same_rows(a: &[Row], b: &[Row]) -> bool
+    ensures { IsTrue result → a.now ≡ b.now }
+{
+    if a.len() != b.len() {
+        return false;
+    }
+    for k in 0..a.len() {
+        if !same_row(a[k].as_slice(), b[k].as_slice()) {
+            return false;
+        }
+    }
+    true
+}
+
+/// Whether both covers are the same.
+fn same_cover(a: &Cover, b: &Cover) -> bool
+    ensures { IsTrue result → a.now ≡ b.now }
+{
+    a.inputs == b.inputs && a.on == b.on && same_rows(a.rows.as_slice(), b.rows.as_slice())
+}
+
 impl GateRows {
+    /// Both lists of rows of a cover, by its number. It takes no memory.
+    pub fn lists(&self, cover: usize) -> &CoverRows
+        requires { cover < length self.now.covers }
+        ensures { result.now ≡ kind_at self.now.covers cover }
+    {
+        &self.kinds.as_slice()[self.numbers.as_slice()[cover]]
+    }
+
     /// Both lists of rows of every cover of the net.
     pub fn of(alloc: Global, net: &Net) -> Result<GateRows, AllocError>
         requires inputs { All (λ cover. cover.inputs ≤ 1000) net.now.raw.covers }
@@ -65,12 +161,26 @@ impl GateRows {
             net.now.raw.covers }
         ensures { IfOk result (λ rows. rows.covers ≡ map rows_of net.now.raw.covers) }
     {
-        let mut covers = Vec::new(alloc);
-        for cover in net.covers() {
-            covers.push(cover_rows(alloc, cover)?)?;
+        let covers = net.covers();
+        let mut kinds = Items::new(alloc);
+        let mut numbers = Vec::with_capacity(alloc, covers.len())?;
+        let mut met = vec![in alloc; 0usize; PLACES]?;
+        for k in 0..covers.len() {
+            let cover = &covers[k];
+            let place = place_of(cover);
+            let before = met[place];
+            met[place] = k;
+            if before < k && same_cover(&covers[before], cover) {
+                let number = numbers[before];
+                numbers.push(number)?;
+            } else {
+                numbers.push(kinds.len())?;
+                kinds.push(cover_rows(alloc, cover)?)?;
+            }
         }
         Ok(GateRows {
-            covers: Items::from(covers),
+            kinds,
+            numbers: Items::from(numbers),
         })
     }
 }

@@ -1,4 +1,6 @@
-use Rattle.std.proofs.Common.{◌≡◌, Some, true, not, ℕ, List, ◌∷◌, ◌++◌, length, get_or, sym, ◌∙◌, ap, subst, Ok, Err}
+use Rattle.std.proofs.lemmas.List.{get_or_default, length-map}
+use Rattle.sym_step.specs.private.Numbers.{kind_at}
+use Rattle.std.proofs.Common.{◌<◌, arith, map, ◌≡◌, Some, true, not, ℕ, List, ◌∷◌, ◌++◌, length, get_or, sym, ◌∙◌, ap, subst, Ok, Err}
 use Rattle.std.specs.Prelude.{All, slice_get}
 use Rattle.std.proofs.lemmas.List.Elements.{Contains-append_left, Contains-append_right}
 use Rattle.dd_nodes.specs.Diagram.{Function}
@@ -23,13 +25,19 @@ use Rattle.sym_step.specs.Step.{rows_of}
 use Rattle.sym_step.specs.private.NetSets.{HaveInputs, net_at, sets_at}
 use Rattle.sym_step.proofs.place.place.Goals as goal
 
+-- the lists that were read stand at the cover's number
+lists_read : (all : List CoverRows) (covers : List Cover) (k : ℕ) (lists : CoverRows) → all ≡ map rows_of covers → k < length covers → lists ≡ kind_at all k → lists ≡ get_or all k lists
+lists_read all covers k lists is lt read =
+    let long : length all ≡ length covers = ap length is ∙ length-map covers rows_of in
+    read ∙ get_or_default all k _ lists (omega (arith, long, lt))
+
 pub cover_gate-requires-clause-sound : goal.cover_gate-requires-clause-sound
 cover_gate-requires-clause-sound g c =
     let covers : List Cover = c.args.net.now.raw.covers in
     let gate : Gate = c.args.g.now in
     let k = gate.cover in
-    let lists : CoverRows = c.index-as_slice-g.result in
-    let lists_is : lists ≡ get_or c.args.rows.now.covers k lists = c.index-as_slice-g.is ∙ ap (λ (xs : List CoverRows). get_or xs k lists) c.as_slice.ensures in
+    let lists : CoverRows = c.lists-lists.result.now in
+    let lists_is : lists ≡ get_or c.args.rows.now.covers k lists = lists_read c.args.rows.now.covers covers k lists c.requires.rows c.requires.cover c.lists-lists.ensures in
     let at : RowsAt covers k lists = subst (RowsAt covers k) (sym lists_is) (rows_at covers c.args.rows.now.covers k lists c.requires.rows c.requires.cover) in
     let cover : Cover = c.index-covers-g.result in
     let read : cover ≡ get_or covers k cover = c.index-covers-g.is ∙ ap (λ (xs : List Cover). get_or xs k cover) c.covers.ensures in
@@ -41,8 +49,8 @@ cover_gate-requires-clause-width g c =
     let covers : List Cover = c.args.net.now.raw.covers in
     let gate : Gate = c.args.g.now in
     let k = gate.cover in
-    let lists : CoverRows = c.index-as_slice-g.result in
-    let lists_is : lists ≡ get_or c.args.rows.now.covers k lists = c.index-as_slice-g.is ∙ ap (λ (xs : List CoverRows). get_or xs k lists) c.as_slice.ensures in
+    let lists : CoverRows = c.lists-lists.result.now in
+    let lists_is : lists ≡ get_or c.args.rows.now.covers k lists = lists_read c.args.rows.now.covers covers k lists c.requires.rows c.requires.cover c.lists-lists.ensures in
     let at : RowsAt covers k lists = subst (RowsAt covers k) (sym lists_is) (rows_at covers c.args.rows.now.covers k lists c.requires.rows c.requires.cover) in
     let cover : Cover = c.index-covers-g.result in
     let read : cover ≡ get_or covers k cover = c.index-covers-g.is ∙ ap (λ (xs : List Cover). get_or xs k cover) c.covers.ensures in
@@ -54,8 +62,8 @@ cover_gate-requires-clause-rows g c =
     let covers : List Cover = c.args.net.now.raw.covers in
     let gate : Gate = c.args.g.now in
     let k = gate.cover in
-    let lists : CoverRows = c.index-as_slice-g.result in
-    let lists_is : lists ≡ get_or c.args.rows.now.covers k lists = c.index-as_slice-g.is ∙ ap (λ (xs : List CoverRows). get_or xs k lists) c.as_slice.ensures in
+    let lists : CoverRows = c.lists-lists.result.now in
+    let lists_is : lists ≡ get_or c.args.rows.now.covers k lists = lists_read c.args.rows.now.covers covers k lists c.requires.rows c.requires.cover c.lists-lists.ensures in
     let at : RowsAt covers k lists = subst (RowsAt covers k) (sym lists_is) (rows_at covers c.args.rows.now.covers k lists c.requires.rows c.requires.cover) in
     let cover : Cover = c.index-covers-g.result in
     let read : cover ≡ get_or covers k cover = c.index-covers-g.is ∙ ap (λ (xs : List Cover). get_or xs k cover) c.covers.ensures in
@@ -71,8 +79,8 @@ cut_full-requires-clause-rails g c =
     let covers : List Cover = c.args.net.now.raw.covers in
     let gate : Gate = c.args.g.now in
     let k = gate.cover in
-    let lists : CoverRows = c.index-as_slice-g.result in
-    let lists_is : lists ≡ get_or c.args.rows.now.covers k lists = c.index-as_slice-g.is ∙ ap (λ (xs : List CoverRows). get_or xs k lists) c.as_slice.ensures in
+    let lists : CoverRows = c.lists-lists.result.now in
+    let lists_is : lists ≡ get_or c.args.rows.now.covers k lists = lists_read c.args.rows.now.covers covers k lists c.requires.rows c.requires.cover c.lists-lists.ensures in
     let at : RowsAt covers k lists = subst (RowsAt covers k) (sym lists_is) (rows_at covers c.args.rows.now.covers k lists c.requires.rows c.requires.cover) in
     let cover : Cover = c.index-covers-g.result in
     let read : cover ≡ get_or covers k cover = c.index-covers-g.is ∙ ap (λ (xs : List Cover). get_or xs k cover) c.covers.ensures in
@@ -95,8 +103,8 @@ cut_full-requires-clause-guards g c =
     let covers : List Cover = c.args.net.now.raw.covers in
     let gate : Gate = c.args.g.now in
     let k = gate.cover in
-    let lists : CoverRows = c.index-as_slice-g.result in
-    let lists_is : lists ≡ get_or c.args.rows.now.covers k lists = c.index-as_slice-g.is ∙ ap (λ (xs : List CoverRows). get_or xs k lists) c.as_slice.ensures in
+    let lists : CoverRows = c.lists-lists.result.now in
+    let lists_is : lists ≡ get_or c.args.rows.now.covers k lists = lists_read c.args.rows.now.covers covers k lists c.requires.rows c.requires.cover c.lists-lists.ensures in
     let at : RowsAt covers k lists = subst (RowsAt covers k) (sym lists_is) (rows_at covers c.args.rows.now.covers k lists c.requires.rows c.requires.cover) in
     let cover : Cover = c.index-covers-g.result in
     let read : cover ≡ get_or covers k cover = c.index-covers-g.is ∙ ap (λ (xs : List Cover). get_or xs k cover) c.covers.ensures in
@@ -119,8 +127,8 @@ cut_full-requires-clause-values g c =
     let covers : List Cover = c.args.net.now.raw.covers in
     let gate : Gate = c.args.g.now in
     let k = gate.cover in
-    let lists : CoverRows = c.index-as_slice-g.result in
-    let lists_is : lists ≡ get_or c.args.rows.now.covers k lists = c.index-as_slice-g.is ∙ ap (λ (xs : List CoverRows). get_or xs k lists) c.as_slice.ensures in
+    let lists : CoverRows = c.lists-lists.result.now in
+    let lists_is : lists ≡ get_or c.args.rows.now.covers k lists = lists_read c.args.rows.now.covers covers k lists c.requires.rows c.requires.cover c.lists-lists.ensures in
     let at : RowsAt covers k lists = subst (RowsAt covers k) (sym lists_is) (rows_at covers c.args.rows.now.covers k lists c.requires.rows c.requires.cover) in
     let cover : Cover = c.index-covers-g.result in
     let read : cover ≡ get_or covers k cover = c.index-covers-g.is ∙ ap (λ (xs : List Cover). get_or xs k cover) c.covers.ensures in
@@ -143,8 +151,8 @@ returns-in_err-given-clause-built g c = λ ds before sets zip have is.
     let covers : List Cover = c.args.net.now.raw.covers in
     let gate : Gate = c.args.g.now in
     let k = gate.cover in
-    let lists : CoverRows = c.index-as_slice-g.result in
-    let lists_is : lists ≡ get_or c.args.rows.now.covers k lists = c.index-as_slice-g.is ∙ ap (λ (xs : List CoverRows). get_or xs k lists) c.as_slice.ensures in
+    let lists : CoverRows = c.lists-lists.result.now in
+    let lists_is : lists ≡ get_or c.args.rows.now.covers k lists = lists_read c.args.rows.now.covers covers k lists c.requires.rows c.requires.cover c.lists-lists.ensures in
     let at : RowsAt covers k lists = subst (RowsAt covers k) (sym lists_is) (rows_at covers c.args.rows.now.covers k lists c.requires.rows c.requires.cover) in
     let cover : Cover = c.index-covers-g.result in
     let read : cover ≡ get_or covers k cover = c.index-covers-g.is ∙ ap (λ (xs : List Cover). get_or xs k cover) c.covers.ensures in
@@ -173,8 +181,8 @@ returns-clause-built g c = λ ds before sets zip have is.
     let covers : List Cover = c.args.net.now.raw.covers in
     let gate : Gate = c.args.g.now in
     let k = gate.cover in
-    let lists : CoverRows = c.index-as_slice-g.result in
-    let lists_is : lists ≡ get_or c.args.rows.now.covers k lists = c.index-as_slice-g.is ∙ ap (λ (xs : List CoverRows). get_or xs k lists) c.as_slice.ensures in
+    let lists : CoverRows = c.lists-lists.result.now in
+    let lists_is : lists ≡ get_or c.args.rows.now.covers k lists = lists_read c.args.rows.now.covers covers k lists c.requires.rows c.requires.cover c.lists-lists.ensures in
     let at : RowsAt covers k lists = subst (RowsAt covers k) (sym lists_is) (rows_at covers c.args.rows.now.covers k lists c.requires.rows c.requires.cover) in
     let cover : Cover = c.index-covers-g.result in
     let read : cover ≡ get_or covers k cover = c.index-covers-g.is ∙ ap (λ (xs : List Cover). get_or xs k cover) c.covers.ensures in

@@ -1,7 +1,11 @@
-use Rattle.std.proofs.Common.{◌≡◌, take, map}
-use Rattle.sym_step.specs.Step.{rows_of}
+use Rattle.std.proofs.Common.{◌≡◌, ◌≤◌, length}
+use Rattle.sym_step.proofs.Numbered.{AreNumbered}
 use Rattle.sym_step.proofs.rows.GateRows.of.Given as goal
 
 -- both lists of the first covers
-abbrev pub invariant-loop-cover : goal.invariant-loop-cover
-invariant-loop-cover l = l.covers.items ≡ map rows_of (take l.cover-index l.net.raw.covers)
+abbrev pub invariant-loop-k : goal.invariant-loop-k
+invariant-loop-k l = record {
+  within : l.k ≤ length l.net.raw.covers;
+  places : length l.met.items ≡ 251;
+  led : AreNumbered l.kinds l.numbers.items l.net.raw.covers l.k;
+}
