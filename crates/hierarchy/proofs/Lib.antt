@@ -12,3 +12,4 @@ pub mod Weighed
 pub mod Bindings
 pub mod Measured
 pub mod Ranked
+pub mod Cases
