@@ -45,7 +45,7 @@ clause_counts (Ste head name reset ant con) line clause value guard = refl
 clause_counts (Gste head name reset edges edge) line clause value guard = refl
 
 -- an edge more
-pub edge_step : (parse : Parse) (c new : Context) (draft : Draft) (line : ℕ) (from to : List ℕ) (a b : ℕ) (next : OpenTask) → graph_fault (vertices_behind (form.Edge from to) c.vertices) (suc c.edges) ≡ None → new ≡ context_behind c (form.Edge from to) → a ≡ vertex_number new.vertices from → b ≡ vertex_number new.vertices to → next ≡ edge_added draft.task line a b → IsStep parse c new draft (record { line = line; form = form.Edge from to }) (Ok (record { tasks = draft.tasks; task = next }))
+pub edge_step : (parse : Parse) (c new : Context) (draft : Draft) (line : ℕ) (from to : List ℕ) (a b : ℕ) (next : OpenTask) → graph_fault (vertices_behind (form.Edge from to) c.vertices) (suc c.edges) ≡ None → new ≡ context_behind c (form.Edge from to) → a ≡ vertex_number new.vertices from → b ≡ vertex_number new.vertices to → next ≡ edge_added draft.task line a b → IsStep parse c new draft (record { tasks = draft.tasks; task = next }) (record { line = line; form = form.Edge from to }) (Ok tt)
 edge_step parse c new draft line from to a b next sound n x y t =
     let vertices = vertices_behind (form.Edge from to) c.vertices in
     let x2 : a ≡ vertex_number vertices from = x ∙ ap (λ (k : Context). vertex_number k.vertices from) n in
@@ -62,7 +62,7 @@ edge_step parse c new draft line from to a b next sound n x y t =
     )
 
 -- a clause more
-pub clause_step : (parse : Parse) (c : Context) (vars : List (List ℕ)) (draft : Draft) (line : ℕ) (clause : Clause) (both : Expr × Expr) (next : OpenTask) → vars ≡ c.vars → IsClauseRead vars (parse clause.value) (parse clause.guard) clause.span line (Ok both) → next ≡ clause_added draft.task line clause both.0 both.1 → IsStep parse c c draft (record { line = line; form = form.Clause clause }) (Ok (record { tasks = draft.tasks; task = next }))
+pub clause_step : (parse : Parse) (c : Context) (vars : List (List ℕ)) (draft : Draft) (line : ℕ) (clause : Clause) (both : Expr × Expr) (next : OpenTask) → vars ≡ c.vars → IsClauseRead vars (parse clause.value) (parse clause.guard) clause.span line (Ok both) → next ≡ clause_added draft.task line clause both.0 both.1 → IsStep parse c c draft (record { tasks = draft.tasks; task = next }) (record { line = line; form = form.Clause clause }) (Ok tt)
 clause_step parse c vars draft line clause both next same told t =
     let read : IsClauseRead c.vars (parse clause.value) (parse clause.guard) clause.span line (Ok both) = subst (λ vs. IsClauseRead vs (parse clause.value) (parse clause.guard) clause.span line (Ok both)) same told in (
       read.0,
@@ -93,9 +93,9 @@ found_here : (parse : Parse) (c : Context) (entry : Entry) (later : List Entry) 
 found_here parse c entry later found e = ap (λ f. fault_or entry.line f (fault_from parse (context_behind c entry.form) later)) e
 
 -- a line without a fault
-pub read_turn : (lines : List Line) (i : ℕ) (line : Line) (entry : Entry) (c new : Context) (draft next : Draft) (answer : Result Draft TaskFault) → i < length lines → line ≡ get_or lines i line → entry ≡ entry_of line → may_stand entry.form c.place ≡ true → ((parse : Parse) → IsParse parse → IsStep parse c new draft entry answer) → answer ≡ Ok next → Holds c draft (drop i lines) lines → Holds new next (drop (i + 1) lines) lines
+pub read_turn : (lines : List Line) (i : ℕ) (line : Line) (entry : Entry) (c new : Context) (draft next : Draft) (answer : Result (Unit {0}) TaskFault) → i < length lines → line ≡ get_or lines i line → entry ≡ entry_of line → may_stand entry.form c.place ≡ true → ((parse : Parse) → IsParse parse → IsStep parse c new draft next entry answer) → answer ≡ Ok tt → Holds c draft (drop i lines) lines → Holds new next (drop (i + 1) lines) lines
 read_turn lines i line entry c new draft next answer h g e may told ok inv =
-    let step : (parse : Parse) → IsParse parse → IsStep parse c new draft entry (Ok next) = λ parse is. subst (IsStep parse c new draft entry) ok (told parse is) in
+    let step : (parse : Parse) → IsParse parse → IsStep parse c new draft next entry (Ok tt) = λ parse is. subst (IsStep parse c new draft next entry) ok (told parse is) in
     let rest = entries_of (drop (i + 1) lines) in
     let here : entries_of (drop i lines) ≡ entry ∷ rest = next_entry lines i line entry h g e in
     let one = step a_parse.0 a_parse.1 in
@@ -145,11 +145,11 @@ bad_answer lines i line entry c draft h g e may inv parse is =
     here_is parse lines i line entry c draft (Some Bad) h g e (bad_place parse c entry.form may) (inv.decide parse is)
 
 -- a line with another fault
-pub fault_answer : (lines : List Line) (i : ℕ) (line : Line) (entry : Entry) (c new : Context) (draft : Draft) (fault : TaskFault) (answer : Result Draft TaskFault) → i < length lines → line ≡ get_or lines i line → entry ≡ entry_of line → may_stand entry.form c.place ≡ true → ((parse : Parse) → IsParse parse → IsStep parse c new draft entry answer) → answer ≡ Err fault → Holds c draft (drop i lines) lines → (parse : Parse) → IsParse parse → IsAnswer parse (entries_of lines) (Err fault)
-fault_answer lines i line entry c new draft fault answer h g e may told err inv parse is =
+pub fault_answer : (lines : List Line) (i : ℕ) (line : Line) (entry : Entry) (c new : Context) (draft next : Draft) (fault : TaskFault) (answer : Result (Unit {0}) TaskFault) → i < length lines → line ≡ get_or lines i line → entry ≡ entry_of line → may_stand entry.form c.place ≡ true → ((parse : Parse) → IsParse parse → IsStep parse c new draft next entry answer) → answer ≡ Err fault → Holds c draft (drop i lines) lines → (parse : Parse) → IsParse parse → IsAnswer parse (entries_of lines) (Err fault)
+fault_answer lines i line entry c new draft next fault answer h g e may told err inv parse is =
     let found = form_fault parse c entry.form in
     answer_of parse (entries_of lines) entry.line found _ fault
-    (here_is parse lines i line entry c draft found h g e (form_decides parse c entry.form found may refl) (inv.decide parse is)) (subst (IsStep parse c new draft entry) err (told parse is))
+    (here_is parse lines i line entry c draft found h g e (form_decides parse c entry.form found may refl) (inv.decide parse is)) (subst (IsStep parse c new draft next entry) err (told parse is))
 
 -- all lines are read
 pub all_read : (lines : List Line) (i : ℕ) (c : Context) (draft : Draft) (tasks : List RawTask) (vertices : List (List ℕ)) → i ≡ length lines → vertices ≡ c.vertices → tasks ≡ tasks_closed draft.tasks draft.task vertices → Holds c draft (drop i lines) lines → (parse : Parse) → IsParse parse → (first_fault parse [] (entries_of lines) ≡ None) × (c.vars ≡ vars_with [] (entries_of lines)) × (map task_tree tasks ≡ tasks_of parse [] (entries_of lines))
@@ -190,5 +190,5 @@ pub caused : (all : List Entry) (answer : Result RawTasks TaskFault) → ((parse
 caused all answer exact = (a_parse.0, a_parse.1, exact a_parse.0 a_parse.1)
 
 -- a line by its form
-pub at_form : (parse : Parse) (old new : Context) (draft : Draft) (entry : Entry) (form : Form) (answer : Result Draft TaskFault) → entry.form ≡ form → IsStep parse old new draft (record { line = entry.line; form = form }) answer → IsStep parse old new draft entry answer
-at_form parse old new draft entry form answer e step = subst (λ f. IsStep parse old new draft (record { line = entry.line; form = f }) answer) (sym e) step
+pub at_form : (parse : Parse) (old new : Context) (before after : Draft) (entry : Entry) (form : Form) (answer : Result (Unit {0}) TaskFault) → entry.form ≡ form → IsStep parse old new before after (record { line = entry.line; form = form }) answer → IsStep parse old new before after entry answer
+at_form parse old new before after entry form answer e step = subst (λ f. IsStep parse old new before after (record { line = entry.line; form = f }) answer) (sym e) step

@@ -1,6 +1,6 @@
 //! The tasks that are read so far; begin with `Draft`.
 
-ghost use Rattle.std.specs.Prelude.{◌≡◌, IfOk};
+ghost use Rattle.std.specs.Prelude.{◌≡◌, OnOk};
 ghost use Rattle.assert_syntax.specs.Spelled.{from_of, to_of};
 ghost use Rattle.assert_syntax.specs.private.Drafts.{side_added, edge_with, clause_added, edges_closed, edge_added, tasks_closed, quint_of, bind_of};
 
@@ -40,22 +40,20 @@ pub struct Draft {
     pub task: OpenTask,
 }
 
-/// One more on this side of two lists.
+/// Adds one more on this side of two lists.
 fn side_added<T: Drop>(
     side: Side,
-    ant: Items<T>,
-    con: Items<T>,
+    ant: &mut Items<T>,
+    con: &mut Items<T>,
     item: T,
-) -> Result<(Items<T>, Items<T>), AllocError>
-    ensures { IfOk result (λ both. both ≡ side_added side ant con item) }
+) -> Result<(), AllocError>
+    ensures { OnOk result ((ant.new, con.new) ≡ side_added side ant.old con.old item) }
 {
-    let mut ant = ant;
-    let mut con = con;
     match side {
         Side::Antecedent => ant.push(item)?,
         Side::Consequent => con.push(item)?,
     }
-    Ok((ant, con))
+    Ok(())
 }
 
 /// The first time of a clause.
@@ -104,139 +102,80 @@ fn bind_of(line: u32, clause: Clause, value: Expr, guard: Expr) -> RawBind
     }
 }
 
-/// The edge, with a clause more.
-fn edge_with(
-    edge: Option<RawEdge>,
-    side: Side,
-    bind: RawBind,
-) -> Result<Option<RawEdge>, AllocError>
-    ensures { IfOk result (λ grown. grown ≡ edge_with edge side bind) }
+/// Adds a clause to the edge.
+fn edge_with(edge: &mut Option<RawEdge>, side: Side, bind: RawBind) -> Result<(), AllocError>
+    ensures { OnOk result (edge.new ≡ edge_with edge.old side bind) }
 {
-    let Some(
-        RawEdge {
-            line,
-            from,
-            to,
-            ant,
-            con,
-        },
-    ) = edge
-    else {
-        return Ok(None);
-    };
-    let (ant, con) = side_added(side, ant, con, bind)?;
-    Ok(Some(RawEdge {
-        line,
-        from,
-        to,
-        ant,
-        con,
-    }))
+    if let Some(RawEdge { ant, con, .. }) = edge {
+        side_added(side, ant, con, bind)?;
+    }
+    Ok(())
 }
 
-/// The open task, with a clause more.
+/// Adds a clause to the open task, in place.
 pub fn clause_added(
-    task: OpenTask,
+    task: &mut OpenTask,
     line: u32,
     clause: Clause,
     value: Expr,
     guard: Expr,
-) -> Result<OpenTask, AllocError>
-    ensures { IfOk result (λ grown. grown ≡ clause_added task line clause value guard) }
+) -> Result<(), AllocError>
+    ensures { OnOk result (task.new ≡ clause_added task.old line clause value guard) }
 {
     let side = clause.side;
     match task {
-        OpenTask::Closed => Ok(OpenTask::Closed),
-        OpenTask::Ste {
-            head,
-            name,
-            reset,
-            ant,
-            con,
-        } => {
-            let quint = quint_of(line, clause, value, guard);
-            let (ant, con) = side_added(side, ant, con, quint)?;
-            Ok(OpenTask::Ste {
-                head,
-                name,
-                reset,
-                ant,
-                con,
-            })
+        OpenTask::Closed => Ok(()),
+        OpenTask::Ste { ant, con, .. } => {
+            side_added(side, ant, con, quint_of(line, clause, value, guard))
         }
-        OpenTask::Gste {
-            head,
-            name,
-            reset,
-            edges,
-            edge,
-        } => Ok(OpenTask::Gste {
-            head,
-            name,
-            reset,
-            edges,
-            edge: edge_with(edge, side, bind_of(line, clause, value, guard))?,
-        }),
+        OpenTask::Gste { edge, .. } => edge_with(edge, side, bind_of(line, clause, value, guard)),
     }
 }
 
-/// The edges, and the one that was open.
-fn edges_closed(edges: Items<RawEdge>, edge: Option<RawEdge>) -> Result<Items<RawEdge>, AllocError>
-    ensures { IfOk result (λ closed. closed ≡ edges_closed edges edge) }
+/// Adds the edge that was open to the others.
+fn edges_closed(edges: &mut Items<RawEdge>, edge: Option<RawEdge>) -> Result<(), AllocError>
+    ensures { OnOk result (edges.new ≡ edges_closed edges.old edge) }
 {
-    let mut edges = edges;
-    if let Some(edge) = edge {
-        edges.push(edge)?;
+    match edge {
+        Some(edge) => edges.push(edge),
+        None => Ok(()),
     }
-    Ok(edges)
 }
 
-/// The open task, with an edge more.
+/// Adds an edge to the open task, in place.
 pub fn edge_added(
     alloc: Global,
-    task: OpenTask,
+    task: &mut OpenTask,
     line: u32,
     from: u32,
     to: u32,
-) -> Result<OpenTask, AllocError>
-    ensures { IfOk result (λ grown. grown ≡ edge_added task line from to) }
+) -> Result<(), AllocError>
+    ensures { OnOk result (task.new ≡ edge_added task.old line from to) }
 {
-    match task {
-        OpenTask::Gste {
-            head,
-            name,
-            reset,
-            edges,
-            edge,
-        } => Ok(OpenTask::Gste {
-            head,
-            name,
-            reset,
-            edges: edges_closed(edges, edge)?,
-            edge: Some(RawEdge {
-                line,
-                from,
-                to,
-                ant: Items::new(alloc),
-                con: Items::new(alloc),
-            }),
-        }),
-        other => Ok(other),
-    }
+    let OpenTask::Gste { edges, edge, .. } = task else {
+        return Ok(());
+    };
+    let next = RawEdge {
+        line,
+        from,
+        to,
+        ant: Items::new(alloc),
+        con: Items::new(alloc),
+    };
+    edges_closed(edges, edge.replace(next))
 }
 
-/// The tasks, and the one that was open, whose vertices are these.
+/// Adds the task that was open, whose vertices are these, to the others.
 pub fn tasks_closed(
     alloc: Global,
-    tasks: Items<RawTask>,
+    tasks: &mut Items<RawTask>,
     task: OpenTask,
     vertices: &[Name],
-) -> Result<Items<RawTask>, AllocError>
-    ensures { IfOk result (λ closed. closed ≡ tasks_closed tasks task vertices.now) }
+) -> Result<(), AllocError>
+    ensures { OnOk result (tasks.new ≡ tasks_closed tasks.old task vertices.now) }
 {
-    let mut tasks = tasks;
     match task {
-        OpenTask::Closed => {}
+        OpenTask::Closed => Ok(()),
         OpenTask::Ste {
             head,
             name,
@@ -249,24 +188,23 @@ pub fn tasks_closed(
             reset,
             ant,
             con,
-        })?,
+        }),
         OpenTask::Gste {
             head,
             name,
             reset,
-            edges,
+            mut edges,
             edge,
         } => {
             let vertices = vertices.to_vec(alloc)?.into();
-            let edges = edges_closed(edges, edge)?;
+            edges_closed(&mut edges, edge)?;
             tasks.push(RawTask::Gste {
                 line: head,
                 name,
                 reset,
                 vertices,
                 edges,
-            })?;
+            })
         }
     }
-    Ok(tasks)
 }

@@ -17,113 +17,115 @@ use crate::place::{Place, may_stand};
 use crate::tasks::RawTasks;
 use blif_lines::Line;
 use std::alloc::Global;
+use std::mem::replace;
 use ste_base::{Items, Name, copies};
 
-/// What is read, with a line that starts an assertion.
+/// Reads a line that starts an assertion.
 fn assertion_read(
     alloc: Global,
     known: &mut Known,
-    draft: Draft,
+    draft: &mut Draft,
     line: u32,
     name: Name,
     reset: bool,
-) -> Result<Draft, TaskFault>
+) -> Result<(), TaskFault>
     ensures { (parse : Parse) → IsParse parse → IsStep parse (context_held known.old)
-        (context_held known.new) draft (record { line = line; form = form.Ste name reset }) result }
+        (context_held known.new) draft.old draft.new
+        (record { line = line; form = form.Ste name reset }) result }
 {
     known.start_assertion(line, &name, reset)?;
-    let Draft { tasks, task } = draft;
-    let tasks = tasks_closed(alloc, tasks, task, known.vertices.as_slice())?;
-    let task = OpenTask::Ste {
+    let next = OpenTask::Ste {
         head: line,
         name,
         reset,
         ant: Items::new(alloc),
         con: Items::new(alloc),
     };
-    Ok(Draft { tasks, task })
+    let task = replace(&mut draft.task, next);
+    tasks_closed(alloc, &mut draft.tasks, task, known.vertices.as_slice())?;
+    Ok(())
 }
 
-/// What is read, with a line that starts a graph.
+/// Reads a line that starts a graph.
 fn graph_read(
     alloc: Global,
     known: &mut Known,
-    draft: Draft,
+    draft: &mut Draft,
     line: u32,
     name: Name,
     vertex: &Name,
     reset: bool,
-) -> Result<Draft, TaskFault>
+) -> Result<(), TaskFault>
     ensures { (parse : Parse) → IsParse parse → IsStep parse (context_held known.old)
-        (context_held known.new) draft
+        (context_held known.new) draft.old draft.new
         (record { line = line; form = form.Gste name vertex.now reset }) result }
 {
-    let Draft { tasks, task } = draft;
-    let tasks = tasks_closed(alloc, tasks, task, known.vertices.as_slice())?;
+    let task = replace(&mut draft.task, OpenTask::Closed);
+    tasks_closed(alloc, &mut draft.tasks, task, known.vertices.as_slice())?;
     known.start_graph(alloc, line, &name, vertex, reset)?;
-    let task = OpenTask::Gste {
+    draft.task = OpenTask::Gste {
         head: line,
         name,
         reset,
         edges: Items::new(alloc),
         edge: None,
     };
-    Ok(Draft { tasks, task })
+    Ok(())
 }
 
-/// What is read, with a line that starts an edge.
+/// Reads a line that starts an edge.
 fn edge_read(
     alloc: Global,
     known: &mut Known,
-    draft: Draft,
+    draft: &mut Draft,
     line: u32,
     from: &Name,
     to: &Name,
-) -> Result<Draft, TaskFault>
+) -> Result<(), TaskFault>
     requires room { HasRoom (context_held known.old) }
     ensures { (parse : Parse) → IsParse parse → IsStep parse (context_held known.old)
-        (context_held known.new) draft (record { line = line; form = form.Edge from.now to.now }) result }
+        (context_held known.new) draft.old draft.new
+        (record { line = line; form = form.Edge from.now to.now }) result }
 {
     let (from, to) = known.start_edge(line, from, to)?;
-    let Draft { tasks, task } = draft;
-    let task = edge_added(alloc, task, line, from, to)?;
-    Ok(Draft { tasks, task })
+    edge_added(alloc, &mut draft.task, line, from, to)?;
+    Ok(())
 }
 
-/// What is read, with a clause.
+/// Reads a clause.
 fn clause_read(
     alloc: Global,
     known: &Known,
-    draft: Draft,
+    draft: &mut Draft,
     line: u32,
     clause: Clause,
-) -> Result<Draft, TaskFault>
+) -> Result<(), TaskFault>
     requires room { HasRoom (context_held known.now) }
     ensures { (parse : Parse) → IsParse parse → IsStep parse (context_held known.now)
-        (context_held known.now) draft (record { line = line; form = form.Clause clause }) result }
+        (context_held known.now) draft.old draft.new
+        (record { line = line; form = form.Clause clause }) result }
 {
     let (value, guard) = exprs_of(alloc, line, &known.vars, &clause)?;
-    let Draft { tasks, task } = draft;
-    let task = clause_added(task, line, clause, value, guard)?;
-    Ok(Draft { tasks, task })
+    clause_added(&mut draft.task, line, clause, value, guard)?;
+    Ok(())
 }
 
-/// What is read, with a line that may stand where it does.
+/// Reads a line that may stand where it does.
 fn line_read(
     alloc: Global,
     known: &mut Known,
-    draft: Draft,
+    draft: &mut Draft,
     entry: Entry,
-) -> Result<Draft, TaskFault>
+) -> Result<(), TaskFault>
     requires room { HasRoom (context_held known.old) }
     ensures { (parse : Parse) → IsParse parse → IsStep parse (context_held known.old)
-        (context_held known.new) draft entry result }
+        (context_held known.new) draft.old draft.new entry result }
 {
     let Entry { line, form } = entry;
     match form {
         Form::Vars(names) => {
             known.declare(line, names.as_slice())?;
-            Ok(draft)
+            Ok(())
         }
         Form::Ste(name, reset) => assertion_read(alloc, known, draft, line, name, reset),
         Form::Gste(name, vertex, reset) => {
@@ -133,9 +135,9 @@ fn line_read(
         Form::Clause(clause) => clause_read(alloc, known, draft, line, clause),
         Form::End => {
             known.place = Place::Ended;
-            Ok(draft)
+            Ok(())
         }
-        Form::Wrong => Ok(draft),
+        Form::Wrong => Ok(()),
     }
 }
 
@@ -153,13 +155,13 @@ fn tasks_read(alloc: Global, lines: &[Line]) -> Result<RawTasks, TaskFault>
         if !may_stand(&entry.form, known.place) {
             return Err(TaskFault::BadLine { line: entry.line });
         }
-        match line_read(alloc, &mut known, draft, entry) {
-            Ok(next) => draft = next,
+        match line_read(alloc, &mut known, &mut draft, entry) {
+            Ok(()) => {}
             Err(fault) => return Err(fault),
         }
     }
-    let Draft { tasks, task } = draft;
-    let tasks = tasks_closed(alloc, tasks, task, known.vertices.as_slice())?;
+    let Draft { mut tasks, task } = draft;
+    tasks_closed(alloc, &mut tasks, task, known.vertices.as_slice())?;
     if tasks.len() == 0 {
         return Err(TaskFault::NoTask);
     }

@@ -46,10 +46,10 @@ open_count other = 1
 abbrev pub IsCounted : Context → Draft → Type 0
 IsCounted context draft = length draft.tasks + open_count draft.task ≤ length context.names
 
--- what a line that may stand where it does is answered with, between these two contexts
-abbrev pub IsStep : Parse → Context → Context → Draft → Entry → Result Draft TaskFault → Type 0
-IsStep parse old new draft entry (Ok next) =
+-- what a line that may stand where it does is answered with, between these two contexts, and what it makes of the draft
+abbrev pub IsStep : Parse → Context → Context → Draft → Draft → Entry → Result (Unit {0}) TaskFault → Type 0
+IsStep parse old new before after entry (Ok done) =
     (form_fault parse old entry.form ≡ None) × (new ≡ context_behind old entry.form)
-    × ((rest : List Entry) → finish parse new next rest ≡ finish parse old draft (entry ∷ rest))
-    × (IsCounted old draft → IsCounted new next)
-IsStep parse old new draft entry (Err fault) = IsFault entry.line (form_fault parse old entry.form) fault
+    × ((rest : List Entry) → finish parse new after rest ≡ finish parse old before (entry ∷ rest))
+    × (IsCounted old before → IsCounted new after)
+IsStep parse old new before after entry (Err fault) = IsFault entry.line (form_fault parse old entry.form) fault
