@@ -7,5 +7,6 @@ pub mod Whole
 pub mod Tokens
 pub mod Placed
 pub mod Named
+pub mod Numbered
 pub mod Least
 pub mod ReadBack

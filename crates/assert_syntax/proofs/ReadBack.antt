@@ -1,16 +1,12 @@
 -- Tasks that are written out are read back.
 use Rattle.std.proofs.Common.{ℕ, suc, ◌+◌, ◌<◌, ◌≤◌, ◌≡◌, refl, sym, ap, subst, ◌∙◌, List, [], ◌∷◌, ◌++◌, length, get_or, take, drop, map, arith, Bool, true, false, if◌then◌else◌, Option, None, Some, codes, nat_le, nat_lt, bytes_eq, append_assoc, append-nil, length-append}
-use Rattle.std.specs.Prelude.{All, cond, unwrap_or}
-use Rattle.std.specs.List.{Contains, flat_map, list_all, list_any, position, position_or_len}
-use Rattle.std.proofs.lemmas.Bool.{eqb-true}
+use Rattle.std.specs.Prelude.{All, cond}
+use Rattle.std.specs.List.{flat_map, list_all, list_any}
 use Rattle.std.proofs.Math.Seq.{take-append_seam, drop-append_seam}
 use Rattle.std.proofs.Math.ListN.{get_or-append}
 use Rattle.std.proofs.lemmas.List.{get_or-append-add, map-append}
-use Rattle.std.proofs.lemmas.List.Elements.{All-head, All-tail, Contains-append_left, Contains-append_right}
-use Rattle.std.proofs.lemmas.List.Folds.{position_or_len_push}
-use Rattle.std.proofs.lemmas.List.Sums.{fails_before_first, fold-append, position_or_len_is, prefix_len-le-length}
-use Rattle.std.proofs.Math.Dec.{eqb}
-use Rattle.std.proofs.lemmas.Slice.Eq.{bytes_eq-Decides}
+use Rattle.std.proofs.lemmas.List.Elements.{All-head, All-tail}
+use Rattle.std.proofs.lemmas.List.Sums.{fold-append, position_or_len_is}
 use Rattle.indexmap.specs.IndexSet.{insert_all, insert_key}
 use Rattle.blif_lines.specs.Laws.{spaced}
 use Rattle.bool_expr.specs.Grammar.{Expression, literal, nesting, single, spelling}
@@ -38,7 +34,8 @@ use Rattle.assert_syntax.specs.Spelled.{assertion, graph, bind_said, binds_of, e
 use Rattle.assert_syntax.specs.Words.{ends_expression, is_variable}
 use Rattle.assert_syntax.specs.Written.{SaidClause, SaidEdge, SaidTask, SaidTimes, ste, gste, AreSayable, AreTimes, IsBindSaid, IsExpression, IsGuard, IsQuintSaid, IsSayable, IsTimed, WrittenIsRead, clause_line, clause_words, edge_lines, ends_of, guard_text, guard_words, line_of, on_side, reset_words, said_bind, said_edge, said_from, said_name, said_quint, said_task, said_to, side_word, task_lines, times_words, vars_lines, vertices_said, written}
 use Rattle.assert_syntax.proofs.Faults.{fault_from, same_fault}
-use Rattle.assert_syntax.proofs.Named.{double_found, stands_in}
+use Rattle.assert_syntax.proofs.Named.{double_found}
+use Rattle.assert_syntax.proofs.Numbered.{inserted, number_stays, place_is, stays_in}
 
 -- the clause that is read
 abbrev said_span : Option SaidTimes → Span
@@ -65,14 +62,6 @@ task_entries (gste line name vertex reset edges) = entry line (form.Gste name ve
 abbrev vars_entries : List (List ℕ) → List Entry
 vars_entries [] = []
 vars_entries (name ∷ names) = entry 1 (form.Vars (name ∷ names)) ∷ []
-
--- places
-place_by : (b : Bool) (n len : ℕ) → nat_lt n len ≡ b → n ≤ len → unwrap_or (cond b (Some n) None) len ≡ n
-place_by true n len e h = refl
-place_by false n len e h = let k : len ≤ n = grind (arith, e) in omega (arith, h, k)
-
-place_is : {A : Type 0} (p : A → Bool) (xs : List A) → unwrap_or (position p xs) (length xs) ≡ position_or_len p xs
-place_is p xs = place_by (nat_lt (position_or_len p xs) (length xs)) (position_or_len p xs) (length xs) refl (prefix_len-le-length _ xs)
 
 -- words that end an expression, or none
 abbrev Ends : List (List ℕ) → Type 0
@@ -293,44 +282,6 @@ vertices_read vertices [] rest none = none vertices
 vertices_read vertices (e ∷ es) rest none =
     let more = insert_all bytes_eq vertices (ends_of e) in
     ap (vertices_of vertices) (edge_apart e es rest) ∙ vertices_past more e.clauses (flat_map edge_entries es ++ rest) ∙ vertices_read more es rest none ∙ sym (fold-append _ vertices (ends_of e) (flat_map ends_of es))
-
--- a vertex keeps its number
-number_below : (vertices : List (List ℕ)) (word : List ℕ) → Contains vertices word → position_or_len (bytes_eq word) vertices ≡ length vertices → ⊥
-number_below vertices word (k, h, e) all =
-    let fails = fails_before_first (bytes_eq word) vertices k word (omega (arith, h, all)) in
-    let finds = (bytes_eq-Decides word (get_or vertices k word)).1 (sym e) in
-    let clash = sym fails ∙ finds in absurd (cc clash)
-
-push_by : (b : Bool) (n len : ℕ) (more : ℕ) → eqb n len ≡ b → (n ≡ len → ⊥) → cond b more n ≡ n
-push_by true n len more e apart = absurd (apart (eqb-true n len e))
-push_by false n len more e apart = refl
-
-insert_by : (b : Bool) (vertices : List (List ℕ)) (x word : List ℕ) → Contains vertices word → vertex_number (if b then vertices else vertices ++ x ∷ []) word ≡ vertex_number vertices word
-insert_by true vertices x word c = refl
-insert_by false vertices x word c =
-    place_is (bytes_eq word) (vertices ++ x ∷ []) ∙ position_or_len_push (bytes_eq word) vertices x
-    ∙ push_by (eqb (position_or_len (bytes_eq word) vertices) (length vertices)) (position_or_len (bytes_eq word) vertices) (length vertices) _ refl (number_below vertices word c)
-    ∙ sym (place_is (bytes_eq word) vertices)
-
-contains_by : (b : Bool) (vertices : List (List ℕ)) (x word : List ℕ) → Contains vertices word → Contains (if b then vertices else vertices ++ x ∷ []) word
-contains_by true vertices x word c = c
-contains_by false vertices x word c = Contains-append_left vertices (x ∷ []) word c
-
-number_stays : (vertices xs : List (List ℕ)) (word : List ℕ) → Contains vertices word → vertex_number (insert_all bytes_eq vertices xs) word ≡ vertex_number vertices word
-number_stays vertices [] word c = refl
-number_stays vertices (x ∷ xs) word c =
-    number_stays (insert_key bytes_eq vertices x) xs word (contains_by (list_any (bytes_eq x) vertices) vertices x word c) ∙ insert_by (list_any (bytes_eq x) vertices) vertices x word c
-
-stays_in : (vertices xs : List (List ℕ)) (word : List ℕ) → Contains vertices word → Contains (insert_all bytes_eq vertices xs) word
-stays_in vertices [] word c = c
-stays_in vertices (x ∷ xs) word c = stays_in (insert_key bytes_eq vertices x) xs word (contains_by (list_any (bytes_eq x) vertices) vertices x word c)
-
-inserted_by : (b : Bool) (vertices : List (List ℕ)) (x : List ℕ) → list_any (bytes_eq x) vertices ≡ b → Contains (if b then vertices else vertices ++ x ∷ []) x
-inserted_by true vertices x e = stands_in vertices x e
-inserted_by false vertices x e = Contains-append_right vertices (x ∷ []) x (0, omega arith, refl)
-
-inserted : (vertices : List (List ℕ)) (x : List ℕ) → Contains (insert_key bytes_eq vertices x) x
-inserted vertices x = inserted_by (list_any (bytes_eq x) vertices) vertices x refl
 
 -- the edges
 edges_read : (parse : Parse) (vars vertices all : List (List ℕ)) (es : List SaidEdge) (rest : List Entry) → all ≡ insert_all bytes_eq vertices (flat_map ends_of es) → ((vs : List (List ℕ)) → edges_of parse vars vs rest ≡ []) → ((side : Side) → binds_of parse side vars rest ≡ []) → edges_of parse vars vertices (flat_map edge_entries es ++ rest) ≡ map (said_edge parse vars all) es

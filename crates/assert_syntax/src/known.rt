@@ -76,17 +76,6 @@ fn add_up_to_double(vars: &mut Variables, names: &[Name]) -> Result<Option<Name>
     Ok(None)
 }
 
-/// The number of a vertex.
-fn vertex_number(vertices: &IndexSet<Name>, word: &Name) -> u32
-    requires { length vertices.now.keys < 2 ^ 32 }
-    ensures { result ≡ vertex_number vertices.now.keys word.now }
-{
-    match vertices.get_index_of(word) {
-        Some(number) => number as u32,
-        None => vertices.len() as u32,
-    }
-}
-
 impl Known {
     /// What is known before the first line.
     pub fn new(alloc: Global) -> Known
@@ -190,30 +179,27 @@ impl Known {
     }
 
     /// Behind a line that starts an edge: the numbers of its two vertices.
-    pub fn start_edge(&mut self, line: u32, from: &Name, to: &Name) -> Result<(u32, u32), TaskFault>
+    pub fn start_edge(&mut self, line: u32, from: Name, to: Name) -> Result<(u32, u32), TaskFault>
         requires room { self.old.edges ≤ 10000 }
         ensures context { OnOk result (context_held self.new
-            ≡ context_behind (context_held self.old) (form.Edge from.now to.now)) }
+            ≡ context_behind (context_held self.old) (form.Edge from to)) }
         ensures ends { IfOk result (λ ends.
-            (ends.0 ≡ vertex_number self.new.vertices.keys from.now)
-            × (ends.1 ≡ vertex_number self.new.vertices.keys to.now)) }
+            (ends.0 ≡ vertex_number self.new.vertices.keys from)
+            × (ends.1 ≡ vertex_number self.new.vertices.keys to)) }
         ensures sound { OnOk result (graph_fault
-            (vertices_behind (form.Edge from.now to.now) self.old.vertices.keys)
+            (vertices_behind (form.Edge from to) self.old.vertices.keys)
             (suc self.old.edges) ≡ None) }
         ensures err { IfErr result (λ fault. IsFault line (graph_fault
-            (vertices_behind (form.Edge from.now to.now) self.old.vertices.keys)
+            (vertices_behind (form.Edge from to) self.old.vertices.keys)
             (suc self.old.edges)) fault) }
     {
-        self.vertices.insert(from.clone()?)?;
-        self.vertices.insert(to.clone()?)?;
+        let (from, _) = self.vertices.insert_full(from)?;
+        let (to, _) = self.vertices.insert_full(to)?;
         if self.vertices.len() > MAX_VERTICES || self.edges >= MAX_EDGES {
             return Err(TaskFault::TooMany { line });
         }
         self.edges += 1;
         self.place = Place::Edge;
-        Ok((
-            vertex_number(&self.vertices, from),
-            vertex_number(&self.vertices, to),
-        ))
+        Ok((from as u32, to as u32))
     }
 }

@@ -79,13 +79,13 @@ fn edge_read(
     known: &mut Known,
     draft: &mut Draft,
     line: u32,
-    from: &Name,
-    to: &Name,
+    from: Name,
+    to: Name,
 ) -> Result<(), TaskFault>
     requires room { HasRoom (context_held known.old) }
     ensures { (parse : Parse) → IsParse parse → IsStep parse (context_held known.old)
         (context_held known.new) draft.old draft.new
-        (record { line = line; form = form.Edge from.now to.now }) result }
+        (record { line = line; form = form.Edge from to }) result }
 {
     let (from, to) = known.start_edge(line, from, to)?;
     edge_added(alloc, &mut draft.task, line, from, to)?;
@@ -131,7 +131,7 @@ fn line_read(
         Form::Gste(name, vertex, reset) => {
             graph_read(alloc, known, draft, line, name, &vertex, reset)
         }
-        Form::Edge(from, to) => edge_read(alloc, known, draft, line, &from, &to),
+        Form::Edge(from, to) => edge_read(alloc, known, draft, line, from, to),
         Form::Clause(clause) => clause_read(alloc, known, draft, line, clause),
         Form::End => {
             known.place = Place::Ended;
