@@ -1,5 +1,6 @@
 -- Constants first.
-use Rattle.std.proofs.Common.{◌≡◌, Bool, true, false, not, refl, sym, ◌∙◌, ap, Ok}
+use Rattle.std.proofs.Common.{◌≡◌, ◌<◌, ℕ, min, max, inl, inr, arith, subst, Bool, true, false, not, refl, sym, ◌∙◌, ap, Ok}
+use Rattle.std.proofs.lemmas.Bool.{cases_eq}
 use Rattle.std.specs.Prelude.{◌&&◌, ◌||◌, if◌then◌else◌}
 use Rattle.dd_nodes.specs.declared.node.Ref.{Ref}
 use Rattle.dd_nodes.specs.Diagram.{Function}
@@ -50,6 +51,19 @@ module _ (s : Store) (a b : Ref) (d : IsGood s) (ha : IsRef s a) (hb : IsRef s b
 
   pub or_right_one : b.0 ≡ 1 → Answer (λ bits. function s a bits || function s b bits) s s (Ok b)
   or_right_one e = Answer-settled (λ bits. function s a bits || function s b bits) s b (record { ref = hb; value = λ bits l. or_one (function s a bits) (function s b bits) (one_bit s b bits d e) })
+
+  -- of two constants the product is the lesser number, and the sum the greater one
+  pub and_least : (r : ℕ) → a.0 < 2 → b.0 < 2 → r ≡ min a.0 b.0 → Answer (λ bits. function s a bits && function s b bits) s s (Ok (record { 0 = r }))
+  and_least r la lb e = elim (cases_eq a.0 0) as (λ _. Answer (λ bits. function s a bits && function s b bits) s s (Ok (record { 0 = r }))) [
+    | inl low ↦ subst (λ (n : ℕ). Answer (λ bits. function s a bits && function s b bits) s s (Ok (record { 0 = n }))) (omega (arith, low, e)) (and_left_zero low)
+    | inr high ↦ subst (λ (n : ℕ). Answer (λ bits. function s a bits && function s b bits) s s (Ok (record { 0 = n }))) (omega (arith, high, la, lb, e)) (and_left_one (omega (arith, high, la)))
+  ]
+
+  pub or_most : (r : ℕ) → a.0 < 2 → b.0 < 2 → r ≡ max a.0 b.0 → Answer (λ bits. function s a bits || function s b bits) s s (Ok (record { 0 = r }))
+  or_most r la lb e = elim (cases_eq a.0 0) as (λ _. Answer (λ bits. function s a bits || function s b bits) s s (Ok (record { 0 = r }))) [
+    | inl low ↦ subst (λ (n : ℕ). Answer (λ bits. function s a bits || function s b bits) s s (Ok (record { 0 = n }))) (omega (arith, low, e)) (or_left_zero low)
+    | inr high ↦ subst (λ (n : ℕ). Answer (λ bits. function s a bits || function s b bits) s s (Ok (record { 0 = n }))) (omega (arith, high, la, lb, e)) (or_left_one (omega (arith, high, la)))
+  ]
 
   pub opposite_one : a.0 ≡ 1 → Answer (λ bits. not (function s a bits)) s s (Ok (record { 0 = 0 }))
   opposite_one e = Answer-settled (λ bits. not (function s a bits)) s (record { 0 = 0 }) (record { ref = (zero_means s d).ref; value = λ bits l. (zero_means s d).value bits l ∙ sym (ap not (one_bit s a bits d e)) })

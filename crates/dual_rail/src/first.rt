@@ -1,11 +1,18 @@
 //! Products, sums and opposites of diagrams with a look at the constants first: `both`, `either`, `opposite` and `except`.
 
-ghost use Rattle.std.specs.Prelude.{◌≡◌, ◌&&◌, ◌||◌, not};
+ghost use Rattle.std.specs.Prelude.{◌≡◌, ◌<◌, ◌&&◌, ◌||◌, IsTrue, not};
 ghost use Rattle.dd_nodes.specs.Stores.{IsRef, function};
 ghost use Rattle.dd_ops.specs.Answer.{Answer};
 
 use dd_nodes::{Nodes, Ref};
 use dd_ops::{OpFault, Ops};
+
+/// Whether both references are of constants.
+pub fn are_constant(a: Ref, b: Ref) -> bool
+    ensures { IsTrue result → (a.0 < 2) × (b.0 < 2) }
+{
+    a.0.max(b.0) < 2
+}
 
 /// The product of two functions. Where one is a constant nothing is called.
 pub fn both<N: Nodes>(ops: &Ops, nodes: &mut N, a: Ref, b: Ref) -> Result<Ref, OpFault>
@@ -15,6 +22,9 @@ pub fn both<N: Nodes>(ops: &Ops, nodes: &mut N, a: Ref, b: Ref) -> Result<Ref, O
         (λ bits. function (N.store nodes.old) a bits && function (N.store nodes.old) b bits)
         (N.store nodes.old) (N.store nodes.new) result }
 {
+    if are_constant(a, b) {
+        return Ok(Ref(a.0.min(b.0)));
+    }
     if a == Ref::TRUE {
         return Ok(b);
     }
@@ -38,6 +48,9 @@ pub fn either<N: Nodes>(ops: &Ops, nodes: &mut N, a: Ref, b: Ref) -> Result<Ref,
         (λ bits. function (N.store nodes.old) a bits || function (N.store nodes.old) b bits)
         (N.store nodes.old) (N.store nodes.new) result }
 {
+    if are_constant(a, b) {
+        return Ok(Ref(a.0.max(b.0)));
+    }
     if a == Ref::FALSE {
         return Ok(b);
     }

@@ -9,7 +9,7 @@ pub mod sets;
 #[cfg(test)]
 mod tests;
 
-pub use first::{both, either, opposite};
+pub use first::{are_constant, both, either, opposite};
 pub use gates::gate;
 pub use rails::Rails;
 pub use sets::{cut, empty, free, join, one, zero};

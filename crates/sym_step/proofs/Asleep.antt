@@ -1,28 +1,47 @@
--- Marks that are taken away, place by place.
-use Rattle.std.proofs.Common.{inl, inr, ◌≡◌, ◌≢◌, ◌<◌, ◌≤◌, ◌+◌, ◌/◌, ℕ, List, Bool, false, true, length, arith, sym, ◌∙◌, ap, get_or, set, get_or-set_other}
-use Rattle.std.proofs.lemmas.Bool.{cases_eq}
-use Rattle.sym_step.specs.private.Marks.{AreAsleep}
+-- Bits at the places of marks.
+use Rattle.std.proofs.Common.{inl, inr, ◌≡◌, ◌≢◌, ◌<◌, ◌≤◌, ◌+◌, ◌-◌, ◌/◌, ◌%◌, ◌^◌, ◌*◌, ◌++◌, ◌∷◌, [], refl, min, ℕ, zero, suc, List, Bool, false, length, replicate, arith, sym, ◌∙◌, ap, get_or, set, w64, shr-shr}
+use Rattle.std.specs.Int.{bit_at, trailing_zeros}
+use Rattle.std.proofs.lemmas.List.{get_or-replicate, get_or_append_left}
+use Rattle.std.proofs.lemmas.Bool.{cases_lt}
+use Rattle.std.proofs.lemmas.Nat.{shr_le}
+use Rattle.std.proofs.lemmas.Nat.Bits.{bit_at-trailing_zeros, bit_at-zero, bit_at_ones}
+use Rattle.sym_step.specs.private.Marks.{AreAsleep, bit_of}
 use Rattle.sym_step.specs.private.Readers.{flag_at}
 
--- where one number has no mark and the others are as they were, there are no more marks
-pub fewer_more : (mid new : List Bool) (number : ℕ) → flag_at new number ≡ false → ((k : ℕ) → k ≢ number → flag_at new k ≡ flag_at mid k) → (k : ℕ) → flag_at mid k ≡ false → flag_at new k ≡ false
-fewer_more mid new number none others k was = elim (cases_eq k number) [
-  | inl here ↦ ap (flag_at new) here ∙ none
-  | inr other ↦ others k other ∙ was
+-- the bits of a word from one on
+shifted : (word from k : ℕ) → bit_at (word / 2 ^ from) k ≡ bit_at word (from + k)
+shifted word from k = ap (λ (n : ℕ). n % 2) (shr-shr word from k)
+
+at_rest : (word from k : ℕ) → from ≤ k → bit_at word k ≡ bit_at (word / 2 ^ from) (k - from)
+at_rest word from k le = let same : k ≡ from + (k - from) = omega arith in ap (bit_at word) same ∙ sym (shifted word from (k - from))
+
+-- where nothing is left of a word, it has no more bits
+pub none_left : (word from : ℕ) → word / 2 ^ from ≡ 0 → (k : ℕ) → from ≤ k → bit_at word k ≡ 0
+none_left word from none k le = at_rest word from k le ∙ ap (λ (rest : ℕ). bit_at rest (k - from)) none ∙ bit_at-zero (k - from)
+
+-- before the first bit that is left there is none
+pub none_before : (word from : ℕ) → word < 2 ^ 64 → (word / 2 ^ from ≡ 0 → ⊥) → (k : ℕ) → from ≤ k → k < from + trailing_zeros w64 (word / 2 ^ from) → bit_at word k ≡ 0
+none_before word from fits some k le lt =
+    let small = shr_le word from in
+    let rest = bit_at-trailing_zeros w64 (word / 2 ^ from) (omega (arith, some)) (omega (arith, small, fits)) in
+    at_rest word from k le ∙ rest.2 (k - from) (omega (arith, le, lt))
+
+none_beyond : (flags : List Bool) (k : ℕ) → length flags ≤ k → flag_at flags k ≡ false
+none_beyond [] k le = refl
+none_beyond (flag ∷ flags) zero le = absurd (omega arith)
+none_beyond (flag ∷ flags) (suc k) le = none_beyond flags k (omega arith)
+
+-- marks of which the first ones are taken away
+pub first_cleared : (filled rest : List Bool) (n count : ℕ) → length filled ≡ min count n → length (filled ++ rest) ≡ n → ((k : ℕ) (d : Bool) → k < length filled → get_or filled k d ≡ false) → (k : ℕ) → k < count → flag_at (filled ++ rest) k ≡ false
+first_cleared filled rest n count same long each k lt = elim (cases_lt k (length filled)) as (λ _. flag_at (filled ++ rest) k ≡ false) [
+  | inl inside ↦ get_or_append_left filled rest false k inside ∙ each k false inside
+  | inr outside ↦ none_beyond (filled ++ rest) k (omega (arith, same, long, lt, outside))
 ]
 
--- one more place has no mark
-pub cleared_more : (mid new : List Bool) (order : List ℕ) (from at : ℕ) → flag_at new (get_or order at 0) ≡ false → ((k : ℕ) → flag_at mid k ≡ false → flag_at new k ≡ false)
-    → ((place : ℕ) → from ≤ place → place < at → flag_at mid (get_or order place 0) ≡ false) → (place : ℕ) → from ≤ place → place < at + 1 → flag_at new (get_or order place 0) ≡ false
-cleared_more mid new order from at none fewer done place le lt = elim (cases_eq place at) [
-  | inl here ↦ ap (λ (p : ℕ). flag_at new (get_or order p 0)) here ∙ none
-  | inr other ↦ fewer (get_or order place 0) (done place le (omega (arith, lt, other)))
-]
-
--- a block of whose gates none has a mark may sleep
-pub asleep_then : (old new : List Bool) (order : List ℕ) (awake : List Bool) (block : ℕ) → ((k : ℕ) → flag_at old k ≡ false → flag_at new k ≡ false) → ((place : ℕ) → place < length order → place / 64 ≡ block → flag_at new (get_or order place 0) ≡ false)
-    → AreAsleep old order awake → AreAsleep new order (set awake block false)
-asleep_then old new order awake block fewer cleared asleep place lt sleeps = elim (cases_eq (place / 64) block) [
-  | inl here ↦ cleared place lt here
-  | inr other ↦ fewer (get_or order place 0) (asleep place lt (sym (get_or-set_other awake block (place / 64) false true other) ∙ sleeps))
-]
+-- where all bits are 1, no gate is without a mark
+pub all_awake : (flags : List Bool) (order words : List ℕ) (n : ℕ) → words ≡ replicate n (2 ^ 64 - 1) → length order ≤ n * 64 → AreAsleep flags order words
+all_awake flags order words n all wide place lt none =
+    let inside : place / 64 < n = omega (arith, wide, lt) in
+    let word : get_or words (place / 64) 0 ≡ 2 ^ 64 - 1 = ap (λ (xs : List ℕ). get_or xs (place / 64) 0) all ∙ get_or-replicate n (place / 64) (2 ^ 64 - 1) 0 inside in
+    let one : bit_of words place ≡ 1 = ap (λ (w : ℕ). bit_at w (place % 64)) word ∙ bit_at_ones 64 (place % 64) (omega arith) in
+    absurd (omega (arith, one, none))

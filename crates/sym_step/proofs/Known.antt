@@ -1,5 +1,5 @@
 -- Sets that have exactly one bit: where all inputs of a gate have, the sums of both lists of its rows are opposites.
-use Rattle.std.proofs.Common.{All, ◌≡◌, ◌≢◌, ◌≤◌, Bool, true, false, not, List, [], ◌∷◌, ℕ, zero, suc, length, map, replicate, refl, sym, ◌∙◌, ap, subst, arith, Contains, Result}
+use Rattle.std.proofs.Common.{All, ◌≡◌, ◌≢◌, ◌≤◌, Bool, true, false, not, List, [], ◌∷◌, ℕ, zero, suc, length, map, replicate, refl, sym, ◌∙◌, ap, subst, arith, Contains, Result, Ok}
 use Rattle.std.specs.Prelude.{◌&&◌, ◌||◌, if◌then◌else◌}
 use Rattle.std.proofs.lemmas.Bool.{false≢true}
 use Rattle.std.proofs.Math.Bool.{not-not}
@@ -10,6 +10,8 @@ use Rattle.dd_nodes.specs.declared.node.Ref.{Ref}
 use Rattle.dd_nodes.specs.Stores.{Store, Means, function}
 use Rattle.dd_ops.specs.Answer.{Answer, xor_bit}
 use Rattle.dd_nodes.specs.Spending.{Has}
+use Rattle.dd_nodes.proofs.Stores.{IsGood}
+use Rattle.dd_ops.proofs.Terminal.{one_bit, zero_bit}
 use Rattle.dd_nodes.proofs.Spending.{Covers, Means-same}
 use Rattle.dd_ops.specs.declared.fault.OpFault.{OpFault}
 use Rattle.net_core.specs.declared.cover.Lit.{Lit}
@@ -20,7 +22,7 @@ use Rattle.net_core.specs.Work.{AreWide, SymbolicSet, factor, negation, some_bit
 use Rattle.net_core.proofs.GateSets.{Choice, rows_choice, choice_rows}
 use Rattle.dual_rail.specs.declared.rails.Rails.{Rails}
 use Rattle.dual_rail.specs.Rail.{AreRails, Built, HasFunction, HasSet}
-use Rattle.dual_rail.proofs.Works.{Built-answer, Built-covers, Built-good}
+use Rattle.dual_rail.proofs.Works.{Built-answer, Built-covers, Built-good, Built-made, So-start}
 use Rattle.sym_step.specs.declared.net_rails.NetRails.{NetRails}
 use Rattle.sym_step.specs.private.NetSets.{AreNetRails}
 use Rattle.sym_step.specs.private.Refused.{agree, choice, differ, exclusive_rows, flipped, list_set, list_work, other_factor}
@@ -159,6 +161,27 @@ opposed s y w b mw known bits l = other_is y w bits (mw.known known bits l)
 
 pub opposed_back : (s : Store) (y : Lit) (w : SymbolicSet) (b : NetRails) → AreNetRails s w b → b.known ≡ true → (bits : List Bool) → length bits ≡ s.vars → factor y w bits ≡ not (other_factor y w bits)
 opposed_back s y w b mw known bits l = opposite_back (factor y w bits) (other_factor y w bits) (opposed s y w b mw known bits l)
+
+-- where the test is a constant, the choice has a reference already
+pub chosen : (s : Store) (x y : Lit) (v w : SymbolicSet) (test refused admitted : Ref) → IsGood s → test.0 ≡ 1 → Means s (factor x v) test → Means s (factor y w) admitted → Means s (other_factor y w) refused
+    → Built (differ x y v w ∷ agree x y v w ∷ []) (HasSet (record { zero = agree x y v w; one = differ x y v w })) s s (Ok (record { can0 = refused; can1 = admitted }))
+chosen s x y v w test refused admitted d e mt ma mr =
+    let work : List Function = differ x y v w ∷ agree x y v w ∷ [] in
+    let asked : (bits : List Bool) → length bits ≡ s.vars → factor x v bits ≡ true = λ bits l. sym (mt.value bits l) ∙ one_bit s test bits d e in
+    Built-made work (HasSet (record { zero = agree x y v w; one = differ x y v w })) s s (record { can0 = refused; can1 = admitted }) (So-start work s) (record {
+      zero = Means-same s (other_factor y w) (agree x y v w) refused (λ bits l. sym (ap (λ (b : Bool). if b then other_factor y w bits else factor y w bits) (asked bits l))) mr;
+      one = Means-same s (factor y w) (differ x y v w) admitted (λ bits l. sym (ap (λ (b : Bool). if b then factor y w bits else other_factor y w bits) (asked bits l))) ma;
+    })
+
+pub passed : (s : Store) (x y : Lit) (v w : SymbolicSet) (test refused admitted : Ref) → IsGood s → test.0 ≡ 0 → Means s (factor x v) test → Means s (factor y w) admitted → Means s (other_factor y w) refused
+    → Built (differ x y v w ∷ agree x y v w ∷ []) (HasSet (record { zero = agree x y v w; one = differ x y v w })) s s (Ok (record { can0 = admitted; can1 = refused }))
+passed s x y v w test refused admitted d e mt ma mr =
+    let work : List Function = differ x y v w ∷ agree x y v w ∷ [] in
+    let asked : (bits : List Bool) → length bits ≡ s.vars → factor x v bits ≡ false = λ bits l. sym (mt.value bits l) ∙ zero_bit s test bits d e in
+    Built-made work (HasSet (record { zero = agree x y v w; one = differ x y v w })) s s (record { can0 = admitted; can1 = refused }) (So-start work s) (record {
+      zero = Means-same s (factor y w) (agree x y v w) admitted (λ bits l. sym (ap (λ (b : Bool). if b then other_factor y w bits else factor y w bits) (asked bits l))) ma;
+      one = Means-same s (other_factor y w) (differ x y v w) refused (λ bits l. sym (ap (λ (b : Bool). if b then factor y w bits else other_factor y w bits) (asked bits l))) mr;
+    })
 
 misses : (x y : Lit) → x ≢ Any → y ≢ Any → (a b : Bool) × (some_matches (exclusive_rows x y) (a ∷ b ∷ []) ≡ false)
 misses Zero Zero p q = (false, true, refl)

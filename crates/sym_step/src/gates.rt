@@ -16,7 +16,7 @@ use crate::rows::CoverRows;
 use crate::sums::rows_sum;
 use dd_nodes::{Nodes, Ref};
 use dd_ops::{OpFault, Ops};
-use dual_rail::{Rails, both, either, opposite};
+use dual_rail::{Rails, are_constant, both, either, opposite};
 use net_core::Lit;
 use std::alloc::Global;
 use ste_base::NodeId;
@@ -60,7 +60,7 @@ fn pair<N: Nodes>(
 }
 
 /// Where one of two literals refuses some bit, `can1` being where both admit some. Where each input has exactly one bit,
-/// and one literal decides alone, nothing is called.
+/// and one literal decides alone, nothing is called; nor is it where both refuse constants.
 fn refused_by_pair<N: Nodes>(
     ops: &Ops,
     nodes: &mut N,
@@ -82,7 +82,7 @@ fn refused_by_pair<N: Nodes>(
 {
     let first = a.other(x);
     let second = b.other(y);
-    if a.known && b.known {
+    if a.known && b.known && !are_constant(first, second) {
         if can1 == a.factor(x) {
             return Ok(first);
         }
@@ -125,7 +125,8 @@ fn only_exclusive(rows: &RowList) -> Option<(Lit, Lit)>
 }
 
 /// The set of an exclusive OR of two inputs that each have exactly one bit, by the literals of its first row: where what the
-/// first one asks differs from what the second one refuses, and where it differs from what the second one asks.
+/// first one asks differs from what the second one refuses, and where it differs from what the second one asks. Where the
+/// first one asks for a constant nothing is called.
 fn exclusive<N: Nodes>(
     ops: &Ops,
     nodes: &mut N,
@@ -146,6 +147,18 @@ fn exclusive<N: Nodes>(
     let test = a.factor(x);
     let admitted = b.factor(y);
     let refused = b.other(y);
+    if test == Ref::TRUE {
+        return Ok(Rails {
+            can0: refused,
+            can1: admitted,
+        });
+    }
+    if test == Ref::FALSE {
+        return Ok(Rails {
+            can0: admitted,
+            can1: refused,
+        });
+    }
     let can1 = ops.xor(nodes, test, refused)?;
     let can0 = ops.xor(nodes, test, admitted)?;
     Ok(Rails { can0, can1 })

@@ -1,8 +1,9 @@
 //! Marks for gates and latches that are due; begin with `Marks`.
 
 ghost use Rattle.std.specs.Prelude.{◌≡◌, ◌≢◌, ◌<◌, ◌≤◌, ◌/◌, ◌*◌, ◌^◌, ℕ, All, AllPairs, IfOk, false, length, replicate, set, slice_index_or, true};
+ghost use Rattle.std.specs.Int.{bit_at};
 ghost use Rattle.std.proofs.Props.{props};
-ghost use Rattle.sym_step.specs.private.Marks.{AreAsleep, AreBlocks, is_awake};
+ghost use Rattle.sym_step.specs.private.Marks.{AreAsleep, ArePlaces, bit_of};
 ghost use Rattle.sym_step.specs.private.Readers.{AreMarked, flag_at};
 
 use std::alloc::{AllocError, Global};
@@ -11,34 +12,69 @@ use std::alloc::{AllocError, Global};
 const BLOCK: usize = 64;
 
 /// A mark for each gate, by number, and behind these one for each latch; and an order of the gates, whose places are cut
-/// into blocks of 64. A block that sleeps has no mark at any of its places, so it is passed over in one look. A gate or
-/// latch takes a byte, and a gate 8 bytes more.
+/// into blocks of 64, with a word of bits for each block. Where the bit of a place is 0 its gate has no mark, so the next
+/// place of a mark is found by words. A gate or latch takes a byte, and a gate 8 bytes and a bit more.
 #[derive(Debug, Drop)]
 pub struct Marks {
     pub(crate) flags: Vec<bool>,
     pub(crate) order: Vec<u32>,
-    /// The block of each gate, by number.
-    blocks: Vec<u32>,
-    /// Whether a block is awake.
-    awake: Vec<bool>,
-    ghost long: { length blocks.items ≡ length order.items },
-    ghost blocked: { AreBlocks order.items blocks.items } by { Prim.hlevel props },
-    ghost asleep: { AreAsleep flags.items order.items awake.items } by { Prim.hlevel props },
+    /// The place of each gate, by number.
+    places: Vec<u32>,
+    /// A word for each block.
+    words: Vec<u64>,
+    ghost long: { length places.items ≡ length order.items },
+    ghost wide: { length order.items ≤ length words.items * 64 },
+    ghost placed: { ArePlaces order.items places.items } by { Prim.hlevel props },
+    ghost asleep: { AreAsleep flags.items order.items words.items } by { Prim.hlevel props },
 }
 
-/// The block of each gate, by number, where the gates have this order.
-fn blocks_of(alloc: Global, order: &[u32]) -> Result<Vec<u32>, AllocError>
+/// The place of each gate, by number, where the gates have this order.
+fn places_of(alloc: Global, order: &[u32]) -> Result<Vec<u32>, AllocError>
     requires inside { All (λ gate. gate < length order.now) order.now }
     requires apart { AllPairs (λ one other. one ≢ other) order.now }
     requires few { length order.now < 2 ^ 32 }
-    ensures long { IfOk result (λ blocks. length blocks.items ≡ length order.now) }
-    ensures blocks { IfOk result (λ blocks. AreBlocks order.now blocks.items) }
+    ensures long { IfOk result (λ places. length places.items ≡ length order.now) }
+    ensures places { IfOk result (λ places. ArePlaces order.now places.items) }
 {
-    let mut blocks = vec![in alloc; 0u32; order.len()]?;
+    let mut places = vec![in alloc; 0u32; order.len()]?;
     for place in 0..order.len() {
-        blocks[order[place] as usize] = (place / BLOCK) as u32;
+        places[order[place] as usize] = place as u32;
     }
-    Ok(blocks)
+    Ok(places)
+}
+
+/// The word with this bit as 1.
+fn with_bit(word: u64, bit: usize) -> u64
+    requires { bit < 64 }
+    ensures here { bit_at result bit ≡ 1 }
+    ensures others { (k : ℕ) → k ≢ bit → bit_at result k ≡ bit_at word k }
+{
+    word | (1u64 << bit)
+}
+
+/// The first bit of the word from one on that is 1, and 64 where there is none.
+fn first_bit(word: u64, from: usize) -> usize
+    requires { from < 64 }
+    ensures behind { from ≤ result }
+    ensures within { result ≤ 64 }
+    ensures clear { (k : ℕ) → from ≤ k → k < result → bit_at word k ≡ 0 }
+{
+    let rest = word >> from;
+    if rest == 0 {
+        return BLOCK;
+    }
+    let found = from + rest.trailing_zeros() as usize;
+    found.min(BLOCK)
+}
+
+/// Takes so many marks away, the first ones.
+fn clear_first(flags: &mut [bool], count: usize)
+    ensures long { length flags.new ≡ length flags.old }
+    ensures cleared { (k : ℕ) → k < count → flag_at flags.new k ≡ false }
+    ensures rest { (k : ℕ) → count ≤ k → flag_at flags.new k ≡ flag_at flags.old k }
+{
+    let (first, _) = flags.split_at_mut(count.min(flags.len()));
+    first.fill(false);
 }
 
 impl Marks {
@@ -53,8 +89,8 @@ impl Marks {
         Ok(Marks {
             flags: vec![in alloc; true; count]?,
             order: order.to_vec(alloc)?,
-            blocks: blocks_of(alloc, order)?,
-            awake: vec![in alloc; true; order.len() / BLOCK + 1]?,
+            places: places_of(alloc, order)?,
+            words: vec![in alloc; u64::MAX; order.len() / BLOCK + 1]?,
         })
     }
 
@@ -64,7 +100,7 @@ impl Marks {
         ensures order { result.order ≡ self.order }
     {
         let mut marks = self;
-        marks.awake.fill(true);
+        marks.words.fill(u64::MAX);
         marks.flags.fill(true);
         marks
     }
@@ -77,26 +113,27 @@ impl Marks {
         self.flags[number]
     }
 
-    /// Wakes the block of a gate, by its number; a latch has none.
+    /// Puts the bit at the place of a gate, by its number; a latch has none.
     fn wake(&mut self, number: usize)
         ensures flags { self.new.flags ≡ self.old.flags }
         ensures order { self.new.order ≡ self.old.order }
         ensures awake { (place : ℕ) → place < length self.old.order.items
             → slice_index_or self.old.order.items place 0 ≡ number
-            → is_awake self.new.awake.items (place / 64) ≡ true }
+            → bit_of self.new.words.items place ≡ 1 }
     {
-        if number >= self.blocks.len() {
+        if number >= self.places.len() {
             return;
         }
-        let block = self.blocks[number] as usize;
-        if block >= self.awake.len() {
+        let place = self.places[number] as usize;
+        let block = place / BLOCK;
+        if block >= self.words.len() {
             return;
         }
-        self.awake[block] = true;
+        self.words[block] = with_bit(self.words[block], place % BLOCK);
     }
 
     /// Marks a gate or latch, by number, where there is a mark for it. One that is marked is not looked at further, since
-    /// its block is awake.
+    /// the bit at its place is 1.
     pub fn mark(&mut self, number: usize)
         ensures long { length self.new.flags.items ≡ length self.old.flags.items }
         ensures order { self.new.order ≡ self.old.order }
@@ -113,8 +150,8 @@ impl Marks {
     pub fn unmark(&mut self, number: usize)
         ensures long { length self.new.flags.items ≡ length self.old.flags.items }
         ensures order { self.new.order ≡ self.old.order }
-        ensures blocks { self.new.blocks ≡ self.old.blocks }
-        ensures awake { self.new.awake ≡ self.old.awake }
+        ensures places { self.new.places ≡ self.old.places }
+        ensures words { self.new.words ≡ self.old.words }
         ensures unmarked { flag_at self.new.flags.items number ≡ false }
         ensures others { (k : ℕ) → k ≢ number
             → flag_at self.new.flags.items k ≡ flag_at self.old.flags.items k }
@@ -123,26 +160,6 @@ impl Marks {
             return;
         }
         self.flags[number] = false;
-    }
-
-    /// The first place of a mark from one place on, up to but not at another one, which is the answer where there is none.
-    fn next_within(&self, from: usize, end: usize) -> usize
-        requires end { end ≤ length self.now.order.items }
-        requires from { from ≤ end }
-        ensures behind { from ≤ result }
-        ensures within { result ≤ end }
-        ensures unmarked { (place : ℕ) → from ≤ place → place < result
-            → flag_at self.now.flags.items (slice_index_or self.now.order.items place 0) ≡ false }
-    {
-        let mut at = from;
-        while at < end {
-            let number = self.order[at] as usize;
-            if number < self.flags.len() && self.flags[number] {
-                return at;
-            }
-            at += 1;
-        }
-        at
     }
 
     /// The first place behind the block of a place.
@@ -158,6 +175,18 @@ impl Marks {
         end.min(self.order.len())
     }
 
+    /// The first place from this one on in its block of which the bit is 1, or one behind the block where there is none.
+    fn next_in_block(&self, at: usize) -> usize
+        requires { at < length self.now.order.items }
+        ensures behind { at ≤ result }
+        ensures unmarked { (place : ℕ) → at ≤ place → place < result
+            → place < length self.now.order.items → place / 64 ≡ at / 64
+            → flag_at self.now.flags.items (slice_index_or self.now.order.items place 0) ≡ false }
+    {
+        let block = at / BLOCK;
+        block * BLOCK + first_bit(self.words[block], at % BLOCK)
+    }
+
     /// The first place from this one on whose gate has a mark, or the number of gates where there is none.
     pub fn next(&self, from: usize) -> usize
         requires { from ≤ length self.now.order.items }
@@ -168,12 +197,10 @@ impl Marks {
     {
         let mut at = from;
         while at < self.order.len() {
+            let found = self.next_in_block(at);
             let end = self.end_of(at);
-            if self.is_awake(at / BLOCK) {
-                let found = self.next_within(at, end);
-                if found < end {
-                    return found;
-                }
+            if found < end {
+                return found;
             }
             at = end;
         }
@@ -188,52 +215,6 @@ impl Marks {
         self.order[place] as usize
     }
 
-    /// Whether a block is awake.
-    fn is_awake(&self, block: usize) -> bool
-        ensures { result ≡ is_awake self.now.awake.items block }
-    {
-        match self.awake.get(block) {
-            Some(flag) => *flag,
-            None => true,
-        }
-    }
-
-    /// Takes the marks of the gates from one place on up to another one away.
-    fn clear_places(&mut self, from: usize, end: usize)
-        requires end { end ≤ length self.old.order.items }
-        ensures long { length self.new.flags.items ≡ length self.old.flags.items }
-        ensures order { self.new.order ≡ self.old.order }
-        ensures blocks { self.new.blocks ≡ self.old.blocks }
-        ensures awake { self.new.awake ≡ self.old.awake }
-        ensures rest { (k : ℕ) → length self.old.order.items ≤ k
-            → flag_at self.new.flags.items k ≡ flag_at self.old.flags.items k }
-        ensures fewer { (k : ℕ) → flag_at self.old.flags.items k ≡ false
-            → flag_at self.new.flags.items k ≡ false }
-        ensures cleared { (place : ℕ) → from ≤ place → place < end
-            → flag_at self.new.flags.items (slice_index_or self.old.order.items place 0) ≡ false }
-    {
-        for at in from..end {
-            let number = self.order[at] as usize;
-            self.unmark(number);
-        }
-    }
-
-    /// Takes the marks of a block away, which then sleeps.
-    fn clear_block(&mut self, block: usize)
-        requires { block * 64 < length self.old.order.items }
-        ensures long { length self.new.flags.items ≡ length self.old.flags.items }
-        ensures order { self.new.order ≡ self.old.order }
-        ensures rest { (k : ℕ) → length self.old.order.items ≤ k
-            → flag_at self.new.flags.items k ≡ flag_at self.old.flags.items k }
-    {
-        let from = block * BLOCK;
-        let end = self.end_of(from);
-        self.clear_places(from, end);
-        if block < self.awake.len() {
-            self.awake[block] = false;
-        }
-    }
-
     /// Takes the marks of all gates away.
     pub fn clear_gates(&mut self)
         ensures long { length self.new.flags.items ≡ length self.old.flags.items }
@@ -241,11 +222,7 @@ impl Marks {
         ensures rest { (k : ℕ) → length self.old.order.items ≤ k
             → flag_at self.new.flags.items k ≡ flag_at self.old.flags.items k }
     {
-        let blocks = self.order.len().div_ceil(BLOCK);
-        for block in 0..blocks {
-            if self.is_awake(block) {
-                self.clear_block(block);
-            }
-        }
+        clear_first(self.flags.as_mut_slice(), self.order.len());
+        self.words.fill(0);
     }
 }

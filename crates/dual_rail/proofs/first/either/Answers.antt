@@ -1,6 +1,11 @@
-use Rattle.std.proofs.Common.{sym, ◌∙◌, eqb-true}
-use Rattle.dual_rail.proofs.Firsts.{or_left_zero, or_right_zero, or_left_one, or_right_one}
+use Rattle.std.proofs.Common.{sym, ◌∙◌, refl, eqb-true}
+use Rattle.dual_rail.proofs.Firsts.{or_most, or_left_zero, or_right_zero, or_left_one, or_right_one}
 use Rattle.dual_rail.proofs.first.either.Goals as goal
+
+pub returns-then-are_constant : goal.returns-then-are_constant
+returns-then-are_constant g c =
+    let low = c.if-are_constant.ensures refl in
+    or_most (g.N.Nodes.store c.args.nodes.now) c.args.a c.args.b (g.met.N.Nodes.diagram c.args.nodes.now) c.requires.left c.requires.right c.max.result low.0 low.1 c.max.ensures
 
 pub returns-then-eq : goal.returns-then-eq
 returns-then-eq g c = or_left_zero (g.N.Nodes.store c.args.nodes.now) c.args.a c.args.b (g.met.N.Nodes.diagram c.args.nodes.now) c.requires.left c.requires.right (eqb-true _ _ (sym c.eq.ensures ∙ c.if-eq.true))

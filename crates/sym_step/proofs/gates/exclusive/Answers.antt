@@ -1,4 +1,4 @@
-use Rattle.std.proofs.Common.{List, [], ◌∷◌, ◌∙◌, Ok, Err, refl, arith}
+use Rattle.std.proofs.Common.{List, [], ◌∷◌, ◌∙◌, Ok, Err, refl, arith, sym, eqb-true}
 use Rattle.dd_nodes.specs.Diagram.{Function}
 use Rattle.dd_nodes.specs.Stores.{Store}
 use Rattle.dd_nodes.proofs.Stores.{Means-keeps}
@@ -7,8 +7,22 @@ use Rattle.dual_rail.specs.Rail.{Built, HasFunction, HasSet}
 use Rattle.dual_rail.proofs.Works.{So-start, Built-made, first, more, pass}
 use Rattle.net_core.specs.Work.{factor}
 use Rattle.sym_step.specs.private.Refused.{agree, differ, other_factor}
-use Rattle.sym_step.proofs.Known.{difference_built, opposed, opposed_back}
+use Rattle.sym_step.proofs.Known.{chosen, difference_built, opposed, opposed_back, passed}
 use Rattle.sym_step.proofs.gates.exclusive.Goals as goal
+
+pub returns-then-eq : goal.returns-then-eq
+returns-then-eq g c = λ v w mv mw.
+    let s : Store = g.N.Nodes.store c.args.nodes.now in
+    let ds = g.met.N.Nodes.diagram c.args.nodes.now in
+    chosen s c.args.x c.args.y v w c.factor-test.result c.other-refused.result c.factor-admitted.result ds (eqb-true _ _ (sym c.eq.ensures ∙ c.if-eq.true))
+    (c.factor-test.ensures.means s v mv) (c.factor-admitted.ensures.means s w mw) (c.other-refused.ensures.means s w ds mw)
+
+pub returns-then-eq-2 : goal.returns-then-eq-2
+returns-then-eq-2 g c = λ v w mv mw.
+    let s : Store = g.N.Nodes.store c.args.nodes.now in
+    let ds = g.met.N.Nodes.diagram c.args.nodes.now in
+    passed s c.args.x c.args.y v w c.factor-test.result c.other-refused.result c.factor-admitted.result ds (eqb-true _ _ (sym c.eq-2.ensures ∙ c.if-eq-2.true))
+    (c.factor-test.ensures.means s v mv) (c.factor-admitted.ensures.means s w mw) (c.other-refused.ensures.means s w ds mw)
 
 pub returns-in_err-can1 : goal.returns-in_err-can1
 returns-in_err-can1 g c = λ v w mv mw.

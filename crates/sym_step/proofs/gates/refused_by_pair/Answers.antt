@@ -28,10 +28,10 @@ returns-then-eq-2 g c = λ v w mv mw m.
     let x = c.args.x in
     let y = c.args.y in
     let sum : Function = disjunction (other_factor x v) (other_factor y w) in
-    let same : c.args.can1.0 ≡ c.factor-then-b.result.0 = eqb-true _ _ (sym c.eq-then-b.ensures ∙ c.if-eq-2.true) in
+    let same : c.args.can1.0 ≡ c.factor-then-not-are_constant.result.0 = eqb-true _ _ (sym c.eq-then-not-are_constant.ensures ∙ c.if-eq-2.true) in
     Built-made (sum ∷ []) (HasFunction sum) s s c.other-second.result (So-start (sum ∷ []) s)
     (Means-same s (other_factor y w) sum c.other-second.result (λ bits l. second_decides x y v w bits (mv.known c.if-a.true bits l) (mw.known c.if-b.true bits l)
-    (sym (m.value bits l) ∙ ap (λ (n : ℕ). function s (record { 0 = n }) bits) same ∙ (c.factor-then-b.ensures.means s w mw).value bits l)) (c.other-second.ensures.means s w gs mw))
+    (sym (m.value bits l) ∙ ap (λ (n : ℕ). function s (record { 0 = n }) bits) same ∙ (c.factor-then-not-are_constant.ensures.means s w mw).value bits l)) (c.other-second.ensures.means s w gs mw))
 
 pub returns : goal.returns
 returns g c = λ v w mv mw m.

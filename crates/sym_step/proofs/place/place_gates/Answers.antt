@@ -191,3 +191,15 @@ pub returns-clause-have : goal.returns-clause-have
 returns-clause-have g c = λ ls ds sets long family zip have. λ id inside none.
     (c.loop-place.invariant.so ls ds sets long family zip have).1 id inside
     (λ k d le m. let count = ap (λ (xs : List Gate). length xs) c.gates.ensures in let long = c.requires.order.long in absurd (omega (arith, count, long, le, m, c.loop-place-test.false)))
+
+pub renew-requires-clause-guards : goal.renew-requires-clause-guards
+renew-requires-clause-guards g c =
+    let s : Store = g.N.Nodes.store c.args.nodes.now in
+    let t : Store = g.N.Nodes.store c.loop-place.nodes in
+    λ i d l. IsFrom-grows s.held t.held 0 _ c.loop-place.invariant.keeps.grows (c.requires.guards i d l)
+
+pub renew-requires-clause-values : goal.renew-requires-clause-values
+renew-requires-clause-values g c =
+    let s : Store = g.N.Nodes.store c.args.nodes.now in
+    let t : Store = g.N.Nodes.store c.loop-place.nodes in
+    λ i d l. IsFrom-grows s.held t.held 0 _ c.loop-place.invariant.keeps.grows (c.requires.values i d l)
