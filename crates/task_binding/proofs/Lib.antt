@@ -1,4 +1,5 @@
 pub mod Alike
 pub mod Bound
+pub mod Known
 pub mod Large
 pub mod Leading

@@ -1,2 +1,3 @@
 -- Definitions that serve private functions.
+pub mod Known
 pub mod Leading

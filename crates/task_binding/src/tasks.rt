@@ -1,36 +1,59 @@
 //! From tasks with names to tasks over nets; begin with `bind_tasks`.
 
-ghost use Rattle.std.specs.Prelude.{◌≡◌, ◌≤◌, map, IfOk};
+ghost use Rattle.std.specs.Prelude.{◌≡◌, ◌≤◌, ◌&&◌, map, IfOk, OnOk};
+ghost use Rattle.std.specs.List.{list_all};
 ghost use Rattle.ste_model.specs.Cells.{all_cells};
 ghost use Rattle.ste_model.specs.Trees.{task_tree};
 ghost use Rattle.task_binding.specs.Answer.{IsAnswer};
 ghost use Rattle.task_binding.specs.Bound.{net_by, task_bound};
+ghost use Rattle.task_binding.specs.Mentions.{mentions_of};
 ghost use Rattle.task_binding.specs.Sizes.{most_cells};
+ghost use Rattle.task_binding.specs.private.Known.{task_known};
+ghost use Rattle.task_binding.specs.private.Leading.{Leads};
 
 use crate::bind::bind_task;
 use crate::fault::BindFault;
 use crate::resolve::Resolve;
 use crate::sizes::first_large;
-use crate::unknown::first_unknown;
+use crate::unknown::{Mention, first_unknown};
 use assert_syntax::{RawTask, RawTasks};
 use std::alloc::{AllocError, Global};
 use ste_base::{Items, copies};
 use ste_model::{Task, Tasks};
 
-/// Tasks over nets, in order.
+/// Tasks over nets, in order; `known` becomes false where a node names none.
 fn bind_each<N: Resolve>(
     alloc: Global,
     names: &N,
+    known: &mut bool,
     tasks: &[RawTask],
 ) -> Result<Items<Task>, AllocError>
-    ensures { IfOk result (λ bound. map task_tree bound
+    ensures bound { IfOk result (λ bound. map task_tree bound
         ≡ map (task_bound (net_by (N.net_of names.now))) tasks.now) }
+    ensures known { OnOk result (known.new
+        ≡ (known.old && list_all (task_known (N.net_of names.now)) tasks.now)) }
 {
     let mut bound = Items::new(alloc);
     for task in tasks {
-        bound.push(bind_task(alloc, names, task)?)?;
+        bound.push(bind_task(alloc, names, known, task)?)?;
     }
     Ok(bound)
+}
+
+/// The first node that names no net, where `known` says whether each names one. Where each does, no name is looked up.
+#[tactic(auto, using(crate::proofs::Known::all_named))]
+fn unknown_unless<N: Resolve>(
+    known: bool,
+    names: &N,
+    tasks: &[RawTask],
+) -> Result<Option<Mention>, AllocError>
+    requires known { known ≡ list_all (task_known (N.net_of names.now)) tasks.now }
+    ensures { IfOk result (λ found. Leads (N.net_of names.now) (mentions_of tasks.now) found) }
+{
+    if known {
+        return Ok(None);
+    }
+    first_unknown(names, tasks)
 }
 
 /// The tasks that were read, over the nets that their nodes name in a netlist of so many nets.
@@ -49,7 +72,9 @@ pub fn bind_tasks<N: Resolve>(
     ensures exact { IsAnswer (N.net_of names.now) nets raw.now result }
     ensures fits { IfOk result (λ tasks. all_cells nets tasks ≤ most_cells) }
 {
-    if let Some(mention) = first_unknown(names, raw.tasks.as_slice())? {
+    let mut known = true;
+    let tasks = bind_each(alloc, names, &mut known, raw.tasks.as_slice())?;
+    if let Some(mention) = unknown_unless(known, names, raw.tasks.as_slice())? {
         return Err(BindFault::UnknownNode {
             line: mention.line,
             name: mention.node,
@@ -60,6 +85,6 @@ pub fn bind_tasks<N: Resolve>(
     }
     Ok(Tasks {
         vars: copies(alloc, raw.vars.as_slice())?,
-        tasks: bind_each(alloc, names, raw.tasks.as_slice())?,
+        tasks,
     })
 }
