@@ -1,29 +1,26 @@
 -- One line more, and what is still to come.
-use Rattle.std.proofs.Common.{ℕ, suc, ◌+◌, ◌<◌, ◌≤◌, ◌≡◌, refl, ap, sym, subst, ◌∙◌, List, [], ◌∷◌, map, length, get_or, drop, arith, true, false, Option, Some, None, Result, Ok, Err, length-append, append-nil}
+use Rattle.std.proofs.Common.{ℕ, ◌+◌, ◌<◌, ◌≤◌, ◌≡◌, refl, ap, sym, subst, ◌∙◌, List, [], ◌∷◌, map, length, get_or, drop, arith, true, false, Option, Some, None, Result, Ok, Err, length-append, append-nil}
 use Rattle.std.proofs.lemmas.List.{drop_more}
 use Rattle.blif_lines.specs.declared.lines.Line.{Line}
-use Rattle.bool_expr.specs.declared.expr.Expr.{Expr}
 use Rattle.assert_syntax.specs.declared.draft.Draft.{Draft}
 use Rattle.assert_syntax.specs.declared.draft.OpenTask.{OpenTask}
 use Rattle.assert_syntax.specs.declared.draft.OpenTask.TheVariants.{Closed, Ste, Gste}
 use Rattle.assert_syntax.specs.declared.fault.TaskFault.{TaskFault}
 use Rattle.assert_syntax.specs.declared.fault.TaskFault.TheVariants.{BadLine, TooDeep, DoubleName, UnknownVar, TooMany, NoTask, OutOfMemory}
-use Rattle.assert_syntax.specs.declared.form.Clause.{Clause}
 use Rattle.assert_syntax.specs.declared.form.Entry.{Entry}
 use Rattle.assert_syntax.specs.declared.form.Form.{Form}
-use Rattle.assert_syntax.specs.declared.form.Form.TheVariants as form
 use Rattle.assert_syntax.specs.declared.form.LineFault.{LineFault}
 use Rattle.assert_syntax.specs.declared.form.LineFault.TheVariants.{Bad, Deep, Double, Unknown, Many}
 use Rattle.assert_syntax.specs.declared.tasks.RawTask.{RawTask}
 use Rattle.assert_syntax.specs.declared.tasks.RawTasks.{RawTasks}
 use Rattle.assert_syntax.specs.Answer.{entry_of, entries_of, IsAnswer}
 use Rattle.assert_syntax.specs.Parses.{Parse, IsParse}
-use Rattle.assert_syntax.specs.Places.{Context, context_behind, context_of, fault_or, first_fault, form_fault, graph_fault, line_fault, may_stand, vertices_behind}
-use Rattle.assert_syntax.specs.Spelled.{task_tree, tasks_of, vars_with, vertex_number}
-use Rattle.assert_syntax.specs.private.Drafts.{HasRoom, IsFault, IsClauseRead, clause_added, edge_added, tasks_closed}
+use Rattle.assert_syntax.specs.Places.{Context, context_behind, context_of, fault_or, first_fault, form_fault, line_fault, may_stand}
+use Rattle.assert_syntax.specs.Spelled.{task_tree, tasks_of, vars_with}
+use Rattle.assert_syntax.specs.private.Drafts.{HasRoom, IsFault, tasks_closed}
 use Rattle.assert_syntax.specs.private.Steps.{IsStep, IsCounted, finish, open_count}
 use Rattle.assert_syntax.proofs.Faults.{fault_from, same_fault, form_decides, bad_place, room_behind}
-use Rattle.assert_syntax.proofs.Growth.{edge_grows, clause_grows, closed}
+use Rattle.assert_syntax.proofs.Growth.{closed}
 use Rattle.assert_syntax.proofs.Whole.{a_parse}
 
 -- nothing is left behind the last
@@ -33,44 +30,6 @@ all_gone (x ∷ xs) = all_gone xs
 
 none_left : {A : Type 0} (xs : List A) (k : ℕ) → k ≡ length xs → drop k xs ≡ []
 none_left xs k same = rw same (all_gone xs)
-
-edge_counts : (c : Context) (task : OpenTask) (line from to : ℕ) → open_count (edge_added task line from to) ≡ open_count task
-edge_counts c Closed line from to = refl
-edge_counts c (Ste head name reset ant con) line from to = refl
-edge_counts c (Gste head name reset edges edge) line from to = refl
-
-clause_counts : (task : OpenTask) (line : ℕ) (clause : Clause) (value guard : Expr) → open_count (clause_added task line clause value guard) ≡ open_count task
-clause_counts Closed line clause value guard = refl
-clause_counts (Ste head name reset ant con) line clause value guard = refl
-clause_counts (Gste head name reset edges edge) line clause value guard = refl
-
--- an edge more
-pub edge_step : (parse : Parse) (c new : Context) (draft : Draft) (line : ℕ) (from to : List ℕ) (a b : ℕ) (next : OpenTask) → graph_fault (vertices_behind (form.Edge from to) c.vertices) (suc c.edges) ≡ None → new ≡ context_behind c (form.Edge from to) → a ≡ vertex_number new.vertices from → b ≡ vertex_number new.vertices to → next ≡ edge_added draft.task line a b → IsStep parse c new draft (record { tasks = draft.tasks; task = next }) (record { line = line; form = form.Edge from to }) (Ok tt)
-edge_step parse c new draft line from to a b next sound n x y t =
-    let vertices = vertices_behind (form.Edge from to) c.vertices in
-    let x2 : a ≡ vertex_number vertices from = x ∙ ap (λ (k : Context). vertex_number k.vertices from) n in
-    let y2 : b ≡ vertex_number vertices to = y ∙ ap (λ (k : Context). vertex_number k.vertices to) n in
-    let t2 : next ≡ edge_added draft.task line (vertex_number vertices from) (vertex_number vertices to) = t ∙ ap (λ k. edge_added draft.task line k b) x2 ∙ ap (edge_added draft.task line (vertex_number vertices from)) y2 in (
-      sound,
-      n,
-      λ rest. ap (λ k. finish parse k (record { tasks = draft.tasks; task = next }) rest) n
-          ∙ ap (λ k. finish parse (context_behind c (form.Edge from to)) (record { tasks = draft.tasks; task = k }) rest) t2
-          ∙ edge_grows parse c draft.tasks draft.task line from to rest,
-      λ h. let e : open_count next ≡ open_count draft.task = ap open_count t ∙ edge_counts c draft.task line a b in
-          let m : length new.names ≡ length c.names = ap (λ (k : Context). length k.names) n in
-          omega (arith, h, e, m),
-    )
-
--- a clause more
-pub clause_step : (parse : Parse) (c : Context) (vars : List (List ℕ)) (draft : Draft) (line : ℕ) (clause : Clause) (both : Expr × Expr) (next : OpenTask) → vars ≡ c.vars → IsClauseRead vars (parse clause.value) (parse clause.guard) clause.span line (Ok both) → next ≡ clause_added draft.task line clause both.0 both.1 → IsStep parse c c draft (record { tasks = draft.tasks; task = next }) (record { line = line; form = form.Clause clause }) (Ok tt)
-clause_step parse c vars draft line clause both next same told t =
-    let read : IsClauseRead c.vars (parse clause.value) (parse clause.guard) clause.span line (Ok both) = subst (λ vs. IsClauseRead vs (parse clause.value) (parse clause.guard) clause.span line (Ok both)) same told in (
-      read.0,
-      refl,
-      λ rest. ap (λ k. finish parse c (record { tasks = draft.tasks; task = k }) rest) t
-          ∙ clause_grows parse c draft.tasks draft.task line clause both.0 both.1 rest read.1 read.2,
-      λ h. let e : open_count next ≡ open_count draft.task = ap open_count t ∙ clause_counts draft.task line clause both.0 both.1 in omega (arith, h, e),
-    )
 
 -- what is still to come decides the first fault, the variables and the tasks
 abbrev pub Decide : Parse → Context → Draft → List Line → List Line → Type 0
