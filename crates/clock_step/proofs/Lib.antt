@@ -3,6 +3,8 @@ pub mod Placed
 pub mod Widths
 pub mod Reading
 pub mod Settling
+pub mod Chains
+pub mod Resettling
 pub mod Simulated
 pub mod OneAnswer
 pub mod WrittenOut

@@ -7,6 +7,8 @@ pub mod inputs;
 pub mod laws;
 mod order;
 pub mod read;
+pub mod readers;
+pub mod resettle;
 mod rows;
 pub mod settle;
 pub mod simulation;

@@ -70,7 +70,7 @@ fn some_matches(bits: &[bool], rows: &[Row], nets: &[NodeId]) -> bool
 }
 
 /// The cover's bit for the bits of these nets, one for each input position. It takes no memory.
-fn cover_bit(bits: &[bool], cover: &Cover, nets: &[NodeId]) -> bool
+pub(crate) fn cover_bit(bits: &[bool], cover: &Cover, nets: &[NodeId]) -> bool
     ensures { result ≡ cover_bit cover.now (map (λ net. bit_at bits.now net.0) nets.now) }
 {
     let some = some_matches(bits, cover.rows.as_slice(), nets);
