@@ -13,7 +13,14 @@ use net_core::Net;
 use ste_base::NodeId;
 
 /// Gives a net its bit. Where it had the other one, the gates that read it are marked.
-fn place(net: &Net, readers: &Readers, node: NodeId, bit: bool, bits: &mut [bool], due: &mut [bool])
+fn place_bit(
+    net: &Net,
+    readers: &Readers,
+    node: NodeId,
+    bit: bool,
+    bits: &mut [bool],
+    due: &mut [bool],
+)
     requires node { node.0 < net.now.raw.nets }
     requires readers { AreReaders net.now.raw net.now.settled readers.now }
     requires long { length bits.old ≡ net.now.raw.nets }
@@ -49,29 +56,29 @@ fn place_nodes(
         due.new }
 {
     for (k, node) in nodes.iter().enumerate() {
-        place(net, readers, *node, row[k], bits, due);
+        place_bit(net, readers, *node, row[k], bits, due);
     }
 }
 
 /// Gives the output of the gate at a place the gate's bit, where the gate is marked, and takes the
 /// mark away.
-fn turn(net: &Net, readers: &Readers, place_of: usize, bits: &mut [bool], due: &mut [bool])
-    requires place { place_of < length net.now.settled }
+fn place_gate(net: &Net, readers: &Readers, place: usize, bits: &mut [bool], due: &mut [bool])
+    requires place { place < length net.now.settled }
     requires readers { AreReaders net.now.raw net.now.settled readers.now }
     requires long { length bits.old ≡ net.now.raw.nets }
     requires due { length due.old ≡ length net.now.settled }
     ensures { (begun : List Bool) →
-        AreTurned net.now.raw net.now.settled place_of begun bits.old due.old →
-        AreTurned net.now.raw net.now.settled (place_of + 1) begun bits.new due.new }
+        AreTurned net.now.raw net.now.settled place begun bits.old due.old →
+        AreTurned net.now.raw net.now.settled (place + 1) begun bits.new due.new }
 {
-    if !due[place_of] {
+    if !due[place] {
         return;
     }
-    due[place_of] = false;
-    let number = net.settled()[place_of] as usize;
+    due[place] = false;
+    let number = net.settled()[place] as usize;
     let gate = &net.gates()[number];
     let bit = cover_bit(bits, net.cover(gate.cover), gate.inputs.as_slice());
-    place(net, readers, gate.output, bit, bits, due);
+    place_bit(net, readers, gate.output, bit, bits, due);
 }
 
 /// Gives the output of each marked gate the gate's bit, one after another.
@@ -81,8 +88,8 @@ fn place_gates(net: &Net, readers: &Readers, bits: &mut [bool], due: &mut [bool]
     ensures { AreTurned net.now.raw net.now.settled (length net.now.settled) bits.old
         bits.new due.new }
 {
-    for place_of in 0..net.settled().len() {
-        turn(net, readers, place_of, bits, due);
+    for place in 0..net.settled().len() {
+        place_gate(net, readers, place, bits, due);
     }
 }
 

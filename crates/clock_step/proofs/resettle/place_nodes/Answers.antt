@@ -16,6 +16,6 @@ loop-k-preserved c =
     let k = c.loop-k.k in
     let node = get_or c.args.nodes.now k zeroth in
     let b = get_or c.args.row.now k false in
-    node_placed net.raw net.settled net.in_order c.args.nodes.now k node c.args.row.now c.args.bits.now c.loop-k.bits c.place.new.bits c.loop-k.due c.place.new.due b c.loop-k-test.true
+    node_placed net.raw net.settled net.in_order c.args.nodes.now k node c.args.row.now c.args.bits.now c.loop-k.bits c.place_bit.new.bits c.loop-k.due c.place_bit.new.due b c.loop-k-test.true
     (get_or_default c.args.nodes.now k zeroth node c.loop-k-test.true) refl
-    c.requires.different c.requires.by_gate c.loop-k.invariant c.place.ensures
+    c.requires.different c.requires.by_gate c.loop-k.invariant c.place_bit.ensures
