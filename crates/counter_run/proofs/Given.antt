@@ -1,18 +1,22 @@
 -- What is known of each run with given bits, time by time; and a run of the same bits is a run with them.
-use Rattle.std.proofs.Common.{◌≡◌, ℕ, zero, suc, ◌<◌, Bool, List, [], ◌∷◌, map, length, get_or, arith, sym, ap, refl, subst, ◌∙◌, eq-eqb, ne_eqb, inl, inr}
+use Rattle.std.proofs.Common.{◌≡◌, ◌≢◌, ℕ, zero, suc, ◌+◌, ◌<◌, ◌≤◌, Bool, List, [], ◌∷◌, map, length, get_or, arith, sym, ap, refl, subst, ◌∙◌, eq-eqb, ne_eqb, inl, inr}
 use Rattle.std.specs.Prelude.{All}
 use Rattle.std.specs.List.{AllZip}
-use Rattle.std.proofs.lemmas.Bool.{cases_eq}
+use Rattle.std.proofs.lemmas.Bool.{cases_eq, cases_lt}
+use Rattle.std.proofs.lemmas.List.{length-map}
 use Rattle.ste_base.specs.declared.id.NodeId.{NodeId}
 use Rattle.net_core.specs.declared.raw.Latch.{Latch}
 use Rattle.net_core.specs.declared.raw.RawNet.{RawNet}
-use Rattle.net_core.specs.Flat.{IsInRange}
+use Rattle.net_core.specs.Flat.{HasOneDriver, IsInRange, IsSettledOrder}
 use Rattle.net_core.specs.Run.{gate_bit}
 use Rattle.net_core.specs.OneRun.{IsGivenRun}
+use Rattle.net_core.proofs.Ordered.{settled_by_order}
+use Rattle.net_core.proofs.Runs.{some_run}
 use Rattle.clock_step.specs.Simulation.{bit_in}
 use Rattle.clock_step.specs.private.Settled.{AreBits, AreDetermined, bit_at}
 use Rattle.clock_step.proofs.Settling.{bits_known}
-use Rattle.counter_run.specs.private.Matrix.{AreSourceNodes, cell}
+use Rattle.counter_run.specs.private.Matrix.{AreSourceNodes, IsMatrix, SameShape, cell}
+use Rattle.counter_run.proofs.Cells.{matrix_as}
 
 -- the bit of a node in a row that has a bit for each node, by its number
 bit_in_map : (nodes : List NodeId) (bit : ℕ → Bool) (id k : ℕ) → k < length nodes → ((d : NodeId) → (get_or nodes k d).0 ≡ id) → bit_in nodes (map (λ node. bit node.0) nodes) id ≡ bit id
@@ -85,3 +89,53 @@ given_as net times items given rows lists first is lists_are first_is h =
     subst (λ (f : List Bool). IsGivenRun net (cell items) f times (cell lists)) first_is
     (subst (λ (g : List (List Bool)). IsGivenRun net (cell g) first times (cell lists)) is
     (subst (λ (r : List (List Bool)). IsGivenRun net (cell given) first times (cell r)) (sym lists_are) h))
+
+-- ---- a run that is completed time by time
+
+-- before time t the bits are those of each run with what is given, later they are what is given, and the latches hold what
+-- the run has next
+pub record AreCompleted (net : RawNet) (times : ℕ) (first : List Bool) (given now : List (List Bool)) (held : List Bool) (t : ℕ) : Type 0 where
+  pub matrix : IsMatrix net.nets times now
+  pub count : length held ≡ length net.latches
+  pub later : (s id : ℕ) → t ≤ s → cell now s id ≡ cell given s id
+  pub done : (run : ℕ → ℕ → Bool) → IsGivenRun net (cell given) first times run → (s id : ℕ) → s < t → id < net.nets → cell now s id ≡ run s id
+  pub holds : (run : ℕ → ℕ → Bool) → IsGivenRun net (cell given) first times run → t < times → held ≡ map (λ latch. run t latch.output.0) net.latches
+
+pub none_completed : (net : RawNet) (times : ℕ) (first held : List Bool) (given : List (List Bool)) → IsMatrix net.nets times given → held ≡ first → length first ≡ length net.latches → AreCompleted net times first given given held 0
+none_completed net times first held given matrix is size = record {
+  matrix = matrix;
+  count = ap length is ∙ size;
+  later = λ s id l. refl;
+  done = λ run h s id l m. absurd (omega arith);
+  holds = λ run h l. is ∙ starts_are (run 0) net.latches first (h.starts l);
+}
+
+-- one time more, with the bits of all nets at it
+pub one_completed : (net : RawNet) (nodes : List NodeId) (times t : ℕ) (first row held shown bits next : List Bool) (given now later : List (List Bool)) → IsInRange net → AreSourceNodes net nodes → t < times → row ≡ map (λ node. cell now t node.0) nodes → shown ≡ held
+    → ((bit : ℕ → Bool) → AreDetermined net nodes row shown bit → AreBits net bit bits) → SameShape now later → ((id : ℕ) → id < length now → cell later t id ≡ bit_at bits id) → ((s id : ℕ) → s ≢ t → cell later s id ≡ cell now s id)
+    → next ≡ map (λ latch. bit_at bits latch.input.0) net.latches → AreCompleted net times first given now held t → AreCompleted net times first given later next (t + 1)
+one_completed net nodes times t first row held shown bits next given now later range sources l row_is shown_is settles shape placed others next_is before =
+    let tall = before.matrix.tall in
+    let known : (run : ℕ → ℕ → Bool) → IsGivenRun net (cell given) first times run → AreBits net (run t) bits = λ run h.
+    settles (run t) (determined net nodes row shown first given now times t sources l row_is (λ id. before.later t id (omega arith)) run h (shown_is ∙ before.holds run h l)) in
+    record {
+      matrix = matrix_as net.nets times now later before.matrix shape;
+      count = ap length next_is ∙ length-map net.latches (λ (latch : Latch). bit_at bits latch.input.0);
+      later = λ s id m. others s id (λ e. absurd (omega (arith, e, m))) ∙ before.later s id (omega (arith, m));
+      done = λ run h s id m n. elim (cases_lt s t) [
+        | inl early ↦ others s id (λ e. absurd (omega (arith, e, early))) ∙ before.done run h s id early n
+        | inr at ↦
+            let same : s ≡ t = omega (arith, at, m) in
+            ap (λ (k : ℕ). cell later k id) same ∙ placed id (omega (arith, tall, n)) ∙ known run h id n ∙ ap (λ (k : ℕ). run k id) (sym same)
+      ];
+      holds = λ run h m.
+          let e : suc t ≡ t + 1 = omega arith in
+          subst (λ (k : ℕ). next ≡ map (λ latch. run k latch.output.0) net.latches) e (held_next net (cell given) first bits next times t range next_is run h (known run h) (omega (arith, m)));
+    }
+
+-- when all times are done the rows are the run
+pub all_completed : (net : RawNet) (order : List ℕ) (times t : ℕ) (first held : List Bool) (given now : List (List Bool)) → IsInRange net → HasOneDriver net → IsSettledOrder net order → length first ≡ length net.latches → times ≤ t
+    → AreCompleted net times first given now held t → IsGivenRun net (cell given) first times (cell now)
+all_completed net order times t first held given now range driver is_order size l completed =
+    let made = some_run net driver (settled_by_order net order is_order) (cell given) first times size in
+    run_as net (cell given) first times made.0 (cell now) range made.1 (λ s id m n. completed.done made.0 made.1 s id (omega (arith, l, m)) n)

@@ -91,5 +91,6 @@ pub source_nodes : (net : RawNet) (nodes : List NodeId) → HasOneDriver net →
 source_nodes net nodes one is = subst (AreSourceNodes net) (sym is) (record {
   within = lower net net.nets;
   different = apart net net.nets;
+  undriven = λ k d l. told net (get_or (undriven_nets net) k d).0 one (all_undriven net net.nets k d l);
   every = λ id l none. every net net.nets id l (tells net id one l none);
 })

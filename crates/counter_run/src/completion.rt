@@ -1,6 +1,6 @@
 //! A run from its inputs and free nets; begin with `complete`.
 
-ghost use Rattle.std.specs.Prelude.{◌≡◌, ◌<◌, OnOk, IfOk, length, map};
+ghost use Rattle.std.specs.Prelude.{◌≡◌, ◌<◌, OnOk, IfOk, length, map, replicate, true};
 ghost use Rattle.net_core.specs.OneRun.{IsGivenRun};
 ghost use Rattle.clock_step.specs.private.Settled.{bit_at};
 ghost use Rattle.ste_model.specs.Runs.{HasRows, run_of};
@@ -10,6 +10,8 @@ use crate::asked::first_bits;
 use crate::matrix::{gather, lists_of, put_column};
 use crate::row::Row;
 use crate::undriven::undriven_nets;
+use clock_step::readers::Readers;
+use clock_step::resettle::resettle;
 use clock_step::settle::{bit_at, settle};
 use net_core::Net;
 use std::alloc::{AllocError, Global};
@@ -65,8 +67,66 @@ fn complete_times(
     Ok(())
 }
 
-/// Gives each net its bit at each time: inputs and free nets, which are among the nodes, keep theirs, the latches begin with
-/// the first bits, and all else follows.
+/// From so many times on a run is worth the lists of which gates read each net.
+const MANY_TIMES: Time = 16;
+
+/// The outputs of the latches.
+fn latch_outputs(alloc: Global, net: &Net) -> Result<Vec<NodeId>, AllocError>
+    ensures { IfOk result (λ outputs. outputs.items
+        ≡ map (λ latch. latch.output) net.now.raw.latches) }
+{
+    net.latches()
+        .iter()
+        .map(|latch| latch.output)
+        .collect(alloc)
+}
+
+/// Gives each net its bit at each time, from what is given, where there are many times: a gate is
+/// looked at where an input has another bit than at the time before. `bits` is a row with a bit
+/// for each net, kept from each time to the next, and `due` has a mark for each gate.
+fn complete_many(
+    alloc: Global,
+    net: &Net,
+    nodes: &[NodeId],
+    times: Time,
+    first: &[bool],
+    rows: &mut [Row],
+    bits: &mut [bool],
+    due: &mut [bool],
+) -> Result<(), AllocError>
+    requires nodes { AreSourceNodes net.now.raw nodes.now }
+    requires first { length first.now ≡ length net.now.raw.latches }
+    requires matrix { IsMatrix net.now.raw.nets times rows.old }
+    requires long { length bits.old ≡ net.now.raw.nets }
+    requires due { due.old ≡ replicate (length net.now.settled) true }
+    ensures matrix { OnOk result (IsMatrix net.now.raw.nets times rows.new) }
+    ensures run { OnOk result (IsGivenRun net.now.raw (cell rows.old) first.now times
+        (cell rows.new)) }
+{
+    let readers = Readers::of_net(alloc, net)?;
+    let outputs = latch_outputs(alloc, net)?;
+    let mut held = copy_of(alloc, first)?;
+    let mut row = Vec::new(alloc);
+    for time in 0..times {
+        gather(rows, nodes, time, &mut row)?;
+        resettle(
+            net,
+            &readers,
+            nodes,
+            &row,
+            outputs.as_slice(),
+            &held,
+            bits,
+            due,
+        );
+        put_column(rows, time, bits);
+        hold_next(net, bits, &mut held)?;
+    }
+    Ok(())
+}
+
+/// Gives each net its bit at each time: inputs and free nets, which are the nodes, keep theirs, the
+/// latches begin with the first bits, and all else follows.
 pub fn complete(
     alloc: Global,
     net: &Net,
@@ -83,7 +143,20 @@ pub fn complete(
         (cell rows.new)) }
 {
     let mut bits = vec![in alloc; false; net.nets() as usize]?;
-    complete_times(alloc, net, nodes, times, first, rows, bits.as_mut_slice())
+    if times < MANY_TIMES {
+        return complete_times(alloc, net, nodes, times, first, rows, bits.as_mut_slice());
+    }
+    let mut due = vec![in alloc; true; net.settled().len()]?;
+    complete_many(
+        alloc,
+        net,
+        nodes,
+        times,
+        first,
+        rows,
+        bits.as_mut_slice(),
+        due.as_mut_slice(),
+    )
 }
 
 /// The run from these rows, which give the bits at inputs and free nets, and those at time 0 of the latches.

@@ -158,6 +158,58 @@ fn rows_of_given_bits(rt: HostRuntime) -> Result<(), Fail> {
     Ok(())
 }
 
+/// The bits at a time, as rows of one bit.
+fn rows_at(alloc: Global, rows: &[Items<bool>], t: usize) -> Result<Vec<Items<bool>>, AllocError> {
+    let mut found = Vec::new(alloc);
+    for row in rows {
+        let mut one = Items::new(alloc);
+        one.push(row.as_slice().get(t).copied().unwrap_or(false))?;
+        found.push(one)?;
+    }
+    Ok(found)
+}
+
+/// Whether a run of 20 times has at each of them the bits of a run of one time, from what the latches hold by then.
+fn is_step_by_step(
+    alloc: Global,
+    net: &Net,
+    inputs: &[Items<bool>],
+    first: &[bool],
+) -> Result<bool, Fail> {
+    let long = run_with(alloc, net, 20, inputs, first)?;
+    let mut held: Vec<bool> = first.iter().copied().collect(alloc)?;
+    for t in 0..20 {
+        let rows = rows_at(alloc, inputs, t)?;
+        let one = run_with(alloc, net, 1, rows.as_slice(), held.as_slice())?;
+        for id in 0..net.nets() as usize {
+            if one.get(2 * id + 1).copied() != long.get(21 * id + t + 1).copied() {
+                return Ok(false);
+            }
+        }
+        held.clear();
+        for latch in net.latches() {
+            held.push(one.get(2 * latch.input.0 as usize + 1).copied() == Some(b'1'))?;
+        }
+    }
+    Ok(true)
+}
+
+#[test]
+fn a_long_run_is_step_by_step(rt: HostRuntime) -> Result<(), Fail> {
+    let alloc = rt.alloc();
+    let net = sample_net(alloc)?;
+    let rows = [
+        bits_of(alloc, b"11011100010111101001")?,
+        bits_of(alloc, b"10101111001010110101")?,
+        bits_of(alloc, b"01100000011100000001")?,
+    ];
+    if is_step_by_step(alloc, &net, &rows, &[false, true, false])? {
+        Ok(())
+    } else {
+        Err("a long run and its times, one by one, differ".into())
+    }
+}
+
 /// The value of the variable, or 1.
 fn asked(variable: bool) -> Expr {
     if variable {

@@ -18,9 +18,10 @@ pub record SameShape (old new : List (List Bool)) : Type 0 where
   pub tall : length new ≡ length old
   pub wide : (id : ℕ) → length (slice_index_or new id []) ≡ length (slice_index_or old id [])
 
--- different nets, among them each that nothing drives
+-- different nets, just those that nothing drives
 pub record AreSourceNodes (net : RawNet) (nodes : List NodeId) : Type 0 where
   pub within : All (λ node. node.0 < net.nets) nodes
   pub different : AllPairs (λ one other. one.0 ≢ other.0) nodes
+  pub undriven : All (λ node. IsUndriven net node.0) nodes
   pub every : (id : ℕ) → id < net.nets → IsUndriven net id →
       (k : ℕ) × (k < length nodes) × ((d : NodeId) → (slice_index_or nodes k d).0 ≡ id)
