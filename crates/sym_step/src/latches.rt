@@ -4,6 +4,7 @@ ghost use Rattle.std.specs.Prelude.{◌≡◌, ◌≢◌, ◌⊎◌, ◌<◌, �
 ghost use Rattle.ste_base.specs.declared.id.NodeId.{NodeId};
 ghost use Rattle.sym_step.specs.private.Frames.{AreCarried, bare, input_rails, mark_count, next_of};
 ghost use Rattle.sym_step.specs.private.Latches.{AreLatchSets, HaveMarks, IsCopied, latch_set};
+ghost use Rattle.sym_step.specs.private.NetSets.{net_at};
 ghost use Rattle.sym_step.specs.private.Readers.{AreReaders, flag_at};
 
 use crate::board::{Board, are_same};
@@ -22,27 +23,52 @@ pub struct LatchSet {
     pub given: NetRails,
 }
 
-/// The sets of all latches, where it is told which they have.
+/// The set of a latch that is told which it has; none where nothing is left to do: its output is not cut, and has the told
+/// set already.
+fn told_set(nets: &[NetRails], marks: &[bool], latch: &Latch, told: Rails) -> Option<LatchSet>
+    requires marked { length marks.now ≡ length nets.now }
+    requires input { latch.now.input.0 < length nets.now }
+    requires output { latch.now.output.0 < length nets.now }
+    ensures some { IfSome result (λ set. set ≡ record {
+      output = latch.now.output;
+      rails = told;
+      given = net_at nets.now latch.now.input.0;
+    }) }
+    ensures none { result ≡ None → (flag_at marks.now latch.now.output.0 ≡ false)
+        × (told ≡ bare (net_at nets.now latch.now.output.0)) }
+{
+    let output = latch.output.0 as usize;
+    let now = nets[output];
+    if !marks[output] && told.can0 == now.can0 && told.can1 == now.can1 {
+        return None;
+    }
+    Some(LatchSet {
+        output: latch.output,
+        rails: told,
+        given: nets[latch.input.0 as usize],
+    })
+}
+
+/// The sets of the latches that do not have theirs yet, where it is told which they have.
 fn told_sets(
     alloc: Global,
     net: &Net,
+    marks: &[bool],
     nets: &[NetRails],
     told: &[Rails],
 ) -> Result<Vec<LatchSet>, AllocError>
     requires nets { length nets.now ≡ net.now.raw.nets }
+    requires marked { length marks.now ≡ net.now.raw.nets }
     requires told { length told.now ≡ length net.now.raw.latches }
-    ensures { IfOk result (λ sets. (asked : List NodeId)
+    ensures { IfOk result (λ sets. (asked : List NodeId) → HaveMarks asked marks.now
         → AreLatchSets net.now.raw told.now asked nets.now sets.items) }
 {
     let latches = net.latches();
-    let mut sets = Vec::with_capacity(alloc, latches.len())?;
+    let mut sets = Vec::new(alloc);
     for l in 0..latches.len() {
-        let latch = &latches[l];
-        sets.push(LatchSet {
-            output: latch.output,
-            rails: told[l],
-            given: nets[latch.input.0 as usize],
-        })?;
+        if let Some(set) = told_set(nets, marks, &latches[l], told[l]) {
+            sets.push(set)?;
+        }
     }
     Ok(sets)
 }
@@ -172,7 +198,7 @@ pub fn latch_sets(
         asked frame.old.board.nets.items sets.items) }
 {
     match frame.first.take() {
-        Some(told) => told_sets(alloc, net, &frame.board.nets, told.as_slice()),
+        Some(told) => told_sets(alloc, net, marks, &frame.board.nets, told.as_slice()),
         None => due_sets(alloc, net, marks, frame.listed, &mut frame.board),
     }
 }
