@@ -1,5 +1,5 @@
 -- Bits at the places of marks.
-use Rattle.std.proofs.Common.{inl, inr, ◌≡◌, ◌≢◌, ◌<◌, ◌≤◌, ◌+◌, ◌-◌, ◌/◌, ◌%◌, ◌^◌, ◌*◌, ◌++◌, ◌∷◌, [], refl, min, ℕ, zero, suc, List, Bool, false, length, replicate, arith, sym, ◌∙◌, ap, get_or, set, w64, shr-shr}
+use Rattle.std.proofs.Common.{inl, inr, ◌≡◌, ◌<◌, ◌≤◌, ◌+◌, ◌-◌, ◌/◌, ◌%◌, ◌^◌, ◌*◌, ◌++◌, ◌∷◌, [], refl, min, ℕ, zero, suc, List, Bool, false, length, replicate, arith, sym, ◌∙◌, ap, get_or, w64, shr-shr}
 use Rattle.std.specs.Int.{bit_at, trailing_zeros}
 use Rattle.std.proofs.lemmas.List.{get_or-replicate, get_or_append_left}
 use Rattle.std.proofs.lemmas.Bool.{cases_lt}

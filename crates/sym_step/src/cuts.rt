@@ -18,13 +18,30 @@ use dd_ops::{OpFault, Ops};
 use dual_rail::{Rails, cut, either, opposite};
 use std::alloc::{AllocError, Global};
 
-/// A mark for each of `nets` nets of which there is a cut.
-pub fn marked(alloc: Global, cuts: &[Cut], nets: u32) -> Result<Vec<bool>, AllocError>
+/// No mark for any of `nets` nets, in this memory where it is that of so many marks.
+fn no_marks(alloc: Global, used: Vec<bool>, nets: u32) -> Result<Vec<bool>, AllocError>
+    ensures { IfOk result (λ marks. length marks.items ≡ nets) }
+{
+    if used.len() != nets as usize {
+        return vec![in alloc; false; nets as usize];
+    }
+    let mut marks = used;
+    marks.fill(false);
+    Ok(marks)
+}
+
+/// A mark for each of `nets` nets of which there is a cut, in this memory where it is that of so many marks.
+pub fn marked(
+    alloc: Global,
+    used: Vec<bool>,
+    cuts: &[Cut],
+    nets: u32,
+) -> Result<Vec<bool>, AllocError>
     requires { All (λ c. c.node.0 < nets) cuts.now }
     ensures long { IfOk result (λ marks. length marks.items ≡ nets) }
     ensures marks { IfOk result (λ marks. AreMarks cuts.now marks.items) }
 {
-    let mut marks = vec![in alloc; false; nets as usize]?;
+    let mut marks = no_marks(alloc, used, nets)?;
     for c in cuts {
         marks[c.node.0 as usize] = true;
     }

@@ -15,6 +15,7 @@ use crate::cut::Cut;
 use crate::marks::Marks;
 use crate::net_rails::NetRails;
 use crate::readers::{Readers, mark_drivers};
+use crate::vectors::Vectors;
 use dd_nodes::Ref;
 use dual_rail::Rails;
 use net_core::{Gate, Latch, Net};
@@ -26,7 +27,7 @@ use ste_base::{Items, NodeId};
 /// latches there. In a blank frame all nets have both bits, and all gates and latches are due. Once times go on from one
 /// another it is listed which gates and latches read a net or drive it, and one is due only where an input or its output has
 /// another set than before, or its output is cut now or was before; any other keeps its output's set. A frame that begins
-/// anew has its lists laid by (`spare`).
+/// anew has its lists laid by (`spare`). `vectors` are used again at each time.
 #[derive(Debug, Drop)]
 pub struct Frame {
     pub(crate) board: Board,
@@ -36,6 +37,7 @@ pub struct Frame {
     pub(crate) spare: Option<Readers>,
     pub(crate) begun: bool,
     pub(crate) listed: bool,
+    pub(crate) vectors: Vectors,
 }
 
 /// As many nets, each with both bits.
@@ -95,6 +97,7 @@ impl Frame {
             spare: None,
             begun: false,
             listed: false,
+            vectors: Vectors::none(alloc),
         })
     }
 
@@ -133,6 +136,7 @@ impl Frame {
             spare,
             begun: _,
             listed,
+            vectors,
         } = self;
         let Board {
             nets,
@@ -154,6 +158,7 @@ impl Frame {
             spare: laid_by(listed, readers, spare),
             begun: false,
             listed: false,
+            vectors,
         }
     }
 
@@ -187,11 +192,15 @@ fn room(alloc: Global, gates: &[Gate]) -> Result<Vec<Ref>, AllocError>
     Ok(products)
 }
 
-/// The nets of which there is a cut.
-pub fn asked_nets(alloc: Global, cuts: &[Cut]) -> Result<Vec<NodeId>, AllocError>
+/// The nets of which there is a cut, in this memory.
+pub fn asked_nets(used: Vec<NodeId>, cuts: &[Cut]) -> Result<Vec<NodeId>, AllocError>
     ensures { IfOk result (λ ids. ids.items ≡ map (λ c. c.node) cuts.now) }
 {
-    cuts.iter().map(|c| c.node).collect::<Vec<NodeId>>(alloc)
+    let mut ids = none_asked(used);
+    for c in cuts {
+        ids.push(c.node)?;
+    }
+    Ok(ids)
 }
 
 /// The sets of the latches' inputs at the time of a frame.

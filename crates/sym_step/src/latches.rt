@@ -1,6 +1,6 @@
 //! The sets that latches get at a time; begin with `latch_sets`.
 
-ghost use Rattle.std.specs.Prelude.{◌≡◌, ◌≢◌, ◌⊎◌, ◌<◌, ℕ, List, IfOk, IfSome, IsTrue, None, OnOk, false, length, map};
+ghost use Rattle.std.specs.Prelude.{◌≡◌, ◌≢◌, ◌⊎◌, ◌<◌, ℕ, List, [], IfOk, IfSome, IsTrue, None, OnOk, false, length, map};
 ghost use Rattle.ste_base.specs.declared.id.NodeId.{NodeId};
 ghost use Rattle.sym_step.specs.private.Frames.{AreCarried, bare, input_rails, mark_count, next_of};
 ghost use Rattle.sym_step.specs.private.Latches.{AreLatchSets, HaveMarks, IsCopied, latch_set};
@@ -12,7 +12,7 @@ use crate::frame::Frame;
 use crate::net_rails::NetRails;
 use dual_rail::Rails;
 use net_core::{Latch, Net};
-use std::alloc::{AllocError, Global};
+use std::alloc::AllocError;
 use ste_base::NodeId;
 
 /// The set that the output of a latch gets, before any cut of it, and the set that the latch's input had at the time before.
@@ -49,9 +49,18 @@ fn told_set(nets: &[NetRails], marks: &[bool], latch: &Latch, told: Rails) -> Op
     })
 }
 
-/// The sets of the latches that do not have theirs yet, where it is told which they have.
+/// No set, in this memory.
+fn no_sets(used: Vec<LatchSet>) -> Vec<LatchSet>
+    ensures { result.items ≡ [] }
+{
+    let mut none = used;
+    none.clear();
+    none
+}
+
+/// The sets of the latches that do not have theirs yet, where it is told which they have, in this memory.
 fn told_sets(
-    alloc: Global,
+    used: Vec<LatchSet>,
     net: &Net,
     marks: &[bool],
     nets: &[NetRails],
@@ -64,7 +73,7 @@ fn told_sets(
         → AreLatchSets net.now.raw told.now asked nets.now sets.items) }
 {
     let latches = net.latches();
-    let mut sets = Vec::new(alloc);
+    let mut sets = no_sets(used);
     for l in 0..latches.len() {
         if let Some(set) = told_set(nets, marks, &latches[l], told[l]) {
             sets.push(set)?;
@@ -131,7 +140,7 @@ fn due_set(
 /// The sets of the due latches that do not have theirs yet: those that their inputs have now. The marks of due latches that
 /// have theirs are taken away, where there are lists.
 fn due_sets(
-    alloc: Global,
+    used: Vec<LatchSet>,
     net: &Net,
     marks: &[bool],
     listed: bool,
@@ -158,7 +167,7 @@ fn due_sets(
 {
     let gates = net.gates().len();
     let latches = net.latches();
-    let mut sets = Vec::new(alloc);
+    let mut sets = no_sets(used);
     for l in 0..latches.len() {
         if let Some(set) = due_set(&latches[l], gates + l, marks, listed, board) {
             sets.push(set)?;
@@ -169,9 +178,9 @@ fn due_sets(
 
 /// The sets of the latches that do not have theirs yet: at a first time those that the frame starts with, which it then has
 /// no longer, and else those that the inputs of the latches have. `marks` has a mark at each net that is cut. All are read
-/// before any is written, since the input of a latch may be the output of another.
+/// before any is written, since the input of a latch may be the output of another. They stand in the memory of `used`.
 pub fn latch_sets(
-    alloc: Global,
+    used: Vec<LatchSet>,
     net: &Net,
     marks: &[bool],
     frame: &mut Frame,
@@ -198,7 +207,7 @@ pub fn latch_sets(
         asked frame.old.board.nets.items sets.items) }
 {
     match frame.first.take() {
-        Some(told) => told_sets(alloc, net, marks, &frame.board.nets, told.as_slice()),
-        None => due_sets(alloc, net, marks, frame.listed, &mut frame.board),
+        Some(told) => told_sets(used, net, marks, &frame.board.nets, told.as_slice()),
+        None => due_sets(used, net, marks, frame.listed, &mut frame.board),
     }
 }

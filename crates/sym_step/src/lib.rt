@@ -23,6 +23,7 @@ pub mod rows;
 mod source;
 mod sums;
 pub mod time;
+mod vectors;
 
 pub use cut::Cut;
 pub use frame::Frame;

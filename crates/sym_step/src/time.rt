@@ -24,11 +24,13 @@ use crate::net_rails::NetRails;
 use crate::place::place_gates;
 use crate::rows::GateRows;
 use crate::source::sources;
+use crate::vectors::Vectors;
 use dd_nodes::{Nodes, Ref};
 use dd_ops::{OpFault, Ops};
 use dual_rail::{Rails, either};
 use net_core::Net;
 use std::alloc::{AllocError, Global};
+use std::mem::replace;
 use ste_base::{Items, NodeId};
 
 /// The sum so far with where one more net is empty. `some` is where it has a bit; nothing is called where that is
@@ -147,11 +149,12 @@ fn set_nets<N: Nodes>(
 }
 
 /// Begins a time: the gates and latches whose outputs are cut now or were before are due, and the result is the sets of the
-/// latches that do not have theirs yet. `marks` has a mark at each net that is cut, and `asked` are these nets. The frame is
-/// then no longer before a first time.
+/// latches that do not have theirs yet, in the memory of `used`. `marks` has a mark at each net that is cut, and `asked` are
+/// these nets. The frame is then no longer before a first time.
 fn begin_time(
     alloc: Global,
     net: &Net,
+    used: Vec<LatchSet>,
     marks: &[bool],
     asked: &[NodeId],
     frame: &mut Frame,
@@ -174,10 +177,71 @@ fn begin_time(
     ensures first { OnOk result (frame.new.first ≡ None) }
 {
     make_due(alloc, net, asked, frame)?;
-    latch_sets(alloc, net, marks, frame)
+    latch_sets(used, net, marks, frame)
 }
 
-/// Gives all nets of a frame their sets. The marks of latches stay for the next time.
+/// Gives all nets of a frame their sets, with these vectors. The marks of latches stay for the next time.
+fn renew_with<N: Nodes>(
+    alloc: Global,
+    ops: &Ops,
+    nodes: &mut N,
+    net: &Net,
+    rows: &GateRows,
+    cuts: &[Cut],
+    vectors: &mut Vectors,
+    frame: &mut Frame,
+) -> Result<(), OpFault>
+    requires rows { rows.now.covers ≡ map rows_of net.now.raw.covers }
+    requires cuts { All (IsCutOf (N.store nodes.old) net.now.raw) cuts.now }
+    requires frame { IsFrame (N.store nodes.old) net.now.raw frame.old }
+    ensures frame { OnOk result (IsFrame (N.store nodes.new) net.now.raw frame.new) }
+    ensures first { OnOk result (frame.new.first ≡ None) }
+    ensures built { (ls : List SymbolicSet) (asked : SymbolicAsked) (sets : ℕ → SymbolicSet)
+        → AllZip (AreRails (N.store nodes.old)) ls (next_of net.now.raw frame.old)
+        → AllZip (IsCutBy (N.store nodes.old)) asked.cuts cuts.now
+        → ArePossibleEach (N.store nodes.old).vars net.now.raw ls asked sets
+        → Built (time_work net.now.raw ls asked sets) Whatever
+        (N.store nodes.old) (N.store nodes.new) result }
+    ensures have { OnOk result (
+        (ls : List SymbolicSet) (asked : SymbolicAsked) (sets : ℕ → SymbolicSet)
+        → AllZip (AreRails (N.store nodes.old)) ls (next_of net.now.raw frame.old)
+        → AllZip (IsCutBy (N.store nodes.old)) asked.cuts cuts.now
+        → ArePossibleEach (N.store nodes.old).vars net.now.raw ls asked sets
+        → HaveNets net.now.raw sets (N.store nodes.new) frame.new.board.nets.items) }
+{
+    let marks = marked(
+        alloc,
+        replace(&mut vectors.marks, Vec::new(alloc)),
+        cuts,
+        net.nets(),
+    )?;
+    let asked = asked_nets(replace(&mut vectors.asked, Vec::new(alloc)), cuts)?;
+    let used = replace(&mut vectors.sets, Vec::new(alloc));
+    let latches = begin_time(alloc, net, used, &marks, &asked, frame)?;
+    set_nets(
+        alloc,
+        ops,
+        nodes,
+        net,
+        rows,
+        &latches,
+        cuts,
+        &marks,
+        &asked,
+        &frame.asked,
+        &mut frame.products,
+        &mut frame.board,
+    )?;
+    frame.board.due.clear_gates();
+    vectors.marks = marks;
+    vectors.asked = replace(&mut frame.asked, Vec::new(alloc));
+    frame.asked = asked;
+    vectors.sets = latches;
+    frame.begun = true;
+    Ok(())
+}
+
+/// Gives all nets of a frame their sets, with the frame's own vectors.
 fn renew_frame<N: Nodes>(
     alloc: Global,
     ops: &Ops,
@@ -205,26 +269,9 @@ fn renew_frame<N: Nodes>(
         → ArePossibleEach (N.store nodes.old).vars net.now.raw ls asked sets
         → HaveNets net.now.raw sets (N.store nodes.new) frame.new.board.nets.items) }
 {
-    let marks = marked(alloc, cuts, net.nets())?;
-    let asked = asked_nets(alloc, cuts)?;
-    let latches = begin_time(alloc, net, &marks, &asked, frame)?;
-    set_nets(
-        alloc,
-        ops,
-        nodes,
-        net,
-        rows,
-        &latches,
-        cuts,
-        &marks,
-        &asked,
-        &frame.asked,
-        &mut frame.products,
-        &mut frame.board,
-    )?;
-    frame.board.due.clear_gates();
-    frame.asked = asked;
-    frame.begun = true;
+    let mut vectors = replace(&mut frame.vectors, Vectors::none(alloc));
+    renew_with(alloc, ops, nodes, net, rows, cuts, &mut vectors, frame)?;
+    frame.vectors = vectors;
     Ok(())
 }
 
