@@ -5,7 +5,7 @@ use Rattle.std.proofs.lemmas.List.{get_or-replicate, get_or_append_left}
 use Rattle.std.proofs.lemmas.Bool.{cases_lt}
 use Rattle.std.proofs.lemmas.Nat.{shr_le}
 use Rattle.std.proofs.lemmas.Nat.Bits.{bit_at-trailing_zeros, bit_at-zero, bit_at_ones}
-use Rattle.sym_step.specs.private.Marks.{AreAsleep, bit_of}
+use Rattle.sym_step.specs.private.Marks.{AreAsleep, AreResting, bit_of}
 use Rattle.sym_step.specs.private.Readers.{flag_at}
 
 -- the bits of a word from one on
@@ -38,10 +38,18 @@ first_cleared filled rest n count same long each k lt = elim (cases_lt k (length
   | inr outside ↦ none_beyond (filled ++ rest) k (omega (arith, same, long, lt, outside))
 ]
 
+one_of_all : (words : List ℕ) (n place : ℕ) → words ≡ replicate n (2 ^ 64 - 1) → place < n * 64 → bit_of words place ≡ 1
+one_of_all words n place all lt =
+    let word : get_or words (place / 64) 0 ≡ 2 ^ 64 - 1 = ap (λ (xs : List ℕ). get_or xs (place / 64) 0) all ∙ get_or-replicate n (place / 64) (2 ^ 64 - 1) 0 (omega (arith, lt)) in
+    ap (λ (w : ℕ). bit_at w (place % 64)) word ∙ bit_at_ones 64 (place % 64) (omega arith)
+
 -- where all bits are 1, no gate is without a mark
 pub all_awake : (flags : List Bool) (order words : List ℕ) (n : ℕ) → words ≡ replicate n (2 ^ 64 - 1) → length order ≤ n * 64 → AreAsleep flags order words
-all_awake flags order words n all wide place lt none =
-    let inside : place / 64 < n = omega (arith, wide, lt) in
-    let word : get_or words (place / 64) 0 ≡ 2 ^ 64 - 1 = ap (λ (xs : List ℕ). get_or xs (place / 64) 0) all ∙ get_or-replicate n (place / 64) (2 ^ 64 - 1) 0 inside in
-    let one : bit_of words place ≡ 1 = ap (λ (w : ℕ). bit_at w (place % 64)) word ∙ bit_at_ones 64 (place % 64) (omega arith) in
-    absurd (omega (arith, one, none))
+all_awake flags order words n all wide place lt none = let one = one_of_all words n place all (omega (arith, wide, lt)) in absurd (omega (arith, one, none))
+
+-- and no latch is
+pub all_resting : (flags : List Bool) (gates : ℕ) (words : List ℕ) (n : ℕ) → words ≡ replicate n (2 ^ 64 - 1) → length flags ≤ gates + n * 64 → AreResting flags gates words
+all_resting flags gates words n all wide l none = elim (cases_lt l (n * 64)) as (λ _. flag_at flags (gates + l) ≡ false) [
+  | inl inside ↦ let one = one_of_all words n l all inside in absurd (omega (arith, one, none))
+  | inr beyond ↦ none_beyond flags (gates + l) (omega (arith, wide, beyond))
+]

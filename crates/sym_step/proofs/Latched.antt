@@ -1,5 +1,5 @@
 -- Latches that are not due, and the sets that the others get.
-use Rattle.std.proofs.Common.{◌≡◌, ◌≢◌, ℕ, ◌+◌, ◌<◌, Bool, true, false, List, [], ◌∷◌, ◌++◌, Option, None, Some, length, map, get_or, refl, sym, ◌∙◌, ap, subst, arith, inl, inr, All}
+use Rattle.std.proofs.Common.{◌≡◌, ◌≢◌, ℕ, ◌+◌, ◌<◌, ◌≤◌, Bool, true, false, List, [], ◌∷◌, ◌++◌, Option, None, Some, length, map, get_or, refl, sym, ◌∙◌, ap, subst, arith, inl, inr, All}
 use Rattle.std.specs.Prelude.{◌⊎◌, IsTrue}
 use Rattle.std.specs.Global.{Vec}
 use Rattle.std.specs.List.{AllZip}
@@ -249,6 +249,19 @@ in_place net asked nets n latch range long lt is uncut_here same = record {
   uncut = uncut_here;
   rails = λ d. next_at net nets n latch d range long lt is ∙ ap bare (sym same);
 }
+
+-- latches without a mark have their sets already
+pub places_to : (net : RawNet) (asked : List NodeId) (board : Board) (sets : List LatchSet) (n m : ℕ) → IsInRange net → length board.nets.items ≡ net.nets → AreCarried net asked board
+    → ((k : ℕ) → n ≤ k → k < m → flag_at board.due.flags.items (length net.gates + k) ≡ false)
+    → ((k : ℕ) (d : Latch) → k < n → k < length net.latches → HasPlace net (map (input_rails (map bare board.nets.items)) net.latches) asked board.nets.items sets k (get_or net.latches k d))
+    → (k : ℕ) (d : Latch) → k < m → k < length net.latches → HasPlace net (map (input_rails (map bare board.nets.items)) net.latches) asked board.nets.items sets k (get_or net.latches k d)
+places_to net asked board sets n m range long carried none before k d lt within = elim (cases_lt k n) [
+  | inl early ↦ before k d early within
+  | inr late ↦
+      let latch : Latch = get_or net.latches k d in
+      let h = carried k d within (none k late lt) in
+      inr (in_place net asked board.nets.items k latch range long within (get_or_default net.latches k d latch within) h.uncut h.same)
+]
 
 carried_same : (asked : List NodeId) (old new : Board) (k : ℕ) (latch : Latch) → new.nets ≡ old.nets → new.readers ≡ old.readers → IsCarried asked old k latch → IsCarried asked new k latch
 carried_same asked old new k latch nets readers h = record {

@@ -148,6 +148,7 @@ fn due_sets(
 ) -> Result<Vec<LatchSet>, AllocError>
     requires nets { length board.old.nets.items ≡ net.now.raw.nets }
     requires due { length board.old.due.flags.items ≡ mark_count net.now.raw }
+    requires gates { length board.old.due.order.items ≡ length net.now.raw.gates }
     requires marked { length marks.now ≡ net.now.raw.nets }
     requires lists { IsTrue listed → AreReaders net.now.raw board.old.readers }
     ensures nets { board.new.nets ≡ board.old.nets }
@@ -168,10 +169,12 @@ fn due_sets(
     let gates = net.gates().len();
     let latches = net.latches();
     let mut sets = no_sets(used);
-    for l in 0..latches.len() {
+    let mut l = board.due.next_latch(0, latches.len());
+    while l < latches.len() {
         if let Some(set) = due_set(&latches[l], gates + l, marks, listed, board) {
             sets.push(set)?;
         }
+        l = board.due.next_latch(l + 1, latches.len());
     }
     Ok(sets)
 }
@@ -187,6 +190,7 @@ pub fn latch_sets(
 ) -> Result<Vec<LatchSet>, AllocError>
     requires nets { length frame.old.board.nets.items ≡ net.now.raw.nets }
     requires due { length frame.old.board.due.flags.items ≡ mark_count net.now.raw }
+    requires gates { length frame.old.board.due.order.items ≡ length net.now.raw.gates }
     requires marked { length marks.now ≡ net.now.raw.nets }
     requires first { length (next_of net.now.raw frame.old) ≡ length net.now.raw.latches }
     requires lists { IsTrue frame.old.listed → AreReaders net.now.raw frame.old.board.readers }

@@ -1,9 +1,9 @@
 //! Marks for gates and latches that are due; begin with `Marks`.
 
-ghost use Rattle.std.specs.Prelude.{◌≡◌, ◌≢◌, ◌<◌, ◌≤◌, ◌/◌, ◌*◌, ◌^◌, ℕ, All, AllPairs, IfOk, false, length, replicate, set, slice_index_or, true};
+ghost use Rattle.std.specs.Prelude.{◌≡◌, ◌≢◌, ◌<◌, ◌≤◌, ◌/◌, ◌+◌, ◌*◌, ◌^◌, ℕ, All, AllPairs, IfOk, false, length, replicate, set, slice_index_or, true};
 ghost use Rattle.std.specs.Int.{bit_at};
 ghost use Rattle.std.proofs.Props.{props};
-ghost use Rattle.sym_step.specs.private.Marks.{AreAsleep, ArePlaces, bit_of};
+ghost use Rattle.sym_step.specs.private.Marks.{AreAsleep, ArePlaces, AreResting, bit_of};
 ghost use Rattle.sym_step.specs.private.Readers.{AreMarked, flag_at};
 
 use std::alloc::{AllocError, Global};
@@ -12,20 +12,25 @@ use std::alloc::{AllocError, Global};
 const BLOCK: usize = 64;
 
 /// A mark for each gate, by number, and behind these one for each latch; and an order of the gates, whose places are cut
-/// into blocks of 64, with a word of bits for each block. Where the bit of a place is 0 its gate has no mark, so the next
-/// place of a mark is found by words. A gate or latch takes a byte, and a gate 8 bytes and a bit more.
+/// into blocks of 64, with a word of bits for each block, as are the latches. Where the bit of a place is 0 its gate has no
+/// mark, and where that of a latch is 0 the latch has none, so the next mark is found by words. A gate or latch takes a byte
+/// and a bit, and a gate 8 bytes more.
 #[derive(Debug, Drop)]
 pub struct Marks {
     pub(crate) flags: Vec<bool>,
     pub(crate) order: Vec<u32>,
     /// The place of each gate, by number.
     places: Vec<u32>,
-    /// A word for each block.
+    /// A word for each block of places.
     words: Vec<u64>,
+    /// A word for each block of latches.
+    latches: Vec<u64>,
     ghost long: { length places.items ≡ length order.items },
     ghost wide: { length order.items ≤ length words.items * 64 },
     ghost placed: { ArePlaces order.items places.items } by { Prim.hlevel props },
     ghost asleep: { AreAsleep flags.items order.items words.items } by { Prim.hlevel props },
+    ghost held: { length flags.items ≤ length order.items + length latches.items * 64 },
+    ghost resting: { AreResting flags.items (length order.items) latches.items } by { Prim.hlevel props },
 }
 
 /// The place of each gate, by number, where the gates have this order.
@@ -50,6 +55,14 @@ fn with_bit(word: u64, bit: usize) -> u64
     ensures others { (k : ℕ) → k ≢ bit → bit_at result k ≡ bit_at word k }
 {
     word | (1u64 << bit)
+}
+
+/// The word with this bit as 0.
+fn without_bit(word: u64, bit: usize) -> u64
+    requires { bit < 64 }
+    ensures { (k : ℕ) → k < 64 → k ≢ bit → bit_at result k ≡ bit_at word k }
+{
+    word & !(1u64 << bit)
 }
 
 /// The first bit of the word from one on that is 1, and 64 where there is none.
@@ -91,6 +104,7 @@ impl Marks {
             order: order.to_vec(alloc)?,
             places: places_of(alloc, order)?,
             words: vec![in alloc; u64::MAX; order.len() / BLOCK + 1]?,
+            latches: vec![in alloc; u64::MAX; count / BLOCK + 1]?,
         })
     }
 
@@ -101,6 +115,7 @@ impl Marks {
     {
         let mut marks = self;
         marks.words.fill(u64::MAX);
+        marks.latches.fill(u64::MAX);
         marks.flags.fill(true);
         marks
     }
@@ -113,15 +128,52 @@ impl Marks {
         self.flags[number]
     }
 
-    /// Puts the bit at the place of a gate, by its number; a latch has none.
+    /// Puts the bit of a latch.
+    fn wake_latch(&mut self, latch: usize)
+        ensures flags { self.new.flags ≡ self.old.flags }
+        ensures order { self.new.order ≡ self.old.order }
+        ensures words { self.new.words ≡ self.old.words }
+        ensures awake { latch < length self.old.latches.items * 64
+            → bit_of self.new.latches.items latch ≡ 1 }
+        ensures long { length self.new.latches.items ≡ length self.old.latches.items }
+    {
+        let block = latch / BLOCK;
+        if block >= self.latches.len() {
+            return;
+        }
+        self.latches[block] = with_bit(self.latches[block], latch % BLOCK);
+    }
+
+    /// Takes the bit of a latch that has no mark away.
+    fn rest_latch(&mut self, latch: usize)
+        requires { flag_at self.old.flags.items (length self.old.order.items + latch) ≡ false }
+        ensures flags { self.new.flags ≡ self.old.flags }
+        ensures order { self.new.order ≡ self.old.order }
+        ensures places { self.new.places ≡ self.old.places }
+        ensures words { self.new.words ≡ self.old.words }
+    {
+        let block = latch / BLOCK;
+        if block >= self.latches.len() {
+            return;
+        }
+        self.latches[block] = without_bit(self.latches[block], latch % BLOCK);
+    }
+
+    /// Puts the bit at the place of a gate, by its number, or that of a latch.
     fn wake(&mut self, number: usize)
         ensures flags { self.new.flags ≡ self.old.flags }
         ensures order { self.new.order ≡ self.old.order }
         ensures awake { (place : ℕ) → place < length self.old.order.items
             → slice_index_or self.old.order.items place 0 ≡ number
             → bit_of self.new.words.items place ≡ 1 }
+        ensures latch { (l : ℕ) → length self.old.order.items + l ≡ number
+            → l < length self.new.latches.items * 64
+            → bit_of self.new.latches.items l ≡ 1 }
+        ensures long { length self.new.latches.items ≡ length self.old.latches.items }
     {
-        if number >= self.places.len() {
+        let gates = self.places.len();
+        if number >= gates {
+            self.wake_latch(number - gates);
             return;
         }
         let place = self.places[number] as usize;
@@ -160,6 +212,32 @@ impl Marks {
             return;
         }
         self.flags[number] = false;
+        let gates = self.order.len();
+        if number >= gates {
+            self.rest_latch(number - gates);
+        }
+    }
+
+    /// The first latch from this one on that has a mark, of so many latches, or their number where there is none.
+    pub fn next_latch(&self, from: usize, count: usize) -> usize
+        requires from { from ≤ count }
+        requires count { length self.now.order.items + count ≤ length self.now.flags.items }
+        ensures behind { from ≤ result }
+        ensures within { result ≤ count }
+        ensures unmarked { (l : ℕ) → from ≤ l → l < result
+            → flag_at self.now.flags.items (length self.now.order.items + l) ≡ false }
+    {
+        let mut at = from;
+        while at < count {
+            let block = at / BLOCK;
+            let found = block * BLOCK + first_bit(self.latches[block], at % BLOCK);
+            let end = ((block + 1) * BLOCK).min(count);
+            if found < end {
+                return found;
+            }
+            at = end;
+        }
+        at
     }
 
     /// The first place behind the block of a place.

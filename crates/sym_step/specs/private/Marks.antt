@@ -1,5 +1,5 @@
 -- For private functions. Marks for gates, and bits at their places.
-use Rattle.std.specs.Prelude.{◌≡◌, ◌<◌, ◌/◌, ◌%◌, Bool, false, ℕ, List, length, slice_index_or}
+use Rattle.std.specs.Prelude.{◌≡◌, ◌<◌, ◌+◌, ◌/◌, ◌%◌, Bool, false, ℕ, List, length, slice_index_or}
 use Rattle.std.specs.Int.{bit_at}
 use Rattle.sym_step.specs.private.Readers.{flag_at}
 
@@ -19,3 +19,7 @@ ArePlaces order places = (place : ℕ) → place < length order → IsPlace orde
 abbrev pub AreAsleep : List Bool → List ℕ → List ℕ → Type 0
 AreAsleep flags order words =
     (place : ℕ) → place < length order → bit_of words place ≡ 0 → flag_at flags (slice_index_or order place 0) ≡ false
+
+-- no latch has a mark whose bit is 0, the marks of latches being behind those of so many gates
+abbrev pub AreResting : List Bool → ℕ → List ℕ → Type 0
+AreResting flags gates words = (l : ℕ) → bit_of words l ≡ 0 → flag_at flags (gates + l) ≡ false

@@ -1,4 +1,4 @@
-use Rattle.std.proofs.Common.{◌≡◌, ◌+◌, ◌<◌, ℕ, List, Option, None, Some, ap, arith, get_or, inl, inr, length, map, subst, sym, ◌∙◌, false}
+use Rattle.std.proofs.Common.{◌≡◌, ◌≢◌, ◌+◌, ◌<◌, ◌≤◌, ℕ, All, refl, List, Option, None, Some, ap, arith, get_or, inl, inr, length, map, subst, sym, ◌∙◌, false}
 use Rattle.std.specs.Prelude.{◌⊎◌, IfSome, IsTrue}
 use Rattle.std.specs.Global.{Vec}
 use Rattle.std.proofs.lemmas.List.{get_or_default}
@@ -11,12 +11,34 @@ use Rattle.sym_step.specs.declared.board.Board.{Board}
 use Rattle.sym_step.specs.declared.latches.LatchSet.{LatchSet}
 use Rattle.sym_step.specs.declared.net_rails.NetRails.{NetRails}
 use Rattle.sym_step.specs.private.Frames.{AreCarried, IsCarried, bare, input_rails}
-use Rattle.sym_step.specs.private.Latches.{HaveMarks, IsCopied, IsInPlace, latch_set}
+use Rattle.sym_step.specs.private.Latches.{HaveMarks, IsCopied, IsInPlace, IsSetOf, latch_set}
 use Rattle.sym_step.specs.private.NetSets.{net_at}
 use Rattle.sym_step.specs.private.Readers.{AreReaders, flag_at}
-use Rattle.sym_step.proofs.Latched.{Grows, carried_next, in_place, next_at, own_next, own_set, places_next}
+use Rattle.sym_step.proofs.Latched.{Grows, carried_next, in_place, next_at, own_next, own_set, places_next, places_to}
 use Rattle.sym_step.proofs.latches.due_sets.Goals as goal
 use Rattle.sym_step.proofs.latches.due_sets.Goals.{in-Some+in_ok-push, in_default}
+
+pub loop-l-init : goal.loop-l-init
+loop-l-init c =
+    let net = c.args.net.now in
+    let first : Board = c.args.board.now in
+    let next : List Rails = map (input_rails (map bare first.nets.items)) net.raw.latches in
+    let q = c.next_latch-l.ensures in
+    let same = ap (λ (xs : List Latch). length xs) c.latches-latches.ensures in
+    record {
+      within = omega (arith, same, q.within);
+      nets = refl;
+      readers = refl;
+      full = refl;
+      order = refl;
+      long = refl;
+      rest = λ k away. refl;
+      own = subst (All (IsSetOf net.raw next first.nets.items)) (sym c.no_sets-sets.ensures) (λ k d lt. absurd (omega (arith, lt)));
+      each = λ asked have was.
+          places_to net.raw asked first c.no_sets-sets.result.items 0 c.next_latch-l.result net.in_range c.requires.nets was
+          (λ k le lt. subst (λ (m : ℕ). flag_at first.due.flags.items (m + k) ≡ false) c.requires.gates (q.unmarked k le lt)) (λ k d lt. absurd (omega (arith, lt)));
+      carried = λ asked have was. was;
+    }
 
 pub loop-l-preserved : goal.loop-l-preserved
 loop-l-preserved c =
@@ -54,19 +76,27 @@ loop-l-preserved c =
           in_place net.raw asked nets n latch net.in_range c.requires.nets inside is (have latch.output.0 copied.0)
           (subst (λ (v : Vec NetRails). net_at v.items latch.output.0 ≡ net_at v.items latch.input.0) inv.nets copied.1)
     ] in
+    let q = c.next_latch-l-in-loop-l.ensures in
+    let rest : (k : ℕ) → ((j : ℕ) → j < n + 1 → k ≢ gates + j) → flag_at new.due.flags.items k ≡ flag_at first.due.flags.items k =
+    λ k away. p.others k (λ e. away n (omega arith) (e ∙ ap (λ (m : ℕ). m + n) same_gates)) ∙ inv.rest k (λ j lt. away j (omega (arith, lt))) in
+    let count : length new.due.order.items ≡ gates = ap (λ (v : Vec ℕ). length v.items) (p.order ∙ inv.order) ∙ c.requires.gates in
+    let none : (k : ℕ) → n + 1 ≤ k → k < c.next_latch-l-in-loop-l.result → flag_at first.due.flags.items (gates + k) ≡ false =
+    λ k le lt. sym (rest (gates + k) (λ j less same. absurd (omega (arith, less, same, le)))) ∙ subst (λ (m : ℕ). flag_at new.due.flags.items (m + k) ≡ false) count (q.unmarked k le lt) in
     record {
+      within = let same = ap (λ (xs : List Latch). length xs) c.latches-latches.ensures in omega (arith, same, q.within);
       nets = p.nets ∙ inv.nets;
       readers = p.readers ∙ inv.readers;
       full = p.full ∙ inv.full;
       order = p.order ∙ inv.order;
       long = p.long ∙ inv.long;
-      rest = λ k away. p.others k (λ e. away n (omega arith) (e ∙ ap (λ (m : ℕ). m + n) same_gates)) ∙ inv.rest k (λ j lt. away j (omega (arith, lt)));
+      rest = λ k away. rest k (λ j lt. away j (omega (arith, lt, q.behind)));
       own = own_next net.raw next nets c.due_set.result sets more grows
           (λ set e. own_set net.raw next nets n latch set inside is (ap (λ (x : LatchSet). x.output) (some_is set e))
           (λ d. next_at net.raw nets n latch d net.in_range c.requires.nets inside is ∙ ap (λ (x : LatchSet). x.rails) (sym (some_is set e)))
           (ap (λ (x : LatchSet). x.given) (sym (some_is set e)))) inv.own;
       each = λ asked have was.
-          places_next net.raw next asked nets c.due_set.result sets more n latch inside is grows (λ set e. ap (λ (x : LatchSet). x.output) (some_is set e)) (place asked have was) (inv.each asked have was);
+          places_to net.raw asked first more (n + 1) c.next_latch-l-in-loop-l.result net.in_range c.requires.nets was none
+          (places_next net.raw next asked nets c.due_set.result sets more n latch inside is grows (λ set e. ap (λ (x : LatchSet). x.output) (some_is set e)) (place asked have was) (inv.each asked have was));
       carried = λ asked have was.
           carried_next net.raw asked marks c.args.listed old new n latch inside is have (λ told. subst (AreReaders net.raw) (sym inv.readers) (c.requires.lists told)) p.nets p.readers
           (λ k away. p.others k (λ e. away (e ∙ ap (λ (m : ℕ). m + n) same_gates)))

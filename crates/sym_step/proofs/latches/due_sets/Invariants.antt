@@ -1,4 +1,4 @@
-use Rattle.std.proofs.Common.{◌≡◌, ◌≢◌, ◌+◌, ◌<◌, ℕ, List, All, get_or, length, map}
+use Rattle.std.proofs.Common.{◌≡◌, ◌≢◌, ◌+◌, ◌<◌, ◌≤◌, ◌-◌, ℕ, List, All, get_or, length, map}
 use Rattle.std.specs.Prelude.{◌⊎◌}
 use Rattle.ste_base.specs.declared.id.NodeId.{NodeId}
 use Rattle.net_core.specs.declared.raw.Latch.{Latch}
@@ -10,6 +10,7 @@ use Rattle.sym_step.proofs.latches.due_sets.Given as goal
 -- the sets of those of the first latches that do not have theirs yet; the marks of all others are as they were
 abbrev pub invariant-loop-l : goal.invariant-loop-l
 invariant-loop-l l = record {
+  within : l.l ≤ length l.net.raw.latches;
   nets : l.board.nets ≡ l.fn.board.nets;
   readers : l.board.readers ≡ l.fn.board.readers;
   full : l.board.full ≡ l.fn.board.full;
@@ -21,3 +22,6 @@ invariant-loop-l l = record {
       → IsAmong l.sets.items (get_or l.net.raw.latches k d).output.0 ⊎ IsInPlace (map (input_rails (map bare l.fn.board.nets.items)) l.net.raw.latches) asked l.fn.board.nets.items k (get_or l.net.raw.latches k d);
   carried : (asked : List NodeId) → HaveMarks asked l.marks → AreCarried l.net.raw asked l.fn.board → AreCarried l.net.raw asked l.board;
 }
+
+abbrev pub decreases-loop-l : goal.decreases-loop-l
+decreases-loop-l l = length l.latches - l.l

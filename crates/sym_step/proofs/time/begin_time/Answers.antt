@@ -63,3 +63,6 @@ returns-clause-given c =
     subst (λ (v : Vec NetRails). AreGiven s net ls family sets.items v.items) (sym c.latch_sets.ensures.nets)
     (frame_given net c.args.net.now.in_range c.args.net.now.one_driver ls demands.cuts family s frame cuts asked sets.items p.0 (subst (λ (next : List Rails). AllZip (AreRails s) ls next) (sym same) zip) possible zipc is (are asked c.requires.marks p.2)))
     c.latch_sets.ensures.sets
+
+pub latch_sets-requires-clause-gates : goal.latch_sets-requires-clause-gates
+latch_sets-requires-clause-gates c = (c.in_ok-make_due.ensures.frame c.requires.frame.0 c.requires.frame.1).0.order.long
