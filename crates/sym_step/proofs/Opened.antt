@@ -155,11 +155,15 @@ module _ (net : RawNet) (range : IsInRange net) (one : HasOneDriver net) (ls : L
   open_before id (inl e) = before_by net ls sets id Input (sym e)
   open_before id (inr e) = before_by net ls sets id Free (sym e)
 
+  -- a net that is not cut now is among those that are left where it was among the old ones
+  abbrev IsLeft : List NodeId → List NodeId → List NodeId → Type 0
+  IsLeft asked old before = (id : ℕ) → is_listed asked id ≡ false → is_listed before id ≡ is_listed old id
+
   -- a net that nothing drives, now or before
-  open_has : (s t u v : Store) (cuts : List Cut) (before : List NodeId) (xs ys zs ws : List NetRails) → IsGood s → IsGood v → Keeps s t → ArePossibleEach s.vars net ls (asks ds) sets → AllZip (IsCutBy s) ds cuts
-      → AreOpen s net before xs → StayRight sets s xs t ys → HaveOpen net sets u before (length before) zs → StayRight sets t ys u zs
+  open_has : (s t u v : Store) (cuts : List Cut) (old before : List NodeId) (xs ys zs ws : List NetRails) → IsGood s → IsGood v → Keeps s t → ArePossibleEach s.vars net ls (asks ds) sets → AllZip (IsCutBy s) ds cuts
+      → AreOpen s net old xs → IsLeft (map (λ (c : Cut). c.node) cuts) old before → StayRight sets s xs t ys → HaveOpen net sets u before (length before) zs → StayRight sets t ys u zs
       → HaveOpen net sets v (map (λ (c : Cut). c.node) cuts) (length (map (λ (c : Cut). c.node) cuts)) ws → StayRight sets u zs v ws → (id : ℕ) → id < net.nets → IsOpen net id → AreNetRails v (sets id) (net_at ws id)
-  open_has s t u v cuts before xs ys zs ws gs gv kst family zip was to_t have_before to_u have_now to_v id lt is =
+  open_has s t u v cuts old before xs ys zs ws gs gv kst family zip was left to_t have_before to_u have_now to_v id lt is =
       by (is_listed asked id) refl (is_listed before id) refl
     where
       asked : List NodeId
@@ -176,17 +180,17 @@ module _ (net : RawNet) (range : IsInRange net) (one : HasOneDriver net) (ls : L
           let at = listed_at before id f in
           to_v id (subst (λ (i : ℕ). AreNetRails u (sets i) (net_at zs i)) (at.2 d0) (have_before at.0 d0 at.1 at.1 (subst (IsOpen net) (sym (at.2 d0)) is)))
       by false e false f =
-          let here : AreNetRails s (after_cuts ds (uncut net ls sets) id) (net_at xs id) = subst (λ (w : SymbolicSet). AreNetRails s w (net_at xs id)) (sym (unlisted s ds cuts id (uncut net ls sets) zip e ∙ open_before id is)) (was id lt is f) in
+          let here : AreNetRails s (after_cuts ds (uncut net ls sets) id) (net_at xs id) = subst (λ (w : SymbolicSet). AreNetRails s w (net_at xs id)) (sym (unlisted s ds cuts id (uncut net ls sets) zip e ∙ open_before id is)) (was id lt is (sym (left id e) ∙ f)) in
           to_v id (to_u id (to_t id (set_is s s id (net_at xs id) (Keeps-refl s) family here)))
 
-  pub all_sources : (s t u v : Store) (cuts : List Cut) (before : List NodeId) (xs ys zs ws : List NetRails) → IsGood s → IsGood v → Keeps s t → ArePossibleEach s.vars net ls (asks ds) sets → AllZip (IsCutBy s) ds cuts
-      → AreOpen s net before xs → HaveLatches net sets t (length net.latches) ys → StayRight sets s xs t ys → HaveOpen net sets u before (length before) zs → StayRight sets t ys u zs
+  pub all_sources : (s t u v : Store) (cuts : List Cut) (old before : List NodeId) (xs ys zs ws : List NetRails) → IsGood s → IsGood v → Keeps s t → ArePossibleEach s.vars net ls (asks ds) sets → AllZip (IsCutBy s) ds cuts
+      → AreOpen s net old xs → IsLeft (map (λ (c : Cut). c.node) cuts) old before → HaveLatches net sets t (length net.latches) ys → StayRight sets s xs t ys → HaveOpen net sets u before (length before) zs → StayRight sets t ys u zs
       → HaveOpen net sets v (map (λ (c : Cut). c.node) cuts) (length (map (λ (c : Cut). c.node) cuts)) ws → StayRight sets u zs v ws → HaveSources net sets v net.nets ws
-  all_sources s t u v cuts before xs ys zs ws gs gv kst family zip was latches to_t have_before to_u have_now to_v id lt source = by (source_of net id) refl
+  all_sources s t u v cuts old before xs ys zs ws gs gv kst family zip was left latches to_t have_before to_u have_now to_v id lt source = by (source_of net id) refl
     where
       by : (src : Source) → src ≡ source_of net id → AreNetRails v (sets id) (net_at ws id)
-      by Input e = open_has s t u v cuts before xs ys zs ws gs gv kst family zip was to_t have_before to_u have_now to_v id lt (inl (sym e))
-      by Free e = open_has s t u v cuts before xs ys zs ws gs gv kst family zip was to_t have_before to_u have_now to_v id lt (inr (sym e))
+      by Input e = open_has s t u v cuts old before xs ys zs ws gs gv kst family zip was left to_t have_before to_u have_now to_v id lt (inl (sym e))
+      by Free e = open_has s t u v cuts old before xs ys zs ws gs gv kst family zip was left to_t have_before to_u have_now to_v id lt (inr (sym e))
       by (OfGate g) e = absurd (source g (sym e))
       by (OfLatch l) e =
           let f : Facts net id (OfLatch l) = known net one id (OfLatch l) e in

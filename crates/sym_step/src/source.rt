@@ -1,13 +1,13 @@
 //! The sets of the nets that no gate drives; begin with `sources`.
 
-ghost use Rattle.std.specs.Prelude.{◌≡◌, ◌<◌, ◌∷◌, ℕ, List, All, OnOk, length, map};
+ghost use Rattle.std.specs.Prelude.{◌≡◌, ◌<◌, ◌∷◌, ℕ, List, All, IsTrue, OnOk, false, length, map};
 ghost use Rattle.std.specs.List.{AllZip};
 ghost use Rattle.dd_nodes.specs.Stores.{IsRef, Keeps};
 ghost use Rattle.net_core.specs.Work.{ArePossibleEach, SymbolicSet, SymbolicCut, after_cuts, cuts_work, some_bit, time_work, uncut};
 ghost use Rattle.dual_rail.specs.Rail.{AreRefs, AreRails, Built, Whatever};
 ghost use Rattle.sym_step.specs.Step.{IsCutBy};
 ghost use Rattle.sym_step.specs.private.Boards.{Follows};
-ghost use Rattle.sym_step.specs.private.Frames.{AreOpen, HaveLatches, HaveOpen, IsOpened, StayRight};
+ghost use Rattle.sym_step.specs.private.Frames.{AreOpen, HaveLatches, HaveOpen, IsOpened, StayRight, is_listed};
 ghost use Rattle.sym_step.specs.private.Latches.{AreGiven, IsLatchSet};
 ghost use Rattle.sym_step.specs.private.NetSets.{AreNetRefs, HasNetSet};
 ghost use Rattle.sym_step.specs.private.Parts.{AreMarks, HaveSources, asks};
@@ -175,6 +175,35 @@ fn open_sources<N: Nodes>(
     Ok(())
 }
 
+/// Whether both are the same nets, in the same order.
+fn are_same_nets(a: &[NodeId], b: &[NodeId]) -> bool
+    ensures { IsTrue result → a.now ≡ b.now }
+{
+    if a.len() != b.len() {
+        return false;
+    }
+    for k in 0..a.len() {
+        if a[k].0 != b[k].0 {
+            return false;
+        }
+    }
+    true
+}
+
+/// Of the nets that were cut at the time before, those that are to be looked at beside the ones that are cut now: none where
+/// the same nets are cut.
+fn left_open<'a>(before: &'a [NodeId], asked: &[NodeId]) -> &'a [NodeId]
+    ensures nodes { (nets : ℕ) → All (λ node. node.0 < nets) before.now
+        → All (λ node. node.0 < nets) result.now }
+    ensures left { (id : ℕ) → is_listed asked.now id ≡ false
+        → is_listed result.now id ≡ is_listed before.now id }
+{
+    if are_same_nets(before, asked) {
+        return &before[..0];
+    }
+    before
+}
+
 /// Gives all nets that no gate drives their sets. `latches` are the sets of the latches that do not have theirs yet,
 /// `asked` are the nets that are cut now, and `before` those that were cut at the time before; a net that nothing drives, and that is
 /// not among them, has both bits already.
@@ -217,6 +246,7 @@ pub fn sources<N: Nodes>(
         → HaveSources net.now.raw sets (N.store nodes.new) net.now.raw.nets board.new.nets.items) }
 {
     latch_sources(ops, nodes, net, latches, cuts, marks, board)?;
-    open_sources(ops, nodes, net, cuts, marks, before, board)?;
+    let left = left_open(before, asked);
+    open_sources(ops, nodes, net, cuts, marks, left, board)?;
     open_sources(ops, nodes, net, cuts, marks, asked, board)
 }

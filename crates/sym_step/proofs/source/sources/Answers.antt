@@ -1,4 +1,4 @@
-use Rattle.std.proofs.Common.{◌<◌, List, length, All, sym, ◌∙◌, subst, Ok}
+use Rattle.std.proofs.Common.{◌≡◌, ◌<◌, ℕ, false, List, length, All, sym, ◌∙◌, subst, Ok}
 use Rattle.dd_nodes.specs.Diagram.{Function}
 use Rattle.dd_nodes.specs.Stores.{Store}
 use Rattle.dd_nodes.proofs.Stores.{Keeps-trans}
@@ -7,7 +7,7 @@ use Rattle.dual_rail.specs.Rail.{Whatever}
 use Rattle.dual_rail.proofs.Works.{So-start, first, last, more, pass}
 use Rattle.ste_base.specs.declared.id.NodeId.{NodeId}
 use Rattle.sym_step.specs.declared.cut.Cut.{Cut}
-use Rattle.sym_step.specs.private.Frames.{HaveOpen}
+use Rattle.sym_step.specs.private.Frames.{HaveOpen, is_listed}
 use Rattle.sym_step.specs.private.Parts.{asks}
 use Rattle.sym_step.proofs.Cutting.{Demands-keep}
 use Rattle.sym_step.proofs.Reading.{follows_then}
@@ -103,6 +103,6 @@ returns-clause-have g c =
     let h1 = p.have ls ds sets given family asked in
     let h2 = q.have ls ds sets long (subst (λ n. ArePossibleEach n net.raw ls (asks ds) sets) (sym p.keeps.vars) family) (Demands-keep s t ds cuts gs gt p.keeps asked) in
     let h3 = k ls ds sets long (subst (λ n. ArePossibleEach n net.raw ls (asks ds) sets) (sym ksu.vars) family) (Demands-keep s u ds cuts gs gu ksu asked) in
-    all_sources net.raw net.in_range net.one_driver ls ds sets long s t u v cuts c.args.before.now c.args.board.now.nets.items c.latch_sources.new.board.nets.items c.open_sources.new.board.nets.items c.open_sources-2.new.board.nets.items
-    gs gv p.keeps family asked c.requires.undriven h1.0 h1.1 h2.0 h2.1
+    all_sources net.raw net.in_range net.one_driver ls ds sets long s t u v cuts c.args.before.now c.left_open-left.result.now c.args.board.now.nets.items c.latch_sources.new.board.nets.items c.open_sources.new.board.nets.items c.open_sources-2.new.board.nets.items
+    gs gv p.keeps family asked c.requires.undriven (subst (λ (ids : List NodeId). (id : ℕ) → is_listed ids id ≡ false → is_listed c.left_open-left.result.now id ≡ is_listed c.args.before.now id) c.requires.asked c.left_open-left.ensures.left) h1.0 h1.1 h2.0 h2.1
     (subst (λ (ids : List NodeId). HaveOpen net.raw sets v ids (length ids) c.open_sources-2.new.board.nets.items) c.requires.asked h3.0) h3.1) c.open_sources-2.ensures.have
