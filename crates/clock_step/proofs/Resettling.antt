@@ -166,6 +166,10 @@ module _ (net : RawNet) (order : List ℕ) (is_order : IsSettledOrder net order)
 
   -- ---- all nets
 
+  -- behind the last place no mark is left
+  pub none_left : (begun bits due : List Bool) → AreTurned net order (length order) begun bits due → All (λ mark. mark ≡ false) due
+  none_left begun bits due turned k d l = get_or_default due k d false l ∙ turned.past k (let h = turned.dues in omega (arith, h, l))
+
   -- where no gate is due all gates have their bits
   pub all_at_rest : (begun bits due : List Bool) → AreTurned net order (length order) begun bits due → AreGateBits net (bit_at bits)
   all_at_rest begun bits due turned g d l =

@@ -1,6 +1,6 @@
 //! The bits of all nets one time later, where few of them change; begin with `resettle`.
 
-ghost use Rattle.std.specs.Prelude.{◌≡◌, ◌≢◌, ◌<◌, ◌+◌, ℕ, Bool, List, All, AllPairs, length, map, slice_index_or};
+ghost use Rattle.std.specs.Prelude.{◌≡◌, ◌≢◌, ◌<◌, ◌+◌, ℕ, Bool, false, List, All, AllPairs, length, map, slice_index_or};
 ghost use Rattle.ste_base.specs.declared.id.NodeId.{NodeId};
 ghost use Rattle.net_core.specs.Run.{IsUndriven};
 ghost use Rattle.clock_step.specs.private.Readers.{AreReaders};
@@ -120,6 +120,7 @@ pub fn resettle(
     requires rest { AreAtRest net.now.raw net.now.settled due.old bits.old }
     ensures long { length bits.new ≡ net.now.raw.nets }
     ensures due { length due.new ≡ length net.now.settled }
+    ensures unmarked { All (λ mark. mark ≡ false) due.new }
     ensures rest { AreAtRest net.now.raw net.now.settled due.new bits.new }
     ensures bits { (bit : ℕ → Bool) →
         AreDetermined net.now.raw nodes.now row.now held.now bit →

@@ -1,6 +1,6 @@
 //! Products, sums and opposites of diagrams with a look at the constants first: `both`, `either`, `opposite` and `except`.
 
-ghost use Rattle.std.specs.Prelude.{◌≡◌, ◌<◌, ◌&&◌, ◌||◌, IsTrue, not};
+ghost use Rattle.std.specs.Prelude.{◌≡◌, ◌↔◌, ◌<◌, ◌&&◌, ◌||◌, IsTrue, not};
 ghost use Rattle.dd_nodes.specs.Stores.{IsRef, function};
 ghost use Rattle.dd_ops.specs.Answer.{Answer};
 
@@ -9,7 +9,7 @@ use dd_ops::{OpFault, Ops};
 
 /// Whether both references are of constants.
 pub fn are_constant(a: Ref, b: Ref) -> bool
-    ensures { IsTrue result → (a.0 < 2) × (b.0 < 2) }
+    ensures { IsTrue result ↔ ((a.0 < 2) × (b.0 < 2)) }
 {
     a.0.max(b.0) < 2
 }

@@ -1,4 +1,4 @@
-use Rattle.clock_step.proofs.Resettling.{all_bits, outputs_apart, outputs_by_latch, outputs_known}
+use Rattle.clock_step.proofs.Resettling.{all_bits, none_left, outputs_apart, outputs_by_latch, outputs_known}
 use Rattle.clock_step.proofs.resettle.resettle.Goals as goal
 
 pub place_nodes-requires-clause-by_gate : goal.place_nodes-requires-clause-by_gate
@@ -12,6 +12,9 @@ place_nodes-requires-2-clause-different c = let net = c.args.net.now in outputs_
 
 pub place_nodes-requires-2-clause-by_gate : goal.place_nodes-requires-2-clause-by_gate
 place_nodes-requires-2-clause-by_gate c = let net = c.args.net.now in outputs_by_latch net.raw c.args.outputs.now c.requires.outputs net.one_driver
+
+pub returns-clause-unmarked : goal.returns-clause-unmarked
+returns-clause-unmarked c = let net = c.args.net.now in none_left net.raw net.settled c.place_nodes-2.new.bits c.place_gates.new.bits c.place_gates.new.due c.place_gates.ensures
 
 pub returns-clause-bits : goal.returns-clause-bits
 returns-clause-bits c = λ bit is id l.

@@ -4,7 +4,7 @@ use Rattle.dual_rail.proofs.first.either.Goals as goal
 
 pub returns-then-are_constant : goal.returns-then-are_constant
 returns-then-are_constant g c =
-    let low = c.if-are_constant.ensures refl in
+    let low = c.if-are_constant.ensures.0 refl in
     or_most (g.N.Nodes.store c.args.nodes.now) c.args.a c.args.b (g.met.N.Nodes.diagram c.args.nodes.now) c.requires.left c.requires.right c.max.result low.0 low.1 c.max.ensures
 
 pub returns-then-eq : goal.returns-then-eq
