@@ -2,7 +2,7 @@
 use Rattle.std.proofs.Common.{◌≡◌, ℕ, zero, suc, ◌+◌, ◌<◌, ◌≤◌, Bool, true, false, List, [], ◌∷◌, length, map, inl, inr, refl, sym, ◌∙◌, subst, arith, get_or, drop, ◌-◌, Some, Result}
 use Rattle.std.proofs.lemmas.List.{drop_more}
 use Rattle.std.specs.List.{list_any}
-use Rattle.std.specs.Prelude.{◌==◌, IsSome, if◌then◌else◌}
+use Rattle.std.specs.Prelude.{IsSome, if◌then◌else◌}
 use Rattle.dd_nodes.specs.declared.node.Node.{Node}
 use Rattle.ste_base.specs.declared.id.NodeId.{NodeId}
 use Rattle.dd_nodes.specs.declared.node.Ref.{Ref}
@@ -144,10 +144,6 @@ pub node_held : (s t : Store) (v : ℕ) (r q : NetRails) → r ≡ q → Keeps s
 node_held s t v r q same k is =
     let mine : t.held q.can1 ≡ Some (node_of v (record { 0 = 0 }) (record { 0 = 1 })) = k.grows q.can1 (node_of v (record { 0 = 0 }) (record { 0 = 1 })) is.node in
     subst (λ (x : NetRails). IsSome (t.held x.can1)) (sym same) (subst IsSome (sym mine) refl)
-
-pub some_row : (n : ℕ) → false ≡ (n == 0) → 0 < n
-some_row zero e = absurd cc
-some_row (suc n) e = omega arith
 
 -- one more input before those that are in order
 pub next_variable : (s : Store) (nets : List NetRails) (least v k : ℕ) (inputs : List NodeId) (d : NodeId) → 0 < k → k ≤ length inputs → v < least → IsVariable s v (net_at nets (get_or inputs (k - 1) d).0)

@@ -10,6 +10,7 @@ pub mod OneRow
 pub mod Refusals
 pub mod OtherRail
 pub mod Pairs
+pub mod Stacked
 pub mod Summing
 pub mod RowSums
 pub mod Ordered
@@ -24,3 +25,4 @@ pub mod Passing
 pub mod Apart
 pub mod Opened
 pub mod Latched
+pub mod Choosing

@@ -4,6 +4,7 @@
 
 mod board;
 mod by_halves;
+mod choices;
 pub mod cut;
 mod cuts;
 mod flagged;

@@ -1,11 +1,15 @@
 //! The rows of all covers; begin with `GateRows`.
 
 ghost use Rattle.std.specs.Prelude.{◌≡◌, ◌≤◌, ◌<◌, map, All, IfOk, IsTrue, length};
-ghost use Rattle.net_core.specs.Cases.{cases_of, others_in};
+ghost use Rattle.std.proofs.Props.{props};
+ghost use Rattle.net_core.specs.Cases.{cases_of};
 ghost use Rattle.net_core.specs.Cover.{IsCover};
+ghost use Rattle.net_core.specs.Work.{AreWide};
 ghost use Rattle.sym_step.specs.Step.{rows_of};
+ghost use Rattle.sym_step.specs.private.Choices.{AreTold};
 ghost use Rattle.sym_step.specs.private.Numbers.{kind_at};
 
+use crate::choices::Choices;
 use crate::row_list::RowList;
 use net_core::{Cover, Lit, Net, Row, other_rows};
 use std::alloc::{AllocError, Global};
@@ -19,12 +23,44 @@ pub struct CoverRows {
     pub off: RowList,
 }
 
+/// Both lists of rows of a cover, and the set of its gate for each choice of constants. Contracts see the lists.
+#[derive(Debug, Drop)]
+struct Kind {
+    rows: CoverRows,
+    choices: Choices,
+    ghost told: { AreTold rows choices } by { Prim.hlevel props },
+}
+
+impl Model for Kind {
+    ghost use Rattle.sym_step.specs.declared.rows.CoverRows.{CoverRows};
+
+    ghost Value = { CoverRows };
+
+    ghost view = { λ k. k.rows };
+}
+
+impl Kind {
+    /// The lists. It takes no memory.
+    fn rows(&self) -> &CoverRows
+        ensures { result.now ≡ self.now }
+    {
+        &self.rows
+    }
+
+    /// The set of a gate for each choice of constants.
+    fn choices(&self) -> Choices
+        ensures { AreTold self.now result }
+    {
+        self.choices
+    }
+}
+
 /// Both lists of rows of every cover of a net, by the cover's number. The rows that a cover leaves out are found once,
 /// and all gates of the cover share them, as do covers that are the same, mostly: a netlist from a tool has a cover for
 /// each of its gates. Contracts see both lists of each cover.
 #[derive(Debug, Drop)]
 pub struct GateRows {
-    kinds: Items<CoverRows>,
+    kinds: Items<Kind>,
     numbers: Items<usize>,
     ghost inside: { All (λ k. k < length kinds) numbers },
 }
@@ -45,36 +81,36 @@ const PLACES: usize = 251;
 /// How many rows of a cover, and literals of a row, its place is told by.
 const TOLD_BY: usize = 8;
 
-/// The rows that a cover leaves out.
-fn others(alloc: Global, cover: &Cover) -> Result<RowList, AllocError>
-    requires inputs { cover.now.inputs ≤ 1000 }
-    requires cases { cases_of cover.now.inputs cover.now.rows ≤ 65536 }
-    ensures { IfOk result (λ rows. rows
-        ≡ record { width = cover.now.inputs; list = others_in cover.now }) }
+/// Both lists of rows over so many inputs, with the set of a gate for each choice of constants.
+fn kind_of(alloc: Global, width: u32, on: &[Row], off: &[Row]) -> Result<Kind, AllocError>
+    requires width { width ≤ 1000 }
+    requires on { AreWide on.now width }
+    requires off { AreWide off.now width }
+    ensures { IfOk result (λ kind. kind ≡ record {
+      on = record { width = width; list = on.now };
+      off = record { width = width; list = off.now };
+    }) }
 {
-    let rows = other_rows(alloc, cover)?;
-    RowList::of(alloc, cover.inputs, rows.as_slice())
+    let choices = Choices::of(width, on, off);
+    let on = RowList::of(alloc, width, on)?;
+    let off = RowList::of(alloc, width, off)?;
+    let rows = CoverRows { on, off };
+    Ok(Kind { rows, choices })
 }
 
 /// Both lists of rows of one cover.
-fn cover_rows(alloc: Global, cover: &Cover) -> Result<CoverRows, AllocError>
+fn cover_rows(alloc: Global, cover: &Cover) -> Result<Kind, AllocError>
     requires sound { IsCover cover.now }
     requires inputs { cover.now.inputs ≤ 1000 }
     requires cases { cases_of cover.now.inputs cover.now.rows ≤ 65536 }
     ensures { IfOk result (λ rows. rows ≡ rows_of cover.now) }
 {
-    let own = RowList::of(alloc, cover.inputs, cover.rows.as_slice())?;
-    let others = others(alloc, cover)?;
+    let others = other_rows(alloc, cover)?;
+    let own = cover.rows.as_slice();
     if cover.on {
-        Ok(CoverRows {
-            on: own,
-            off: others,
-        })
+        kind_of(alloc, cover.inputs, own, others.as_slice())
     } else {
-        Ok(CoverRows {
-            on: others,
-            off: own,
-        })
+        kind_of(alloc, cover.inputs, others.as_slice(), own)
     }
 }
 
@@ -151,7 +187,15 @@ impl GateRows {
         requires { cover < length self.now.covers }
         ensures { result.now ≡ kind_at self.now.covers cover }
     {
-        &self.kinds.as_slice()[self.numbers.as_slice()[cover]]
+        self.kinds.as_slice()[self.numbers.as_slice()[cover]].rows()
+    }
+
+    /// The set of a gate of a cover, by its number, for each choice of constants. It takes no memory.
+    pub fn choices(&self, cover: usize) -> Choices
+        requires { cover < length self.now.covers }
+        ensures { AreTold (kind_at self.now.covers cover) result }
+    {
+        self.kinds.as_slice()[self.numbers.as_slice()[cover]].choices()
     }
 
     /// Both lists of rows of every cover of the net.

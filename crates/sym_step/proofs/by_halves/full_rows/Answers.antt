@@ -1,12 +1,11 @@
 use Rattle.std.specs.Prelude.{vec_len}
-use Rattle.std.proofs.Common.{rules, ◌≡◌, ◌<◌, ◌+◌, ◌∷◌, ◌++◌, [], ℕ, List, length, drop, get_or, sym, ◌∙◌, ap, subst, arith, Vec, Global}
-use Rattle.std.proofs.lemmas.List.{drop_more}
+use Rattle.std.proofs.Common.{rules, ◌≡◌, ◌<◌, ◌+◌, ◌∷◌, ◌++◌, ℕ, List, length, drop, get_or, sym, ◌∙◌, ap, subst, arith, Vec, Global}
+use Rattle.std.proofs.lemmas.List.{drop_all, drop_more}
 use Rattle.net_core.specs.declared.cover.Lit.{Lit}
 use Rattle.sym_step.specs.declared.piece.Piece.{Piece}
 use Rattle.sym_step.specs.declared.piece.Piece.TheVariants.{Put, Close}
-use Rattle.sym_step.specs.private.Pieces.{rows_from}
-use Rattle.sym_step.proofs.Compressing.{full_put, full_close}
-use Rattle.sym_step.proofs.by_halves.full_rows.Goals.{in-Put+else-eq+in_ok-push-in-Put, in-Close+else-len-width+in_ok-to_vec-in-Close+in_ok-push-in-Close}
+use Rattle.sym_step.proofs.Stacked.{all_gathered, close_gathered, put_gathered, AreGathered}
+use Rattle.sym_step.proofs.by_halves.full_rows.Goals.{in-Put+else-eq+in_ok-push-in-Put, in-Close+else-len-width+in_ok-extend_from_slice-in-Close}
 use Rattle.sym_step.proofs.by_halves.full_rows.Goals as goal
 
 -- the pieces that are left, with the first of them named
@@ -18,22 +17,33 @@ loop-piece-preserved c =
     let pieces : List Piece = c.pieces-piece-items.result.now in
     let k = c.loop-piece.piece-index in
     let width = c.args.width in
-    let full = c.loop-piece.full in
+    let full : List Lit = c.loop-piece.full.items in
     let begun : List Lit = c.loop-piece.begun.items in
     let rest : List Piece = drop (k + 1) pieces in
     let lt : k < length pieces = omega (arith, c.loop-piece-test.true) in
     elim c.match-piece.branch [
       | in-Put+else-eq+in_ok-push-in-Put w ↦
           let lit = w.in-Put.lit in
-          subst (λ (rs : List (List Lit)). rs ++ rows_from width c.match-piece.begun.items rest ≡ c.args.rows.now.list) (sym w.full-is)
-          (full_put width full c.args.rows.now.list begun c.match-piece.begun.items lit (drop k pieces) rest (next_is pieces k _ (Put lit) lt w.in-Put.is)
+          subst (λ (lits : List Lit). AreGathered width c.args.rows.now.list lits c.match-piece.begun.items rest) (sym (ap (λ (v : Vec Lit Global). v.items) w.full-is))
+          (put_gathered width c.args.rows.now.list full begun c.match-piece.begun.items lit (drop k pieces) rest (next_is pieces k _ (Put lit) lt w.in-Put.is)
           (ap (λ (v : Vec Lit Global). v.items) w.begun-is ∙ w.in_ok-push-in-Put.ensures.items) c.loop-piece.invariant)
-      | in-Close+else-len-width+in_ok-to_vec-in-Close+in_ok-push-in-Close w ↦
+      | in-Close+else-len-width+in_ok-extend_from_slice-in-Close w ↦
           let kept = w.in-Close.kept in
           let view : vec_len c.loop-piece.begun ≡ length begun = search rules in
-          let copy = w.in_ok-to_vec-in-Close.ensures.items_if_clones_equal (λ a e h. h) in
-          full_close width full c.match-piece.full c.args.rows.now.list begun c.match-piece.begun.items kept (drop k pieces) rest (next_is pieces k _ (Close kept) lt w.in-Close.is)
+          let added = w.in_ok-extend_from_slice-in-Close.ensures.items in
+          close_gathered width c.args.rows.now.list full c.match-piece.full.items begun c.match-piece.begun.items kept (drop k pieces) rest (next_is pieces k _ (Close kept) lt w.in-Close.is)
           (sym view ∙ sym w.len.ensures ∙ w.if-len-width.false)
-          (w.full-is ∙ w.in_ok-push-in-Close.ensures.ok ∙ ap (λ (row : List Lit). full ++ row ∷ []) (w.from.ensures ∙ copy ∙ w.as_slice.ensures.value))
+          (ap (λ (v : Vec Lit Global). v.items) w.full-is ∙ added ∙ ap (λ (ls : List Lit). full ++ ls) w.as_slice.ensures.value)
           (ap (λ (v : Vec Lit Global). v.items) w.begun-is ∙ w.truncate.ensures.items) c.loop-piece.invariant
     ]
+
+-- at the end of the pieces all rows are there
+pub returns-clause-literals : goal.returns-clause-literals
+returns-clause-literals c =
+    let end = c.loop-piece-test.false in
+    (all_gathered c.args.width c.args.rows.now.list c.loop-piece.full.items c.loop-piece.begun.items _ (drop_all c.loop-piece.piece-index c.pieces-piece-items.result.now (omega (arith, end))) c.loop-piece.invariant).0
+
+pub returns-clause-wide : goal.returns-clause-wide
+returns-clause-wide c =
+    let end = c.loop-piece-test.false in
+    (all_gathered c.args.width c.args.rows.now.list c.loop-piece.full.items c.loop-piece.begun.items _ (drop_all c.loop-piece.piece-index c.pieces-piece-items.result.now (omega (arith, end))) c.loop-piece.invariant).1

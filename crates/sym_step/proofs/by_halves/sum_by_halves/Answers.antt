@@ -1,4 +1,4 @@
-use Rattle.std.proofs.Common.{[], ◌∷◌, List, map, ap, subst, ◌∙◌, Bor}
+use Rattle.std.proofs.Common.{[], ◌∷◌, List, subst}
 use Rattle.dd_nodes.specs.Stores.{Store}
 use Rattle.dd_nodes.specs.Diagram.{Function}
 use Rattle.net_core.specs.declared.cover.Lit.{Lit}
@@ -8,16 +8,15 @@ use Rattle.dual_rail.proofs.Works.{So-start, lost}
 use Rattle.sym_step.specs.private.NetSets.{sets_at}
 use Rattle.sym_step.proofs.by_halves.sum_by_halves.Goals as goal
 
-pub returns-in_err-slices : goal.returns-in_err-slices
-returns-in_err-slices g c = λ sets have.
+pub returns-in_err-stack : goal.returns-in_err-stack
+returns-in_err-stack g c = λ rows wide are sets have.
     let s : Store = g.N.Nodes.store c.args.nodes.now in
-    let f : Function = sum (row_products c.args.rows.now (sets_at sets c.args.inputs.now)) in
+    let f : Function = sum (row_products rows (sets_at sets c.args.inputs.now)) in
     lost (f ∷ []) (HasFunction f) s s c.from_residual.result (So-start (f ∷ []) s) c.from_residual.ensures.1
 
 pub returns : goal.returns
-returns g c = λ sets have.
+returns g c = λ rows wide are sets have.
     let s : Store = g.N.Nodes.store c.args.nodes.now in
     let t : Store = g.N.Nodes.store c.sum_of.new.nodes in
-    let same = ap (λ (rows : List (Bor (List Lit))). map (λ row. row.now) rows) c.as_slice.ensures.value ∙ c.in_ok-slices.ensures in
-    subst (λ (rows : List (List Lit)). Built (sum (row_products rows (sets_at sets c.args.inputs.now)) ∷ []) (HasFunction (sum (row_products rows (sets_at sets c.args.inputs.now)))) s t c.sum_of.result) same
-    (c.sum_of.ensures sets have)
+    subst (λ (rows : List (List Lit)). Built (sum (row_products rows (sets_at sets c.args.inputs.now)) ∷ []) (HasFunction (sum (row_products rows (sets_at sets c.args.inputs.now)))) s t c.sum_of.result) (c.in_ok-stack.ensures rows wide are)
+    (c.sum_of.ensures.built sets have)

@@ -1,14 +1,15 @@
-use Rattle.std.proofs.Common.{◌≡◌, ◌≢◌, ◌∷◌, [], List, IfSome, sym, ◌∙◌, subst}
+use Rattle.std.proofs.Common.{◌≡◌, ◌≢◌, ◌∷◌, [], List, IfSome, length, sym, ◌∙◌, subst}
 use Rattle.ste_base.specs.declared.id.NodeId.{NodeId}
 use Rattle.dd_nodes.specs.Diagram.{Function}
 use Rattle.dd_nodes.specs.Stores.{Store}
 use Rattle.net_core.specs.declared.cover.Lit.{Lit}
-use Rattle.net_core.specs.Work.{SymbolicSet, row_products, rows_work, sum}
+use Rattle.net_core.specs.Work.{AreWide, SymbolicSet, row_products, rows_work, sum}
 use Rattle.dual_rail.specs.Rail.{Built, HasFunction}
 use Rattle.dual_rail.proofs.Works.{Built-wider}
 use Rattle.sym_step.specs.declared.net_rails.NetRails.{NetRails}
 use Rattle.sym_step.specs.private.NetSets.{HaveInputs, sets_at}
 use Rattle.sym_step.proofs.Pairs.{sum_in}
+use Rattle.sym_step.proofs.Stacked.{lits_of}
 use Rattle.sym_step.proofs.Summing.{within_one}
 use Rattle.sym_step.proofs.sums.rows_sum.Goals as goal
 
@@ -23,12 +24,12 @@ returns-in-Some-clause-built g c = λ sets have.
     let ws : List SymbolicSet = sets_at sets inputs in
     let f : Function = sum (row_products rows ws) in
     let same : t ≡ s = c.in_ok-full.ensures.store in
-    let full : c.in-Some.full ≡ rows = subst (λ found. IfSome found (λ full. full ≡ rows)) c.in-Some.is c.in_ok-full.ensures.rows in
+    let lits = subst (λ found. IfSome found (λ full. full.items ≡ lits_of rows)) c.in-Some.is c.in_ok-full.ensures.literals in
+    let wide : AreWide rows (length inputs) = subst (λ found. IfSome found (λ full. AreWide rows (length inputs))) c.in-Some.is c.in_ok-full.ensures.wide in
     let some : rows ≢ [] = subst (λ found. IfSome found (λ full. rows ≢ [])) c.in-Some.is c.in_ok-full.ensures.some in
-    let call = c.sum_by_halves.ensures sets (subst (λ (x : Store). HaveInputs x sets nets inputs) (sym same) have) in
+    let call = c.sum_by_halves.ensures rows wide (c.as_slice.ensures.value ∙ lits) sets (subst (λ (x : Store). HaveInputs x sets nets inputs) (sym same) have) in
     Built-wider (rows_work rows ws) (f ∷ []) (HasFunction f) s u c.sum_by_halves.result (within_one f (rows_work rows ws) (sum_in rows ws some))
-    (subst (λ (x : Store). Built (f ∷ []) (HasFunction f) x u c.sum_by_halves.result) same
-    (subst (λ (rs : List (List Lit)). Built (sum (row_products rs ws) ∷ []) (HasFunction (sum (row_products rs ws))) t u c.sum_by_halves.result) (c.as_slice.ensures ∙ full) call))
+    (subst (λ (x : Store). Built (f ∷ []) (HasFunction f) x u c.sum_by_halves.result) same call)
 
 pub returns-in-None-clause-built : goal.returns-in-None-clause-built
 returns-in-None-clause-built g c = λ sets have.
