@@ -1,6 +1,6 @@
 -- Gates of few inputs whose sets are constants: the bits of words for all choices are the sets that the gates give.
-use Rattle.std.proofs.Common.{◌≡◌, ℕ, zero, suc, ◌+◌, ◌-◌, ◌*◌, ◌/◌, ◌^◌, ◌<◌, ◌≤◌, min, max, Bool, true, false, List, [], ◌∷◌, length, get_or, drop, arith, refl, sym, ap, ◌∙◌, subst, inl, inr}
-use Rattle.std.specs.Prelude.{All, ◌==◌, ◌&&◌, ◌||◌}
+use Rattle.std.proofs.Common.{◌≡◌, ◌≢◌, ℕ, zero, suc, ◌+◌, ◌-◌, ◌*◌, ◌/◌, ◌^◌, ◌<◌, ◌≤◌, min, max, Bool, true, false, not, List, [], ◌∷◌, length, get_or, drop, arith, refl, sym, ap, ◌∙◌, subst, inl, inr}
+use Rattle.std.specs.Prelude.{All, IsTrue, ◌==◌, ◌&&◌, ◌||◌}
 use Rattle.std.specs.Int.{bit_at}
 use Rattle.std.proofs.Math.Seq.{drop-cons}
 use Rattle.std.proofs.Math.ListN.{drop_of_length-le}
@@ -18,8 +18,6 @@ use Rattle.dd_ops.proofs.Terminal.{one_bit, zero_bit}
 use Rattle.net_core.specs.declared.cover.Lit.{Lit}
 use Rattle.net_core.specs.declared.cover.Lit.TheVariants.{Zero, One, Any}
 use Rattle.net_core.specs.Work.{Function, SymbolicSet, AreWide, always, conjunction, disjunction, factor, factors, gate_set, never, product, row_products, sum, whole}
-use Rattle.dual_rail.specs.declared.rails.Rails.{Rails}
-use Rattle.dual_rail.specs.Rail.{AreRails}
 use Rattle.sym_step.specs.declared.choices.Choices.{Choices}
 use Rattle.sym_step.specs.declared.net_rails.NetRails.{NetRails}
 use Rattle.sym_step.specs.private.Choices.{AreChoices, IsChoice, choice_at, lit_bit, row_bit, rows_bit}
@@ -254,11 +252,32 @@ bit_means s d sets nets inputs rows word choice r wide is told have same =
       value = λ bits l. constant_truth s r bits d small ∙ ap truth (same ∙ told ∙ ap (rows_bit rows) is.is) ∙ sym (rows_truth s d sets nets bits l never rows inputs wide have is.zero is.one);
     }
 
+-- two constants that differ
+apart : (a b : ℕ) → a < 2 → b < 2 → a ≢ b → truth a ≡ not (truth b)
+apart zero zero la lb ne = absurd (ne refl)
+apart zero (suc b) la lb ne = refl
+apart (suc a) zero la lb ne = refl
+apart (suc a) (suc b) la lb ne = absurd (ne (omega (arith, la, lb)))
+
 -- the set that the words tell is the gate's
-pub choice_set : (s : Store) → IsGood s → (sets : ℕ → SymbolicSet) (nets : List NetRails) (inputs : List NodeId) (on off : List (List Lit)) (c : Choices) (choice : ℕ) (given : Rails) → AreWide on (length inputs) → AreWide off (length inputs)
-    → AreChoices on off c → IsChoice nets inputs choice → choice < 64 → HaveInputs s sets nets inputs → given.can0.0 ≡ bit_at c.can0 choice → given.can1.0 ≡ bit_at c.can1 choice
-    → AreRails s (gate_set on off (sets_at sets inputs)) given
-choice_set s d sets nets inputs on off c choice given wide_on wide_off told is l have low high = record {
-  zero = bit_means s d sets nets inputs off c.can0 choice given.can0 wide_off is (told.zero choice l) have low;
-  one = bit_means s d sets nets inputs on c.can1 choice given.can1 wide_on is (told.one choice l) have high;
-}
+pub choice_net : (s : Store) → IsGood s → (sets : ℕ → SymbolicSet) (nets : List NetRails) (inputs : List NodeId) (on off : List (List Lit)) (c : Choices) (choice : ℕ) (r : NetRails) → AreWide on (length inputs) → AreWide off (length inputs)
+    → AreChoices on off c → IsChoice nets inputs choice → choice < 64 → HaveInputs s sets nets inputs → r.can0.0 ≡ bit_at c.can0 choice → r.can1.0 ≡ bit_at c.can1 choice → r.some.0 ≡ max r.can0.0 r.can1.0
+    → (IsTrue r.known → r.can0.0 ≢ r.can1.0) → AreNetRails s (gate_set on off (sets_at sets inputs)) r
+choice_net s d sets nets inputs on off c choice r wide_on wide_off told is l have low high some known =
+    let w : SymbolicSet = gate_set on off (sets_at sets inputs) in
+    let x : r.can0.0 < 2 = let b = bit_small c.can0 choice in omega (arith, low, b) in
+    let y : r.can1.0 < 2 = let b = bit_small c.can1 choice in omega (arith, high, b) in
+    let zero_is : Means s w.zero r.can0 = bit_means s d sets nets inputs off c.can0 choice r.can0 wide_off is (told.zero choice l) have low in
+    let one_is : Means s w.one r.can1 = bit_means s d sets nets inputs on c.can1 choice r.can1 wide_on is (told.one choice l) have high in
+    let has_zero : (bits : List Bool) → length bits ≡ s.vars → truth r.can0.0 ≡ w.zero bits = λ bits long. sym (constant_truth s r.can0 bits d x) ∙ zero_is.value bits long in
+    let has_one : (bits : List Bool) → length bits ≡ s.vars → truth r.can1.0 ≡ w.one bits = λ bits long. sym (constant_truth s r.can1 bits d y) ∙ one_is.value bits long in
+    record {
+      zero = zero_is;
+      one = one_is;
+      some = record {
+        ref = from_constant s.held 0 r.some (omega (arith, some, x, y));
+        value = λ bits long. constant_truth s r.some bits d (omega (arith, some, x, y)) ∙ ap truth some ∙ truth_max r.can0.0 r.can1.0
+            ∙ ap (λ (p : Bool). p || truth r.can1.0) (has_zero bits long) ∙ ap (λ (p : Bool). w.zero bits || p) (has_one bits long);
+      };
+      known = λ yes bits long. sym (has_zero bits long) ∙ apart r.can0.0 r.can1.0 x y (known yes) ∙ ap not (has_one bits long);
+    }

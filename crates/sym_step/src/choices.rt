@@ -1,6 +1,6 @@
 //! The sets that gates of few inputs give where those of their inputs are constants; begin with `Choices`.
 
-ghost use Rattle.std.specs.Prelude.{◌≡◌, ◌≤◌, ◌<◌, ◌^◌, ◌/◌, ℕ, All, length};
+ghost use Rattle.std.specs.Prelude.{◌≡◌, ◌≢◌, ◌↔◌, ◌≤◌, ◌<◌, ◌^◌, ◌/◌, ℕ, All, IsTrue, length, max};
 ghost use Rattle.std.specs.Int.{bit_at};
 ghost use Rattle.net_core.specs.Work.{AreWide};
 ghost use Rattle.sym_step.specs.private.Choices.{AreChoices, IsChoice, IsDigit, lit_bit, row_bit, rows_bit};
@@ -8,7 +8,7 @@ ghost use Rattle.sym_step.specs.private.NetSets.{net_at};
 
 use crate::net_rails::NetRails;
 use dd_nodes::Ref;
-use dual_rail::{Rails, are_constant};
+use dual_rail::are_constant;
 use net_core::{Lit, Row};
 use ste_base::NodeId;
 
@@ -111,15 +111,21 @@ impl Choices {
         }
     }
 
-    /// The set of the gate for this choice.
-    pub fn rails(self, choice: usize) -> Rails
+    /// The set of the gate's output for this choice.
+    pub fn net(self, choice: usize) -> NetRails
         requires { choice < 64 }
         ensures zero { result.can0.0 ≡ bit_at self.can0 choice }
         ensures one { result.can1.0 ≡ bit_at self.can1 choice }
+        ensures some { result.some.0 ≡ max result.can0.0 result.can1.0 }
+        ensures known { IsTrue result.known ↔ (result.can0.0 ≢ result.can1.0) }
     {
-        Rails {
-            can0: Ref(((self.can0 >> choice) & 1) as u32),
-            can1: Ref(((self.can1 >> choice) & 1) as u32),
+        let can0 = ((self.can0 >> choice) & 1) as u32;
+        let can1 = ((self.can1 >> choice) & 1) as u32;
+        NetRails {
+            can0: Ref(can0),
+            can1: Ref(can1),
+            some: Ref(can0.max(can1)),
+            known: can0 != can1,
         }
     }
 }

@@ -20,7 +20,7 @@ ghost use Rattle.sym_step.specs.private.Refused.{is_rising};
 use crate::board::Board;
 use crate::choices::{CHOICES, choice_of};
 use crate::cut::Cut;
-use crate::cuts::{cut_full, cut_net};
+use crate::cuts::cut_full;
 use crate::gates::{Filling, filling_of, gate_at};
 use crate::net_rails::NetRails;
 use crate::one_row::{by_row, only_rising};
@@ -109,8 +109,8 @@ fn cover_gate<N: Nodes>(
     gate_at(alloc, ops, nodes, rows, products, nets, inputs, full, known)
 }
 
-/// The set of a gate's output, by the rows of its cover.
-fn place_by_rows<N: Nodes>(
+/// The set of a gate's output, where its inputs have these sets.
+fn place<N: Nodes>(
     alloc: Global,
     ops: &Ops,
     nodes: &mut N,
@@ -154,53 +154,9 @@ fn place_by_rows<N: Nodes>(
     cut_full(ops, nodes, cuts, marks, g.output.0, given, full, known)
 }
 
-/// The set of a gate's output, where its inputs have these sets. Where they are constants, of at most three inputs, it is read
-/// from the words of the gate's cover.
-fn place<N: Nodes>(
-    alloc: Global,
-    ops: &Ops,
-    nodes: &mut N,
-    net: &Net,
-    rows: &GateRows,
-    cuts: &[Cut],
-    marks: &[bool],
-    products: &mut [Ref],
-    nets: &[NetRails],
-    g: &Gate,
-) -> Result<NetRails, OpFault>
-    requires width { (cover : Cover) → slice_get net.now.raw.covers g.now.cover ≡ Some cover
-        → cover.inputs ≡ length g.now.inputs }
-    requires cover { g.now.cover < length net.now.raw.covers }
-    requires output { g.now.output.0 < length marks.now }
-    requires room { length g.now.inputs < length products.old }
-    requires inside { All (λ input. input.0 < length nets.now) g.now.inputs }
-    requires refs { All (AreNetRefs (N.store nodes.old)) nets.now }
-    requires rows { rows.now.covers ≡ map rows_of net.now.raw.covers }
-    requires guards { All (λ c. IsRef (N.store nodes.old) c.guard) cuts.now }
-    requires values { All (λ c. IsRef (N.store nodes.old) c.value) cuts.now }
-    requires marks { AreMarks cuts.now marks.now }
-    ensures room { length products.new ≡ length products.old }
-    ensures built { (ds : List SymbolicCut) (before sets : ℕ → SymbolicSet)
-        → AllZip (IsCutBy (N.store nodes.old)) ds cuts.now
-        → HaveInputs (N.store nodes.old) sets nets.now g.now.inputs
-        → before g.now.output.0 ≡ output_set net.now.raw sets g.now
-        → Built (some_bit (after_cuts ds before g.now.output.0)
-        ∷ (cover_work (slice_get net.now.raw.covers g.now.cover) (input_sets sets g.now)
-        ++ cuts_work ds before))
-        (HasNetSet (after_cuts ds before g.now.output.0))
-        (N.store nodes.old) (N.store nodes.new) result }
-{
-    let inputs = g.inputs.as_slice();
-    let choice = choice_of(nets, inputs);
-    if choice < CHOICES {
-        let given = rows.choices(g.cover as usize).rails(choice);
-        return cut_net(ops, nodes, cuts, marks, g.output.0, given);
-    }
-    place_by_rows(alloc, ops, nodes, net, rows, cuts, marks, products, nets, g)
-}
-
 /// Gives a gate's output its set, where its inputs have these sets; a gate that is not due keeps that of before, and nothing
-/// is called. `number` is the gate's.
+/// is called. Where the inputs are constants, at most three, and the output is not cut, its set is read from the words of
+/// the gate's cover. `number` is the gate's.
 fn renew<N: Nodes>(
     alloc: Global,
     ops: &Ops,
@@ -251,6 +207,11 @@ fn renew<N: Nodes>(
         (net_at board.new.nets.items g.now.output.0)) }
 {
     if !board.due.is_marked(number) {
+        return Ok(());
+    }
+    let choice = choice_of(board.nets.as_slice(), g.inputs.as_slice());
+    if choice < CHOICES && !marks[g.output.0 as usize] {
+        board.put(g.output.0, rows.choices(g.cover as usize).net(choice));
         return Ok(());
     }
     let nets = board.nets.as_slice();
