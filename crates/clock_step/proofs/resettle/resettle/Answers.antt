@@ -14,7 +14,7 @@ pub place_nodes-requires-2-clause-by_gate : goal.place_nodes-requires-2-clause-b
 place_nodes-requires-2-clause-by_gate c = let net = c.args.net.now in outputs_by_latch net.raw c.args.outputs.now c.requires.outputs net.one_driver
 
 pub returns-clause-unmarked : goal.returns-clause-unmarked
-returns-clause-unmarked c = let net = c.args.net.now in none_left net.raw net.settled c.place_nodes-2.new.bits c.place_gates.new.bits c.place_gates.new.due c.place_gates.ensures
+returns-clause-unmarked c = let net = c.args.net.now in none_left net.raw net.settled net.in_order c.place_nodes-2.new.bits c.place_gates.new.bits c.place_gates.new.due c.place_gates.ensures
 
 pub returns-clause-bits : goal.returns-clause-bits
 returns-clause-bits c = λ bit is id l.
