@@ -45,7 +45,7 @@ with_guard true m h = (λ t. (refl, h.0 t), λ p. h.1 p.1)
 with_guard false m h = (λ t. absurd (cc t), λ p. absurd (cc p.0))
 
 -- the test by bits is the definition
-test_is : (failure : Failure) (sets : ℕ → BitSet) (c : AskedCut) → IsTrue (c.on && misses failure (sets c.node).zero (sets c.node).one c.value) ↔ FailsBy failure sets c
+pub test_is : (failure : Failure) (sets : ℕ → BitSet) (c : AskedCut) → IsTrue (c.on && misses failure (sets c.node).zero (sets c.node).one c.value) ↔ FailsBy failure sets c
 test_is Strong sets c = with_guard c.on _ (strong_bits (sets c.node).zero (sets c.node).one c.value)
 test_is Weak sets c = with_guard c.on _ (weak_bits (sets c.node).zero (sets c.node).one)
 
@@ -57,7 +57,7 @@ bit_is : (s : Store) (f : Function) (r : Ref) (b : Bool) → ((bits : List Bool)
 bit_is s f r b is d m = ap is_true (constant_is s f r b is d m) ∙ bit_back b
 
 -- by constants it is the test by bits
-by_bits : (failure : Failure) (s : Store) (w : BitSet) (g x : Bool) (G X : Function) (r : Rails) (c : Cut) → ((bits : List Bool) → G bits ≡ g) → ((bits : List Bool) → X bits ≡ x) → IsGood s → AreRails s (constant_set w) r → Means s G c.guard → Means s X c.value
+pub by_bits : (failure : Failure) (s : Store) (w : BitSet) (g x : Bool) (G X : Function) (r : Rails) (c : Cut) → ((bits : List Bool) → G bits ≡ g) → ((bits : List Bool) → X bits ≡ x) → IsGood s → AreRails s (constant_set w) r → Means s G c.guard → Means s X c.value
     → fails failure r c ≡ (g && misses failure w.zero w.one x)
 by_bits failure s w g x G X r c ig ix d rails guard value =
     let a = bit_is s G c.guard g ig d guard in
@@ -84,7 +84,7 @@ abbrev pub IsTold : Failure → (ℕ → BitSet) → List AskedCut → Option No
 IsTold failure sets cuts None = ¬ Any (FailsBy failure sets) cuts
 IsTold failure sets cuts (Some node) = IsFirstFail failure sets cuts node
 
-told_behind : (failure : Failure) (sets : ℕ → BitSet) (c : AskedCut) (cuts : List AskedCut) (told : Option NodeId) → ¬ FailsBy failure sets c → IsTold failure sets cuts told → IsTold failure sets (c ∷ cuts) told
+pub told_behind : (failure : Failure) (sets : ℕ → BitSet) (c : AskedCut) (cuts : List AskedCut) (told : Option NodeId) → ¬ FailsBy failure sets c → IsTold failure sets cuts told → IsTold failure sets (c ∷ cuts) told
 told_behind failure sets c cuts None kept h = go
   where
     go : ¬ Any (FailsBy failure sets) (c ∷ cuts)
@@ -96,19 +96,31 @@ told_behind failure sets c cuts (Some node) kept h = record { number = suc h.num
     before zero other l e fail = let same : c ≡ other = cc e in kept (subst (FailsBy failure sets) (sym same) fail)
     before (suc j) other l e fail = h.first j other (omega (arith, l)) e fail
 
-and_true : (g h : Bool) → h ≡ true → (g && h) ≡ g
+pub and_true : (g h : Bool) → h ≡ true → (g && h) ≡ g
 and_true g h e = ap (λ k. g && k) e ∙ by g
   where
     by : (b : Bool) → (b && true) ≡ b
     by true = refl
     by false = refl
 
-and_false : (g h m : Bool) → h ≡ false → ((g && h) && m) ≡ false
+pub and_false : (g h m : Bool) → h ≡ false → ((g && h) && m) ≡ false
 and_false g h m e = ap (λ k. (g && k) && m) e ∙ by g
   where
     by : (b : Bool) → ((b && false) && m) ≡ false
     by true = refl
     by false = refl
+
+-- a quintuple that has not the time does not fail
+pub not_here : (failure : Failure) (sets : ℕ → BitSet) (bits : List Bool) (t : ℕ) (q : Quint) → has_time t q ≡ false → ¬ FailsBy failure sets (quint_at bits t q)
+not_here failure sets bits t q has fail =
+    let e : true ≡ false = sym ((test_is failure sets (quint_at bits t q)).1 fail) ∙ and_false (value_of q.guard bits) (has_time t q) (misses failure (sets q.node.0).zero (sets q.node.0).one (value_of q.value bits)) has in
+    absurd (cc e)
+
+-- one more consequent, by whether it fails
+pub told_here : (failure : Failure) (sets : ℕ → BitSet) (c : AskedCut) (cuts : List AskedCut) (node : NodeId) (told : Option NodeId) (b : Bool) → IsTrue b ↔ FailsBy failure sets c → node.0 ≡ c.node → IsTold failure sets cuts told
+    → IsTold failure sets (c ∷ cuts) (if b then Some node else told)
+told_here failure sets c cuts node told true test e rest = record { number = 0; cut = c; here = refl; fails = test.0 refl; node_is = e; first = λ j other lt. absurd (omega (arith, lt)) }
+told_here failure sets c cuts node told false test e rest = told_behind failure sets c cuts told (λ fail. let f : false ≡ true = test.1 fail in absurd (cc f)) rest
 
 module _ (failure : Failure) (s : Store) (sets : ℕ → BitSet) (nets : List Rails) (bits : List Bool) (t : ℕ) (d : IsGood s) (have : (id : ℕ) → id < length nets → AreRails s (constant_set (sets id)) (rails_at nets id)) where
   abbrev fixed : List Quint → List Quint
@@ -127,26 +139,15 @@ module _ (failure : Failure) (s : Store) (sets : ℕ → BitSet) (nets : List Ra
       let test = test_is failure sets (quint_at bits t q) in
       (λ h. test.0 (on ∙ (sym e ∙ h)), λ h. e ∙ (sym on ∙ test.1 h))
 
-  -- one that has not
-  not_here : (q : Quint) → has_time t q ≡ false → ¬ FailsBy failure sets (quint_at bits t q)
-  not_here q has fail =
-      let f = sym ((test_is failure sets (quint_at bits t q)).1 fail) ∙ and_false (value_of q.guard bits) (has_time t q) (misses failure (sets q.node.0).zero (sets q.node.0).one (value_of q.value bits)) has in
-      let e : true ≡ false = f in absurd (cc e)
-
   pub first_is : (quints : List Quint) (cuts : List Cut) → All (λ quint. quint.node.0 < length nets) quints → AllZip (IsCutBy s) (symbolic_cuts_at (fixed quints) t) cuts
       → IsTold failure sets (cuts_at quints bits t) (first_failing failure nets cuts)
   first_is [] [] inside zip = λ any. let lt = any.2 in absurd (omega (arith, lt))
   first_is [] (c ∷ cs) inside zip = absurd zip
   first_is (q ∷ qs) cuts inside zip = by (has_time t q) refl cuts (λ cs z. first_is qs cs (All-tail (λ (quint : Quint). quint.node.0 < length nets) q qs inside) z) zip
     where
-      here : (c : Cut) (cs : List Cut) (b : Bool) → fails failure (rails_at nets c.node.0) c ≡ b → IsTrue (fails failure (rails_at nets c.node.0) c) ↔ FailsBy failure sets (quint_at bits t q) → c.node.0 ≡ q.node.0
-          → IsTold failure sets (cuts_at qs bits t) (first_failing failure nets cs) → IsTold failure sets (cuts_at (q ∷ qs) bits t) (if b then Some c.node else first_failing failure nets cs)
-      here c cs true e test node rest = record { number = 0; cut = quint_at bits t q; here = refl; fails = test.0 e; node_is = node; first = λ j other lt. absurd (omega (arith, lt)) }
-      here c cs false e test node rest = told_behind failure sets (quint_at bits t q) (cuts_at qs bits t) (first_failing failure nets cs) (λ fail. let f : false ≡ true = sym e ∙ test.1 fail in absurd (cc f)) rest
-
       by : (b : Bool) → has_time t q ≡ b → (cs : List Cut) → ((ds : List Cut) → AllZip (IsCutBy s) (symbolic_cuts_at (fixed qs) t) ds → IsTold failure sets (cuts_at qs bits t) (first_failing failure nets ds)) → AllZip (IsCutBy s) (map symbolic_cut (if b then fixed_quint bits q ∷ filter (has_time t) (fixed qs) else filter (has_time t) (fixed qs))) cs
           → IsTold failure sets (cuts_at (q ∷ qs) bits t) (first_failing failure nets cs)
       by true e [] rest z = absurd z
       by true e (c ∷ cs) rest z =
-          here c cs (fails failure (rails_at nets c.node.0) c) refl (here_is q c e (All-head (λ (quint : Quint). quint.node.0 < length nets) q qs inside) z.0) (sym z.0.node) (rest cs z.1)
-      by false e cs rest z = told_behind failure sets (quint_at bits t q) (cuts_at qs bits t) (first_failing failure nets cs) (not_here q e) (rest cs z)
+          told_here failure sets (quint_at bits t q) (cuts_at qs bits t) c.node (first_failing failure nets cs) (fails failure (rails_at nets c.node.0) c) (here_is q c e (All-head (λ (quint : Quint). quint.node.0 < length nets) q qs inside) z.0) (sym z.0.node) (rest cs z.1)
+      by false e cs rest z = told_behind failure sets (quint_at bits t q) (cuts_at qs bits t) (first_failing failure nets cs) (not_here failure sets bits t q e) (rest cs z)

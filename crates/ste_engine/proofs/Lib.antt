@@ -3,6 +3,7 @@ pub mod Constants
 pub mod Exprs
 pub mod Family
 pub mod FirstFails
+pub mod FirstPlaces
 pub mod FixedTasks
 pub mod Found
 pub mod Kept

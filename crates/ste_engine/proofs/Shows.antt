@@ -1,5 +1,5 @@
 -- What a failure shows, from the parts; and the report.
-use Rattle.std.proofs.Common.{◌≡◌, ℕ, Bool, true, false, List, Option, None, Some, refl, sym, ◌∙◌, inl, inr}
+use Rattle.std.proofs.Common.{◌≡◌, ℕ, Bool, true, false, List, Option, None, Some, refl, sym, subst, ◌∙◌, inl, inr}
 use Rattle.std.specs.Prelude.{◌⊎◌, IsTrue}
 use Rattle.dd_nodes.specs.declared.node.Ref.{Ref}
 use Rattle.dd_nodes.specs.Diagram.{Function}
@@ -63,6 +63,10 @@ module _ (f : Failure) (net : RawNet) (vars : ℕ) (task : Assertion) (told : Fu
 
   pub none_least : IsLeastOf vars told None → SomeAssignment vars (IsFoundBy f net task) → ⊥
   none_least none some = let e : false ≡ true = sym (none some.0 some.1) ∙ (tells some.0 some.1).1 some.2 in cc e
+
+-- what is shown of a strong failure is a strong assignment
+pub strong_of : (net : RawNet) (vars : ℕ) (task : Assertion) (bits : List Bool) (place : NodeId × ℕ) → IsShown (IsStrong net task) FailsStrongly net vars task (Some bits) (Some place) → IsStrong net task bits
+strong_of net vars task bits place h = let e : bits ≡ h.bits = let f = h.least_is in cc f in subst (IsStrong net task) (sym e) h.is_least.has
 
 -- ---- the run
 

@@ -40,7 +40,7 @@ module _ (join : Function → Function → Function) where
   whole_append f (x ∷ xs) ys = whole_append (join f x) xs ys
 
 module _ (F : ℕ → List Function) where
-  through_has : (n m : ℕ) → n < m → Within (F n) (over_times F m)
+  pub through_has : (n m : ℕ) → n < m → Within (F n) (over_times F m)
   through_has n zero lt f h = absurd (omega arith)
   through_has n (suc m) lt f h = elim (cases_lt n m) [
     | inl before ↦ Contains-append_left (over_times F m) (F m) f (through_has n m (omega arith) f h)

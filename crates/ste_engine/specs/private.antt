@@ -1,6 +1,7 @@
 -- Definitions that serve private functions.
 pub mod Asks
 pub mod Finds
+pub mod Firsts
 pub mod Places
 pub mod Reports
 pub mod Times

@@ -12,10 +12,12 @@ ghost use Rattle.ste_model.specs.Need.{IsWholeTable, ReadBelow};
 ghost use Rattle.ste_model.specs.Report.{IsReportOf, budget_report};
 ghost use Rattle.ste_model.specs.Work.{quints_work, task_work};
 ghost use Rattle.ste_engine.specs.Engine.{IsBudget, IsKept};
+ghost use Rattle.ste_engine.specs.private.Firsts.{AreFirsts};
 ghost use Rattle.ste_engine.specs.private.Turns.{AreResults, IsLine, first_rails};
 
 use crate::asks::asks_of;
 use crate::finish::finish;
+use crate::firsts::Firsts;
 use crate::reports::{budget_report, report_of};
 use crate::results::Results;
 use crate::timeline::Timeline;
@@ -49,7 +51,7 @@ fn line_of<N: Nodes>(
 }
 
 /// The strong, the weak and the contradictory assignments, with the frame before time 0, which is then that of the last
-/// time. Every guard and value is built before the first time.
+/// time, and with the places that are clear on the way. Every guard and value is built before the first time.
 fn results<N: Nodes>(
     alloc: Global,
     ops: &Ops,
@@ -58,6 +60,7 @@ fn results<N: Nodes>(
     rows: &GateRows,
     task: &Assertion,
     frame: &mut Frame,
+    firsts: &mut Firsts,
 ) -> Result<Results, OpFault>
     requires rows { rows.now.covers ≡ map rows_of net.now.raw.covers }
     requires ant { All (λ quint. quint.node.0 < net.now.raw.nets) task.now.ant }
@@ -67,36 +70,41 @@ fn results<N: Nodes>(
     requires frame { IsFrame (N.store nodes.old) net.now.raw frame.old }
     requires first { next_of net.now.raw frame.old
         ≡ map (first_rails task.now.reset) net.now.raw.latches }
+    requires firsts { AreFirsts (N.store nodes.old).vars net.now.raw task.now firsts.old }
     ensures built { (table : ℕ → ℕ → SymbolicSet)
         → IsWholeTable net.now.raw (N.store nodes.old).vars task.now table
         → Built (task_work net.now.raw task.now table) (AreResults net.now.raw task.now table)
         (N.store nodes.old) (N.store nodes.new) result }
     ensures frame { OnOk result (IsFrame (N.store nodes.new) net.now.raw frame.new) }
+    ensures firsts { OnOk result
+        (AreFirsts (N.store nodes.old).vars net.now.raw task.now firsts.new) }
 {
     let depth = depth(task);
     let mut ant = line_of(alloc, ops, nodes, task.ant.as_slice(), depth)?;
     let mut con = line_of(alloc, ops, nodes, task.con.as_slice(), depth)?;
     let mut reached = at_start();
     for t in 0..depth {
-        let asked = match ant.cuts_at(alloc, t) {
-            Ok(cuts) => cuts,
+        match ant.advance(alloc, t) {
+            Ok(()) => {}
             Err(_) => return Err(OpFault::OutOfMemory),
-        };
-        let wanted = match con.cuts_at(alloc, t) {
-            Ok(cuts) => cuts,
+        }
+        match con.advance(alloc, t) {
+            Ok(()) => {}
             Err(_) => return Err(OpFault::OutOfMemory),
-        };
+        }
+        let before = reached.found;
         reached = turn(
             alloc,
             ops,
             nodes,
             net,
             rows,
-            asked.as_slice(),
-            wanted.as_slice(),
+            ant.cuts(),
+            con.cuts(),
             &reached,
             frame,
         )?;
+        *firsts = firsts.with_time(frame, con.cuts(), before, reached.found, t);
     }
     finish(ops, nodes, reached.contradictory, reached.found)
 }
@@ -190,10 +198,11 @@ pub fn check_ste_from<N: Nodes>(
 {
     let ops = Ops::new(alloc);
     let mut frame = frame_from(alloc, net, task.reset, last.take())?;
-    match results(alloc, &ops, nodes, net, rows, task, &mut frame) {
+    let mut firsts = Firsts::none();
+    match results(alloc, &ops, nodes, net, rows, task, &mut frame, &mut firsts) {
         Ok(r) => {
             *last = Some(frame);
-            report_of(alloc, &ops, nodes, net, rows, task, r, cubes)
+            report_of(alloc, &ops, nodes, net, rows, task, r, firsts, cubes)
         }
         Err(OpFault::StepsOut) => budget_report(alloc, &task.name),
         Err(OpFault::OutOfMemory) => Err(AllocError),

@@ -8,6 +8,7 @@ mod expr;
 mod failing;
 mod find;
 mod finish;
+mod firsts;
 mod merge;
 mod place;
 mod reports;

@@ -93,15 +93,15 @@ pub fn failing_place<N: Nodes>(
     let mut con = fixed_line(alloc, task.con.as_slice(), bits, depth)?;
     let mut frame = first_frame(alloc, net, task.reset)?;
     for t in 0..depth {
-        let asked = ant.cuts_at(alloc, t)?;
-        let wanted = con.cuts_at(alloc, t)?;
-        match renew(alloc, ops, nodes, net, rows, asked.as_slice(), &mut frame) {
+        ant.advance(alloc, t)?;
+        con.advance(alloc, t)?;
+        match renew(alloc, ops, nodes, net, rows, ant.cuts(), &mut frame) {
             Ok(_) => {}
             Err(OpFault::OutOfMemory) => return Err(AllocError),
             // Nothing has to be made, so no step is wanted.
             Err(OpFault::StepsOut) => unreachable!(),
         }
-        if let Some(node) = first_failing_in(failure, &frame, wanted.as_slice()) {
+        if let Some(node) = first_failing_in(failure, &frame, con.cuts()) {
             return Ok((node, t));
         }
     }

@@ -4,10 +4,12 @@ ghost use Rattle.std.specs.Prelude.{◌≡◌, ◌<◌, All, IfOk, map};
 ghost use Rattle.sym_step.specs.Step.{rows_of};
 ghost use Rattle.ste_model.specs.Report.{IsReportOf, budget_report, no_cubes};
 ghost use Rattle.ste_engine.specs.private.Finds.{AreResultRefs};
+ghost use Rattle.ste_engine.specs.private.Firsts.{AreFirsts};
 ghost use Rattle.ste_engine.specs.private.Places.{MakesNothing};
 ghost use Rattle.ste_engine.specs.private.Reports.{AreGuards, TellFindings};
 
 use crate::finish::verdict_of;
+use crate::firsts::Firsts;
 use crate::results::Results;
 use crate::shown::shown_of;
 use dd_nodes::Nodes;
@@ -40,7 +42,7 @@ pub fn guards_of<N: Nodes>(
     })
 }
 
-/// The report, from the references that tell the findings.
+/// The report, from the references that tell the findings, and the places that are clear.
 pub fn report_of<N: Nodes>(
     alloc: Global,
     ops: &Ops,
@@ -49,19 +51,21 @@ pub fn report_of<N: Nodes>(
     rows: &GateRows,
     task: &Assertion,
     r: Results,
+    firsts: Firsts,
     max: u32,
 ) -> Result<Report, AllocError>
     requires rows { rows.now.covers ≡ map rows_of net.now.raw.covers }
     requires ant { All (λ quint. quint.node.0 < net.now.raw.nets) task.now.ant }
     requires con { All (λ quint. quint.node.0 < net.now.raw.nets) task.now.con }
     requires told { TellFindings (N.store nodes.old) net.now.raw task.now r }
+    requires firsts { AreFirsts (N.store nodes.old).vars net.now.raw task.now firsts }
     ensures report { IfOk result (λ report.
         IsReportOf net.now.raw (N.store nodes.old).vars max task.now report) }
     ensures same { MakesNothing (N.store nodes.old) (N.store nodes.new) }
 {
     let verdict = verdict_of(ops, nodes, r);
     let guards = guards_of(alloc, nodes, r, max)?;
-    let shown = shown_of(alloc, ops, nodes, net, rows, task, r, verdict)?;
+    let shown = shown_of(alloc, ops, nodes, net, rows, task, r, firsts, verdict)?;
     let name = Name::from_bytes(alloc, task.name.bytes())?;
     Ok(Report {
         name,

@@ -1,15 +1,17 @@
 //! What a failure shows; begin with `shown_of`.
 
-ghost use Rattle.std.specs.Prelude.{◌≡◌, ◌<◌, All, IfOk, Some, map};
+ghost use Rattle.std.specs.Prelude.{◌≡◌, ◌<◌, All, IfOk, IfSome, Some, length, map};
 ghost use Rattle.dd_nodes.specs.Stores.{IsRef, function};
 ghost use Rattle.sym_step.specs.Step.{rows_of};
 ghost use Rattle.ste_model.specs.Assignments.{SomeAssignment, Tells};
-ghost use Rattle.ste_model.specs.Found.{IsStrong, IsVerdictOf};
-ghost use Rattle.ste_model.specs.Report.{IsShown};
+ghost use Rattle.ste_model.specs.Found.{IsFound, IsStrong, IsVerdictOf};
+ghost use Rattle.ste_model.specs.Report.{IsFailingPlace, IsShown};
+ghost use Rattle.ste_engine.specs.private.Firsts.{AreFirsts, IsFirstPlace};
 ghost use Rattle.ste_engine.specs.private.Places.{FailsBy, IsFoundBy, MakesNothing};
 ghost use Rattle.ste_engine.specs.private.Reports.{IsFailureOf, IsRunDue, TellFindings};
 
 use crate::failing::Failure;
+use crate::firsts::Firsts;
 use crate::place::failing_place;
 use crate::results::Results;
 use counter_run::ste_run;
@@ -38,7 +40,37 @@ pub struct Shown {
     pub run: Option<Run>,
 }
 
-/// The least of the assignments that a reference tells, of which there is one, and the failing place under it.
+/// The failing place under an assignment: where it is clear, that of all assignments.
+fn place_of<N: Nodes>(
+    alloc: Global,
+    ops: &Ops,
+    nodes: &mut N,
+    net: &Net,
+    rows: &GateRows,
+    task: &Assertion,
+    bits: &[bool],
+    failure: Failure,
+    first: Option<(NodeId, Time)>,
+) -> Result<(NodeId, Time), AllocError>
+    requires rows { rows.now.covers ≡ map rows_of net.now.raw.covers }
+    requires ant { All (λ quint. quint.node.0 < net.now.raw.nets) task.now.ant }
+    requires con { All (λ quint. quint.node.0 < net.now.raw.nets) task.now.con }
+    requires found { IsFound (FailsBy failure) net.now.raw task.now bits.now }
+    requires long { length bits.now ≡ (N.store nodes.old).vars }
+    requires first { IfSome first
+        (IsFirstPlace (N.store nodes.old).vars net.now.raw task.now failure) }
+    ensures place { IfOk result (λ place.
+        IsFailingPlace (FailsBy failure) net.now.raw task.now bits.now place) }
+    ensures same { MakesNothing (N.store nodes.old) (N.store nodes.new) }
+{
+    if let Some(place) = first {
+        return Ok(place);
+    }
+    failing_place(alloc, ops, nodes, net, rows, task, bits, failure)
+}
+
+/// The least of the assignments that a reference tells, of which there is one, and the failing place under it. `first` is the
+/// place of all assignments, where it is clear.
 fn least_failure<N: Nodes>(
     alloc: Global,
     ops: &Ops,
@@ -48,11 +80,14 @@ fn least_failure<N: Nodes>(
     task: &Assertion,
     found: Ref,
     failure: Failure,
+    first: Option<(NodeId, Time)>,
 ) -> Result<LeastFailure, AllocError>
     requires rows { rows.now.covers ≡ map rows_of net.now.raw.covers }
     requires ant { All (λ quint. quint.node.0 < net.now.raw.nets) task.now.ant }
     requires con { All (λ quint. quint.node.0 < net.now.raw.nets) task.now.con }
     requires held { IsRef (N.store nodes.old) found }
+    requires first { IfSome first
+        (IsFirstPlace (N.store nodes.old).vars net.now.raw task.now failure) }
 
     // The reference tells the assignments that are so, and there is one.
     requires told { Tells (N.store nodes.old).vars (function (N.store nodes.old) found)
@@ -69,7 +104,17 @@ fn least_failure<N: Nodes>(
         Some(bits) => bits,
         None => unreachable!(),
     };
-    let place = failing_place(alloc, ops, nodes, net, rows, task, bits.as_slice(), failure)?;
+    let place = place_of(
+        alloc,
+        ops,
+        nodes,
+        net,
+        rows,
+        task,
+        bits.as_slice(),
+        failure,
+        first,
+    )?;
     Ok(LeastFailure { bits, place })
 }
 
@@ -91,7 +136,7 @@ fn run_due(
     Ok(Some(run))
 }
 
-/// What a failure shows, from the verdict and the references that tell the findings.
+/// What a failure shows, from the verdict, the references that tell the findings, and the places that are clear.
 pub fn shown_of<N: Nodes>(
     alloc: Global,
     ops: &Ops,
@@ -100,12 +145,14 @@ pub fn shown_of<N: Nodes>(
     rows: &GateRows,
     task: &Assertion,
     r: Results,
+    firsts: Firsts,
     verdict: Verdict,
 ) -> Result<Shown, AllocError>
     requires rows { rows.now.covers ≡ map rows_of net.now.raw.covers }
     requires ant { All (λ quint. quint.node.0 < net.now.raw.nets) task.now.ant }
     requires con { All (λ quint. quint.node.0 < net.now.raw.nets) task.now.con }
     requires told { TellFindings (N.store nodes.old) net.now.raw task.now r }
+    requires firsts { AreFirsts (N.store nodes.old).vars net.now.raw task.now firsts }
     requires judged { IsVerdictOf net.now.raw (N.store nodes.old).vars task.now verdict }
     ensures shown { IfOk result (λ shown. IsFailureOf net.now.raw (N.store nodes.old).vars task.now
         verdict shown.least shown.fails shown.run) }
@@ -122,6 +169,7 @@ pub fn shown_of<N: Nodes>(
                 task,
                 r.strong,
                 Failure::Strong,
+                firsts.strong,
             )?;
             let run = run_due(alloc, net, task, first.bits.as_slice())?;
             Ok(Shown {
@@ -131,7 +179,17 @@ pub fn shown_of<N: Nodes>(
             })
         }
         Verdict::Weak => {
-            let first = least_failure(alloc, ops, nodes, net, rows, task, r.weak, Failure::Weak)?;
+            let first = least_failure(
+                alloc,
+                ops,
+                nodes,
+                net,
+                rows,
+                task,
+                r.weak,
+                Failure::Weak,
+                firsts.weak,
+            )?;
             Ok(Shown {
                 least: Some(first.bits),
                 fails: Some(first.place),

@@ -1,6 +1,6 @@
 //! What is asked, time after time, without a look at what is not; begin with `Timeline`.
 
-ghost use Rattle.std.specs.Prelude.{◌≡◌, ◌≤◌, ◌<◌, ◌+◌, ℕ, List, [], All, IfOk, IsOk, IsTrue, filter, length, nat_lt, replicate, slice_index_or, true};
+ghost use Rattle.std.specs.Prelude.{◌≡◌, ◌≤◌, ◌<◌, ◌+◌, ℕ, List, [], All, IfOk, IsTrue, OnOk, filter, length, nat_lt, replicate, slice_index_or, true};
 ghost use Rattle.std.specs.List.{list_all};
 ghost use Rattle.ste_engine.specs.private.Asks.{ArePlaced, cuts_of};
 ghost use Rattle.ste_engine.specs.private.Times.{AreStarts, HasTurned, IsTimeline};
@@ -12,11 +12,12 @@ use ste_base::{Items, Time};
 use sym_step::Cut;
 
 /// What is asked, by time: for each time what begins then, in text order; and what has begun and not ended so far, in
-/// text order too.
+/// text order too, with its cuts.
 #[derive(Drop)]
 pub struct Timeline {
     starts: Vec<Items<Ask>>,
     running: Vec<Ask>,
+    cuts: Vec<Cut>,
 }
 
 /// Nothing, for each time below the depth.
@@ -57,6 +58,17 @@ fn lasting(alloc: Global, asks: &[Ask], t: Time) -> Result<Vec<Ask>, AllocError>
     Ok(some)
 }
 
+/// Their cuts, in this order.
+fn cuts_of(alloc: Global, asks: &[Ask]) -> Result<Vec<Cut>, AllocError>
+    ensures { IfOk result (λ cuts. cuts.items ≡ cuts_of asks.now) }
+{
+    let mut cuts = Vec::with_capacity(alloc, asks.len())?;
+    for ask in asks {
+        cuts.push(ask.cut)?;
+    }
+    Ok(cuts)
+}
+
 /// Whether none of these has ended at time t.
 fn all_last(asks: &[Ask], t: Time) -> bool
     ensures { result ≡ list_all (λ ask. nat_lt t ask.to) asks.now }
@@ -74,6 +86,7 @@ impl Timeline {
         Ok(Timeline {
             starts,
             running: Vec::new(alloc),
+            cuts: Vec::new(alloc),
         })
     }
 
@@ -88,39 +101,25 @@ impl Timeline {
     }
 
     /// Goes on to time t, whose turn it is. It takes no memory where time t changes nothing.
-    fn advance(&mut self, alloc: Global, t: Time) -> Result<(), AllocError>
+    pub fn advance(&mut self, alloc: Global, t: Time) -> Result<(), AllocError>
         requires { t < length self.old.starts.items }
-        ensures { IsOk result → (asks : List Ask) (depth : ℕ)
+        ensures { OnOk result ((asks : List Ask) (depth : ℕ)
             → IsTimeline asks depth t self.old → t < depth → ArePlaced 0 asks
-            → IsTimeline asks depth (t + 1) self.new }
+            → HasTurned asks depth t self.new self.new.cuts.items) }
     {
         if self.stays(t) {
             return Ok(());
         }
         let lasting = lasting(alloc, &self.running, t)?;
         self.running = merge(alloc, &lasting, self.starts[t as usize].as_slice())?;
+        self.cuts = cuts_of(alloc, &self.running)?;
         Ok(())
     }
 
-    /// The cuts of the time at hand, in text order.
-    fn cuts(&self, alloc: Global) -> Result<Vec<Cut>, AllocError>
-        ensures { IfOk result (λ cuts. cuts.items ≡ cuts_of self.now.running.items) }
+    /// The cuts of the time that it has come to, in text order. It takes no memory.
+    pub fn cuts(&self) -> &[Cut]
+        ensures { result.now ≡ self.now.cuts.items }
     {
-        let mut cuts = Vec::with_capacity(alloc, self.running.len())?;
-        for ask in &self.running {
-            cuts.push(ask.cut)?;
-        }
-        Ok(cuts)
-    }
-
-    /// The cuts of time t, whose turn it is, in text order.
-    pub fn cuts_at(&mut self, alloc: Global, t: Time) -> Result<Vec<Cut>, AllocError>
-        requires { t < length self.old.starts.items }
-        ensures { IfOk result (λ cuts. (asks : List Ask) (depth : ℕ)
-            → IsTimeline asks depth t self.old → t < depth → ArePlaced 0 asks
-            → HasTurned asks depth t self.new cuts.items) }
-    {
-        self.advance(alloc, t)?;
-        self.cuts(alloc)
+        &self.cuts
     }
 }

@@ -6,8 +6,8 @@ ghost use Rattle.dd_nodes.specs.Diagram.{Function, IsDiagram};
 ghost use Rattle.dd_nodes.specs.Stores.{Means, Store};
 ghost use Rattle.net_core.specs.Work.{ArePossibleEach, SymbolicCut, SymbolicSet};
 ghost use Rattle.dual_rail.specs.Rail.{AreRails, Built};
-ghost use Rattle.sym_step.specs.Step.{IsCutBy, IsCutOf, rows_of};
-ghost use Rattle.sym_step.specs.private.Frames.{IsFrame, next_of};
+ghost use Rattle.sym_step.specs.Step.{HaveSets, IsCutBy, IsCutOf, rows_of};
+ghost use Rattle.sym_step.specs.private.Frames.{IsFrame, nets_of, next_of};
 ghost use Rattle.ste_engine.specs.private.Finds.{AreFound};
 ghost use Rattle.ste_engine.specs.private.Turns.{AreTurnedRefs, IsTurned, asked_by, first_rails, turned_work};
 
@@ -132,6 +132,12 @@ pub fn turn<N: Nodes>(
         → Built (turned_work net.now.raw ls ds es sets c f h)
         (IsTurned net.now.raw es sets c f h (next_of net.now.raw frame.new))
         (N.store nodes.old) (N.store nodes.new) result }
+    ensures have { OnOk result ((ls : List SymbolicSet) (ds : List SymbolicCut)
+        (sets : ℕ → SymbolicSet)
+        → AllZip (AreRails (N.store nodes.old)) ls (next_of net.now.raw frame.old)
+        → AllZip (IsCutBy (N.store nodes.old)) ds ant.now
+        → ArePossibleEach (N.store nodes.old).vars net.now.raw ls (asked_by ds) sets
+        → HaveSets net.now.raw sets (N.store nodes.new) (nets_of frame.new)) }
 {
     let empty = renew(alloc, ops, nodes, net, rows, ant, frame)?;
     let contradictory = either(ops, nodes, before.contradictory, empty)?;

@@ -3,7 +3,7 @@ use Rattle.std.specs.Prelude.{◌≡◌, ◌<◌, ◌+◌, ℕ, List, [], filter
 use Rattle.sym_step.specs.declared.cut.Cut.{Cut}
 use Rattle.ste_engine.specs.declared.asks.Ask.{Ask}
 use Rattle.ste_engine.specs.declared.timeline.Timeline.{Timeline}
-use Rattle.ste_engine.specs.private.Asks.{begins_at, ran_before, running_cuts}
+use Rattle.ste_engine.specs.private.Asks.{begins_at, cuts_of, ran_before, running_cuts}
 
 -- for each time below the depth what begins then, in order
 pub record AreStarts (asks : List Ask) (depth : ℕ) (starts : List (List Ask)) : Type 0 where
@@ -14,6 +14,7 @@ pub record AreStarts (asks : List Ask) (depth : ℕ) (starts : List (List Ask)) 
 pub record IsTimeline (asks : List Ask) (depth t : ℕ) (line : Timeline) : Type 0 where
   pub starts : AreStarts asks depth line.starts.items
   pub running : line.running.items ≡ filter (ran_before t) asks
+  pub cuts : line.cuts.items ≡ cuts_of line.running.items
 
 -- it has dealt with time t, and given these cuts
 pub record HasTurned (asks : List Ask) (depth t : ℕ) (line : Timeline) (cuts : List Cut) : Type 0 where

@@ -15,6 +15,7 @@ use Rattle.ste_model.specs.Work.{task_work}
 use Rattle.ste_model.proofs.Needs.{whole_exists}
 use Rattle.sym_step.proofs.Framing.{frame_keeps}
 use Rattle.ste_engine.specs.Engine.{IsBudget, IsKept}
+use Rattle.ste_engine.specs.private.Firsts.{AreFirsts}
 use Rattle.ste_engine.proofs.Kept.{held_cofactor}
 use Rattle.ste_engine.proofs.PlaceTurns.{spends_same}
 use Rattle.ste_engine.proofs.Shows.{results_tell}
@@ -31,6 +32,14 @@ report_of-requires-clause-told g c =
     let w = whole_exists net s.vars task settled in
     let b = c.in-Ok.ensures.built w.0 w.1 in
     results_tell net task w.0 t c.in-Ok.r settled (subst (λ v. IsWholeTable net v task w.0) (sym b.spends.keeps.vars) w.1) b.ok
+
+pub report_of-requires-clause-firsts : goal.report_of-requires-clause-firsts
+report_of-requires-clause-firsts g c =
+    let net : RawNet = c.args.net.now.raw in
+    let task : Assertion = c.args.task.now in
+    let settled : IsSettled net = settled_by_order net c.args.net.now.settled c.args.net.now.in_order in
+    let w = whole_exists net (g.N.Nodes.store c.args.nodes.now).vars task settled in
+    subst (λ v. AreFirsts v net task c.results.new.firsts) (sym (c.in-Ok.ensures.built w.0 w.1).spends.keeps.vars) c.in-Ok.ensures.firsts
 
 pub returns-in-Ok-clause-keeps : goal.returns-in-Ok-clause-keeps
 returns-in-Ok-clause-keeps g c =

@@ -1,11 +1,13 @@
-use Rattle.std.proofs.Common.{◌≡◌, ◌<◌, ◌≤◌, ◌+◌, List, All, Ok, Err, sym, ◌∙◌, ap, subst, arith}
-use Rattle.std.specs.Prelude.{OnOk, Result}
+use Rattle.std.proofs.Common.{◌≡◌, ◌<◌, ◌≤◌, ◌+◌, ℕ, List, All, Ok, Err, sym, ◌∙◌, ap, subst, arith}
+use Rattle.std.specs.Prelude.{OnOk, Result, length}
+use Rattle.std.proofs.lemmas.List.{length-map}
 use Rattle.std.specs.List.{AllZip}
 use Rattle.dd_nodes.specs.Diagram.{Function}
 use Rattle.dd_nodes.specs.Stores.{Store, Means}
 use Rattle.dd_nodes.proofs.Spending.{zero_means}
 use Rattle.dd_nodes.proofs.Stores.{Keeps-trans}
 use Rattle.net_core.specs.Run.{IsSettled}
+use Rattle.net_core.specs.Work.{ArePossibleEach}
 use Rattle.net_core.proofs.Ordered.{settled_by_order}
 use Rattle.dual_rail.specs.declared.rails.Rails.{Rails}
 use Rattle.dual_rail.specs.Rail.{AreRails, Built}
@@ -13,15 +15,21 @@ use Rattle.dual_rail.proofs.Works.{Built-good, Built-lost, Built-wider, Rails-ke
 use Rattle.ste_model.specs.declared.task.Assertion.{Assertion}
 use Rattle.ste_model.specs.declared.task.Quint.{Quint}
 use Rattle.ste_model.specs.Asked.{depth}
-use Rattle.ste_model.specs.Work.{latches_at, quints_work, task_work}
+use Rattle.ste_model.specs.Work.{latches_at, quints_work, symbolic_asked_at, symbolic_cuts_at, task_work}
 use Rattle.ste_model.proofs.Needs.{whole_exists}
-use Rattle.sym_step.specs.private.Frames.{next_of}
+use Rattle.sym_step.specs.declared.frame.Frame.{Frame}
+use Rattle.sym_step.specs.private.Frames.{bare, next_of, nets_of}
+use Rattle.sym_step.proofs.Cutting.{Demands-keep}
 use Rattle.sym_step.proofs.Framing.{frame_keeps}
+use Rattle.ste_engine.specs.declared.failing.Failure.TheVariants.{Strong, Weak}
 use Rattle.ste_engine.specs.declared.results.Found.{Found}
 use Rattle.ste_engine.specs.declared.timeline.Timeline.{Timeline}
 use Rattle.ste_engine.specs.declared.turn.Turned.{Turned}
 use Rattle.ste_engine.specs.private.Finds.{AreFound, AreLast, last_work}
+use Rattle.ste_engine.specs.private.Firsts.{IsFirstAt, IsFirstPlace}
 use Rattle.ste_engine.specs.private.Turns.{AreResults, IsLine}
+use Rattle.ste_engine.proofs.Family.{family_at}
+use Rattle.ste_engine.proofs.FirstPlaces.{first_place, told_or_new}
 use Rattle.ste_engine.proofs.Kept.{kept_refs}
 use Rattle.ste_engine.proofs.Lines.{IsNextLine, Line-keeps, ant_within, con_within, next_line}
 use Rattle.ste_engine.proofs.Asked.{Asks-keep}
@@ -96,6 +104,7 @@ loop-t-init g c =
       ant = Line-keeps t1 t2 task.ant n 0 c.in_ok-ant.ant g1 g2 b.spends.keeps a.ok;
       con = b.ok;
       frame = frame_keeps s t2 net.raw c.args.frame.now net.in_range gs g2 (Keeps-trans s t1 t2 a.spends.keeps b.spends.keeps) c.requires.frame;
+      firsts = c.requires.firsts;
       reached = λ table whole.
           let work : List Function = task_work net.raw task table in
           record {
@@ -113,8 +122,8 @@ returns-in-Err-clause-built g c = λ table whole.
     let t : Store = g.N.Nodes.store c.loop-t.nodes in
     Built-lost (task_work c.args.net.now.raw c.args.task.now table) (AreResults c.args.net.now.raw c.args.task.now table) s t (c.loop-t.invariant.reached table whole).so
 
-pub returns-in-Err-cuts_at-clause-built : goal.returns-in-Err-cuts_at-clause-built
-returns-in-Err-cuts_at-clause-built g c = λ table whole.
+pub returns-in-Err-advance-clause-built : goal.returns-in-Err-advance-clause-built
+returns-in-Err-advance-clause-built g c = λ table whole.
     let s : Store = g.N.Nodes.store c.args.nodes.now in
     let t : Store = g.N.Nodes.store c.loop-t.nodes in
     Built-lost (task_work c.args.net.now.raw c.args.task.now table) (AreResults c.args.net.now.raw c.args.task.now table) s t (c.loop-t.invariant.reached table whole).so
@@ -131,22 +140,37 @@ loop-t-preserved g c =
     let p = c.loop-t.invariant in
     let k = c.loop-t.t in
     let below : k < depth task = subst (λ m. k < m) c.depth-depth.ensures c.loop-t-test.true in
-    let ant : IsNextLine t net.raw task.ant n k c.cuts_at.new.self c.as_slice-in-loop-t.result.now = next_line t net.raw task.ant n k c.loop-t.ant c.cuts_at.new.self c.in-Ok.cuts.items c.as_slice-in-loop-t.result.now p.ant c.loop-t-test.true c.requires.ant c.as_slice-in-loop-t.ensures.value c.in-Ok.ensures in
-    let con : IsNextLine t net.raw task.con n k c.cuts_at-in-loop-t.new.self c.as_slice-in-loop-t-2.result.now = next_line t net.raw task.con n k c.loop-t.con c.cuts_at-in-loop-t.new.self c.in-Ok-cuts_at.cuts.items c.as_slice-in-loop-t-2.result.now p.con c.loop-t-test.true c.requires.con c.as_slice-in-loop-t-2.ensures.value c.in-Ok-cuts_at.ensures in
+    let ant : IsNextLine t net.raw task.ant n k c.advance.new.self c.cuts.result.now = next_line t net.raw task.ant n k c.loop-t.ant c.advance.new.self c.advance.new.self.cuts.items c.cuts.result.now p.ant c.loop-t-test.true c.requires.ant c.cuts.ensures c.in-Ok.ensures in
+    let con : IsNextLine t net.raw task.con n k c.advance-in-loop-t.new.self c.cuts-in-loop-t.result.now = next_line t net.raw task.con n k c.loop-t.con c.advance-in-loop-t.new.self c.advance-in-loop-t.new.self.cuts.items c.cuts-in-loop-t.result.now p.con c.loop-t-test.true c.requires.con c.cuts-in-loop-t.ensures c.in-Ok-advance.ensures in
     let u : Store = g.N.Nodes.store c.turn.new.nodes in
     let gu = g.met.N.Nodes.diagram c.turn.new.nodes in
     let settled : IsSettled net.raw = settled_by_order net.raw net.settled net.in_order in
     let w = whole_exists net.raw s.vars task settled in
     let after : Turned = c.in_ok-reached.reached in
-    let mine = time_call net.raw task w.0 s t u k c.as_slice-in-loop-t.result.now c.as_slice-in-loop-t-2.result.now (next_of net.raw c.loop-t.frame) (next_of net.raw c.turn.new.frame) c.loop-t.reached (Ok after) w.1 below ant.by con.by (p.reached w.0 w.1) c.in_ok-reached.ensures.built in
+    let mine = time_call net.raw task w.0 s t u k c.cuts.result.now c.cuts-in-loop-t.result.now (next_of net.raw c.loop-t.frame) (next_of net.raw c.turn.new.frame) c.loop-t.reached (Ok after) w.1 below ant.by con.by (p.reached w.0 w.1) c.in_ok-reached.ensures.built in
     let keeps = mine.spends.keeps in
     record {
-      ant = Line-keeps t u task.ant n (k + 1) c.cuts_at.new.self gt gu keeps ant.is;
-      con = Line-keeps t u task.con n (k + 1) c.cuts_at-in-loop-t.new.self gt gu keeps con.is;
+      ant = Line-keeps t u task.ant n (k + 1) c.advance.new.self gt gu keeps ant.is;
+      con = Line-keeps t u task.con n (k + 1) c.advance-in-loop-t.new.self gt gu keeps con.is;
       frame = c.in_ok-reached.ensures.frame;
+      firsts =
+          let q = p.reached w.0 w.1 in
+          let tv = q.so.keeps.vars in
+          let uv = keeps.vars ∙ tv in
+          let last : IsNextLine t net.raw task.con n k c.advance-in-loop-t.new.self c.cuts-in-loop-t-2.result.now = next_line t net.raw task.con n k c.loop-t.con c.advance-in-loop-t.new.self c.advance-in-loop-t.new.self.cuts.items c.cuts-in-loop-t-2.result.now p.con c.loop-t-test.true c.requires.con c.cuts-in-loop-t-2.ensures c.in-Ok-advance.ensures in
+          let have = c.in_ok-reached.ensures.have (latches_at net.raw task w.0 k) (symbolic_cuts_at task.ant k) (w.0 k) q.next ant.by (subst (λ v. ArePossibleEach v net.raw (latches_at net.raw task w.0 k) (symbolic_asked_at task k) (w.0 k)) (sym tv) (family_at net.raw s.vars task w.0 k w.1 below)) in
+          let zip = Demands-keep t u (symbolic_cuts_at task.con k) c.cuts-in-loop-t-2.result.now gt gu keeps last.by in
+          let nets : List Rails = nets_of c.turn.new.frame in
+          let found = c.loop-t.reached.found in
+          record {
+            strong = told_or_new c.loop-t.firsts.strong c.with_time.result.strong (IsFirstPlace s.vars net.raw task Strong) (λ place. IsFirstAt Strong nets c.cuts-in-loop-t-2.result.now found.strong place.0 × (place.1 ≡ k)) c.with_time.ensures.strong p.firsts.strong
+                (λ place h. subst (λ (j : ℕ). IsFirstPlace s.vars net.raw task Strong (place.0, j)) (sym h.1) (first_place Strong net.raw task s.vars w.0 w.1 t u gt gu tv uv k below nets c.cuts-in-loop-t-2.result.now found.strong place.0 q.found.strong have c.requires.con zip h.0));
+            weak = told_or_new c.loop-t.firsts.weak c.with_time.result.weak (IsFirstPlace s.vars net.raw task Weak) (λ place. IsFirstAt Weak nets c.cuts-in-loop-t-2.result.now found.weak place.0 × (place.1 ≡ k)) c.with_time.ensures.weak p.firsts.weak
+                (λ place h. subst (λ (j : ℕ). IsFirstPlace s.vars net.raw task Weak (place.0, j)) (sym h.1) (first_place Weak net.raw task s.vars w.0 w.1 t u gt gu tv uv k below nets c.cuts-in-loop-t-2.result.now found.weak place.0 q.found.weak have c.requires.con zip h.0));
+          };
       reached = λ table whole.
           let before : ReachedAt net.raw task table s t k (next_of net.raw c.loop-t.frame) c.loop-t.reached = p.reached table whole in
-          let b = time_turn net.raw task table s t u k (next_of net.raw c.loop-t.frame) (next_of net.raw c.turn.new.frame) c.loop-t.reached (Ok after) gt gu below before (time_call net.raw task table s t u k c.as_slice-in-loop-t.result.now c.as_slice-in-loop-t-2.result.now (next_of net.raw c.loop-t.frame) (next_of net.raw c.turn.new.frame) c.loop-t.reached (Ok after) whole below ant.by con.by before c.in_ok-reached.ensures.built) in
+          let b = time_turn net.raw task table s t u k (next_of net.raw c.loop-t.frame) (next_of net.raw c.turn.new.frame) c.loop-t.reached (Ok after) gt gu below before (time_call net.raw task table s t u k c.cuts.result.now c.cuts-in-loop-t.result.now (next_of net.raw c.loop-t.frame) (next_of net.raw c.turn.new.frame) c.loop-t.reached (Ok after) whole below ant.by con.by before c.in_ok-reached.ensures.built) in
           reached_next net.raw task table s t u k (next_of net.raw c.loop-t.frame) (next_of net.raw c.turn.new.frame) c.loop-t.reached after gt gu keeps before (first (task_work net.raw task table) (IsTurnedAt net.raw task table k (next_of net.raw c.turn.new.frame)) s u (Ok after) b) b.ok;
     }
 
@@ -162,14 +186,14 @@ returns-in_err-reached-clause-built g c = λ table whole.
     let p = c.loop-t.invariant in
     let k = c.loop-t.t in
     let below : k < depth task = subst (λ m. k < m) c.depth-depth.ensures c.loop-t-test.true in
-    let ant : IsNextLine t net.raw task.ant n k c.cuts_at.new.self c.as_slice-in-loop-t.result.now = next_line t net.raw task.ant n k c.loop-t.ant c.cuts_at.new.self c.in-Ok.cuts.items c.as_slice-in-loop-t.result.now p.ant c.loop-t-test.true c.requires.ant c.as_slice-in-loop-t.ensures.value c.in-Ok.ensures in
-    let con : IsNextLine t net.raw task.con n k c.cuts_at-in-loop-t.new.self c.as_slice-in-loop-t-2.result.now = next_line t net.raw task.con n k c.loop-t.con c.cuts_at-in-loop-t.new.self c.in-Ok-cuts_at.cuts.items c.as_slice-in-loop-t-2.result.now p.con c.loop-t-test.true c.requires.con c.as_slice-in-loop-t-2.ensures.value c.in-Ok-cuts_at.ensures in
+    let ant : IsNextLine t net.raw task.ant n k c.advance.new.self c.cuts.result.now = next_line t net.raw task.ant n k c.loop-t.ant c.advance.new.self c.advance.new.self.cuts.items c.cuts.result.now p.ant c.loop-t-test.true c.requires.ant c.cuts.ensures c.in-Ok.ensures in
+    let con : IsNextLine t net.raw task.con n k c.advance-in-loop-t.new.self c.cuts-in-loop-t.result.now = next_line t net.raw task.con n k c.loop-t.con c.advance-in-loop-t.new.self c.advance-in-loop-t.new.self.cuts.items c.cuts-in-loop-t.result.now p.con c.loop-t-test.true c.requires.con c.cuts-in-loop-t.ensures c.in-Ok-advance.ensures in
     let u : Store = g.N.Nodes.store c.turn.new.nodes in
     let gu = g.met.N.Nodes.diagram c.turn.new.nodes in
     let work : List Function = task_work net.raw task table in
     let fault = c.in_err-reached.field-0.0 in
     let before : ReachedAt net.raw task table s t k (next_of net.raw c.loop-t.frame) c.loop-t.reached = p.reached table whole in
-    let b = time_turn net.raw task table s t u k (next_of net.raw c.loop-t.frame) (next_of net.raw c.turn.new.frame) c.loop-t.reached (Err fault) gt gu below before (time_call net.raw task table s t u k c.as_slice-in-loop-t.result.now c.as_slice-in-loop-t-2.result.now (next_of net.raw c.loop-t.frame) (next_of net.raw c.turn.new.frame) c.loop-t.reached (Err fault) whole below ant.by con.by before c.in_err-reached.ensures.built) in
+    let b = time_turn net.raw task table s t u k (next_of net.raw c.loop-t.frame) (next_of net.raw c.turn.new.frame) c.loop-t.reached (Err fault) gt gu below before (time_call net.raw task table s t u k c.cuts.result.now c.cuts-in-loop-t.result.now (next_of net.raw c.loop-t.frame) (next_of net.raw c.turn.new.frame) c.loop-t.reached (Err fault) whole below ant.by con.by before c.in_err-reached.ensures.built) in
     pass work (IsTurnedAt net.raw task table k (next_of net.raw c.turn.new.frame)) (AreResults net.raw task table) s s u fault c.from_residual-in_err-reached.result gs gu (So-start work s) b c.from_residual-in_err-reached.ensures.1
 
 pub turn-requires-clause-ant : goal.turn-requires-clause-ant
@@ -184,7 +208,7 @@ turn-requires-clause-ant g c =
     let p = c.loop-t.invariant in
     let k = c.loop-t.t in
     let below : k < depth task = subst (λ m. k < m) c.depth-depth.ensures c.loop-t-test.true in
-    let ant : IsNextLine t net.raw task.ant n k c.cuts_at.new.self c.as_slice-in-loop-t.result.now = next_line t net.raw task.ant n k c.loop-t.ant c.cuts_at.new.self c.in-Ok.cuts.items c.as_slice-in-loop-t.result.now p.ant c.loop-t-test.true c.requires.ant c.as_slice-in-loop-t.ensures.value c.in-Ok.ensures in
+    let ant : IsNextLine t net.raw task.ant n k c.advance.new.self c.cuts.result.now = next_line t net.raw task.ant n k c.loop-t.ant c.advance.new.self c.advance.new.self.cuts.items c.cuts.result.now p.ant c.loop-t-test.true c.requires.ant c.cuts.ensures c.in-Ok.ensures in
     ant.of
 
 pub turn-requires-clause-con : goal.turn-requires-clause-con
@@ -199,7 +223,7 @@ turn-requires-clause-con g c =
     let p = c.loop-t.invariant in
     let k = c.loop-t.t in
     let below : k < depth task = subst (λ m. k < m) c.depth-depth.ensures c.loop-t-test.true in
-    let con : IsNextLine t net.raw task.con n k c.cuts_at-in-loop-t.new.self c.as_slice-in-loop-t-2.result.now = next_line t net.raw task.con n k c.loop-t.con c.cuts_at-in-loop-t.new.self c.in-Ok-cuts_at.cuts.items c.as_slice-in-loop-t-2.result.now p.con c.loop-t-test.true c.requires.con c.as_slice-in-loop-t-2.ensures.value c.in-Ok-cuts_at.ensures in
+    let con : IsNextLine t net.raw task.con n k c.advance-in-loop-t.new.self c.cuts-in-loop-t.result.now = next_line t net.raw task.con n k c.loop-t.con c.advance-in-loop-t.new.self c.advance-in-loop-t.new.self.cuts.items c.cuts-in-loop-t.result.now p.con c.loop-t-test.true c.requires.con c.cuts-in-loop-t.ensures c.in-Ok-advance.ensures in
     con.of
 
 pub turn-requires-clause-before : goal.turn-requires-clause-before
@@ -217,6 +241,19 @@ turn-requires-clause-before g c =
     let settled : IsSettled net.raw = settled_by_order net.raw net.settled net.in_order in
     let w = whole_exists net.raw s.vars task settled in
     turned_refs net.raw task w.0 s t k (next_of net.raw c.loop-t.frame) c.loop-t.reached (p.reached w.0 w.1)
+
+pub with_time-requires : goal.with_time-requires
+with_time-requires g c =
+    let net = c.args.net.now in
+    let task : Assertion = c.args.task.now in
+    let n = c.depth-depth.result in
+    let t : Store = g.N.Nodes.store c.loop-t.nodes in
+    let p = c.loop-t.invariant in
+    let k = c.loop-t.t in
+    let con : IsNextLine t net.raw task.con n k c.advance-in-loop-t.new.self c.cuts-in-loop-t-2.result.now = next_line t net.raw task.con n k c.loop-t.con c.advance-in-loop-t.new.self c.advance-in-loop-t.new.self.cuts.items c.cuts-in-loop-t-2.result.now p.con c.loop-t-test.true c.requires.con c.cuts-in-loop-t-2.ensures c.in-Ok-advance.ensures in
+    let frame : Frame = c.turn.new.frame in
+    let nets : length (nets_of frame) ≡ net.raw.nets = length-map frame.board.nets.items bare ∙ c.in_ok-reached.ensures.frame.long in
+    λ i d l. let inside = (con.of i d l).node in omega (arith, nets, inside)
 
 pub finish-requires-clause-contradictory : goal.finish-requires-clause-contradictory
 finish-requires-clause-contradictory g c =

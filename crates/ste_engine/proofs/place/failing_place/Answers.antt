@@ -63,8 +63,8 @@ renew-requires-clause-cuts g c =
     let p = c.loop-t.invariant in
     let k = c.loop-t.t in
     let n = c.depth-depth.result in
-    let ant : IsNextLine t net (map (fixed_quint bits) task.ant) n k c.cuts_at.new.self c.as_slice-in-loop-t.result.now = next_line t net (map (fixed_quint bits) task.ant) n k c.loop-t.ant c.cuts_at.new.self c.in_ok-asked.asked.items c.as_slice-in-loop-t.result.now
-    p.ant c.loop-t-test.true (fixed_inside bits net.nets task.ant c.requires.ant) c.as_slice-in-loop-t.ensures.value c.in_ok-asked.ensures in
+    let ant : IsNextLine t net (map (fixed_quint bits) task.ant) n k c.advance.new.self c.cuts.result.now = next_line t net (map (fixed_quint bits) task.ant) n k c.loop-t.ant c.advance.new.self c.advance.new.self.cuts.items c.cuts.result.now
+    p.ant c.loop-t-test.true (fixed_inside bits net.nets task.ant c.requires.ant) c.cuts.ensures c.in_ok-advance.ensures in
     ant.of
 
 pub returns-in-Err-OutOfMemory-clause-same : goal.returns-in-Err-OutOfMemory-clause-same
@@ -83,12 +83,12 @@ returns-in-Err-OutOfMemory-clause-same g c =
     let is : IsTableOf net task bits table = c.requires.found.1 in
     let held : List Rails = next_of net c.loop-t.frame in
     let at : IsPlaceAt net task bits f table t k held = p.reached table is in
-    let ant : IsNextLine t net (map (fixed_quint bits) task.ant) n k c.cuts_at.new.self c.as_slice-in-loop-t.result.now = next_line t net (map (fixed_quint bits) task.ant) n k c.loop-t.ant c.cuts_at.new.self c.in_ok-asked.asked.items c.as_slice-in-loop-t.result.now
-    p.ant c.loop-t-test.true (fixed_inside bits net.nets task.ant c.requires.ant) c.as_slice-in-loop-t.ensures.value c.in_ok-asked.ensures in
+    let ant : IsNextLine t net (map (fixed_quint bits) task.ant) n k c.advance.new.self c.cuts.result.now = next_line t net (map (fixed_quint bits) task.ant) n k c.loop-t.ant c.advance.new.self c.advance.new.self.cuts.items c.cuts.result.now
+    p.ant c.loop-t-test.true (fixed_inside bits net.nets task.ant c.requires.ant) c.cuts.ensures c.in_ok-advance.ensures in
     let u : Store = g.N.Nodes.store c.renew.new.nodes in
     let gt = g.met.N.Nodes.diagram c.loop-t.nodes in
     let gu = g.met.N.Nodes.diagram c.renew.new.nodes in
-    let makes = step_makes net task bits f table is t u k below c.renew.new.frame c.as_slice-in-loop-t.result.now held (Err c.in-Err-OutOfMemory.field-0) gu (g.met.N.Nodes.made_held c.renew.new.nodes) ant.by at c.in-Err-OutOfMemory.ensures.built in
+    let makes = step_makes net task bits f table is t u k below c.renew.new.frame c.cuts.result.now held (Err c.in-Err-OutOfMemory.field-0) gu (g.met.N.Nodes.made_held c.renew.new.nodes) ant.by at c.in-Err-OutOfMemory.ensures.built in
     nothing_more s t u p.same makes
 
 pub unreachable-requires : goal.unreachable-requires
@@ -106,12 +106,12 @@ unreachable-requires g c =
     let is : IsTableOf net task bits table = c.requires.found.1 in
     let held : List Rails = next_of net c.loop-t.frame in
     let at : IsPlaceAt net task bits f table t k held = p.reached table is in
-    let ant : IsNextLine t net (map (fixed_quint bits) task.ant) n k c.cuts_at.new.self c.as_slice-in-loop-t.result.now = next_line t net (map (fixed_quint bits) task.ant) n k c.loop-t.ant c.cuts_at.new.self c.in_ok-asked.asked.items c.as_slice-in-loop-t.result.now
-    p.ant c.loop-t-test.true (fixed_inside bits net.nets task.ant c.requires.ant) c.as_slice-in-loop-t.ensures.value c.in_ok-asked.ensures in
+    let ant : IsNextLine t net (map (fixed_quint bits) task.ant) n k c.advance.new.self c.cuts.result.now = next_line t net (map (fixed_quint bits) task.ant) n k c.loop-t.ant c.advance.new.self c.advance.new.self.cuts.items c.cuts.result.now
+    p.ant c.loop-t-test.true (fixed_inside bits net.nets task.ant c.requires.ant) c.cuts.ensures c.in_ok-advance.ensures in
     let u : Store = g.N.Nodes.store c.renew.new.nodes in
     let gt = g.met.N.Nodes.diagram c.loop-t.nodes in
     let gu = g.met.N.Nodes.diagram c.renew.new.nodes in
-    step_goes net task bits f table is t u k below c.renew.new.frame c.as_slice-in-loop-t.result.now held (Err c.in-Err-StepsOut.field-0) gu (g.met.N.Nodes.made_held c.renew.new.nodes) ant.by at c.in-Err-StepsOut.ensures.built (ap Err c.in-Err-StepsOut.field-0-is)
+    step_goes net task bits f table is t u k below c.renew.new.frame c.cuts.result.now held (Err c.in-Err-StepsOut.field-0) gu (g.met.N.Nodes.made_held c.renew.new.nodes) ant.by at c.in-Err-StepsOut.ensures.built (ap Err c.in-Err-StepsOut.field-0-is)
 
 pub first_failing_in-requires : goal.first_failing_in-requires
 first_failing_in-requires g c =
@@ -128,15 +128,15 @@ first_failing_in-requires g c =
     let is : IsTableOf net task bits table = c.requires.found.1 in
     let held : List Rails = next_of net c.loop-t.frame in
     let at : IsPlaceAt net task bits f table t k held = p.reached table is in
-    let ant : IsNextLine t net (map (fixed_quint bits) task.ant) n k c.cuts_at.new.self c.as_slice-in-loop-t.result.now = next_line t net (map (fixed_quint bits) task.ant) n k c.loop-t.ant c.cuts_at.new.self c.in_ok-asked.asked.items c.as_slice-in-loop-t.result.now
-    p.ant c.loop-t-test.true (fixed_inside bits net.nets task.ant c.requires.ant) c.as_slice-in-loop-t.ensures.value c.in_ok-asked.ensures in
+    let ant : IsNextLine t net (map (fixed_quint bits) task.ant) n k c.advance.new.self c.cuts.result.now = next_line t net (map (fixed_quint bits) task.ant) n k c.loop-t.ant c.advance.new.self c.advance.new.self.cuts.items c.cuts.result.now
+    p.ant c.loop-t-test.true (fixed_inside bits net.nets task.ant c.requires.ant) c.cuts.ensures c.in_ok-advance.ensures in
     let u : Store = g.N.Nodes.store c.renew.new.nodes in
     let gt = g.met.N.Nodes.diagram c.loop-t.nodes in
     let gu = g.met.N.Nodes.diagram c.renew.new.nodes in
-    let con : IsNextLine t net (map (fixed_quint bits) task.con) n k c.cuts_at-in-loop-t.new.self c.as_slice-in-loop-t-2.result.now = next_line t net (map (fixed_quint bits) task.con) n k c.loop-t.con c.cuts_at-in-loop-t.new.self c.in_ok-wanted.wanted.items c.as_slice-in-loop-t-2.result.now
-    p.con c.loop-t-test.true (fixed_inside bits net.nets task.con c.requires.con) c.as_slice-in-loop-t-2.ensures.value c.in_ok-wanted.ensures in
+    let con : IsNextLine t net (map (fixed_quint bits) task.con) n k c.advance-in-loop-t.new.self c.cuts-in-loop-t.result.now = next_line t net (map (fixed_quint bits) task.con) n k c.loop-t.con c.advance-in-loop-t.new.self c.advance-in-loop-t.new.self.cuts.items c.cuts-in-loop-t.result.now
+    p.con c.loop-t-test.true (fixed_inside bits net.nets task.con c.requires.con) c.cuts-in-loop-t.ensures c.in_ok-advance-2.ensures in
     let made : Step = step_of net c.renew.new.frame c.in-Ok.field-0 in
-    let step : IsStep net (constant_table table k) u made = (step_built net task bits f table is t u k below c.renew.new.frame c.as_slice-in-loop-t.result.now held (Ok c.in-Ok.field-0) ant.by at c.in-Ok.ensures.built).ok in
+    let step : IsStep net (constant_table table k) u made = (step_built net task bits f table is t u k below c.renew.new.frame c.cuts.result.now held (Ok c.in-Ok.field-0) ant.by at c.in-Ok.ensures.built).ok in
     let nets : List Rails = nets_of c.renew.new.frame in
     let long : length nets ≡ net.nets = step.long in
     λ j d lt. let inside = (con.of j d lt).node in omega (arith, long, inside)
@@ -156,22 +156,22 @@ returns-in-Some-clause-place g c =
     let is : IsTableOf net task bits table = c.requires.found.1 in
     let held : List Rails = next_of net c.loop-t.frame in
     let at : IsPlaceAt net task bits f table t k held = p.reached table is in
-    let ant : IsNextLine t net (map (fixed_quint bits) task.ant) n k c.cuts_at.new.self c.as_slice-in-loop-t.result.now = next_line t net (map (fixed_quint bits) task.ant) n k c.loop-t.ant c.cuts_at.new.self c.in_ok-asked.asked.items c.as_slice-in-loop-t.result.now
-    p.ant c.loop-t-test.true (fixed_inside bits net.nets task.ant c.requires.ant) c.as_slice-in-loop-t.ensures.value c.in_ok-asked.ensures in
+    let ant : IsNextLine t net (map (fixed_quint bits) task.ant) n k c.advance.new.self c.cuts.result.now = next_line t net (map (fixed_quint bits) task.ant) n k c.loop-t.ant c.advance.new.self c.advance.new.self.cuts.items c.cuts.result.now
+    p.ant c.loop-t-test.true (fixed_inside bits net.nets task.ant c.requires.ant) c.cuts.ensures c.in_ok-advance.ensures in
     let u : Store = g.N.Nodes.store c.renew.new.nodes in
     let gt = g.met.N.Nodes.diagram c.loop-t.nodes in
     let gu = g.met.N.Nodes.diagram c.renew.new.nodes in
-    let con : IsNextLine t net (map (fixed_quint bits) task.con) n k c.cuts_at-in-loop-t.new.self c.as_slice-in-loop-t-2.result.now = next_line t net (map (fixed_quint bits) task.con) n k c.loop-t.con c.cuts_at-in-loop-t.new.self c.in_ok-wanted.wanted.items c.as_slice-in-loop-t-2.result.now
-    p.con c.loop-t-test.true (fixed_inside bits net.nets task.con c.requires.con) c.as_slice-in-loop-t-2.ensures.value c.in_ok-wanted.ensures in
-    let makes = step_makes net task bits f table is t u k below c.renew.new.frame c.as_slice-in-loop-t.result.now held (Ok c.in-Ok.field-0) gu (g.met.N.Nodes.made_held c.renew.new.nodes) ant.by at c.in-Ok.ensures.built in
+    let con : IsNextLine t net (map (fixed_quint bits) task.con) n k c.advance-in-loop-t.new.self c.cuts-in-loop-t.result.now = next_line t net (map (fixed_quint bits) task.con) n k c.loop-t.con c.advance-in-loop-t.new.self c.advance-in-loop-t.new.self.cuts.items c.cuts-in-loop-t.result.now
+    p.con c.loop-t-test.true (fixed_inside bits net.nets task.con c.requires.con) c.cuts-in-loop-t.ensures c.in_ok-advance-2.ensures in
+    let makes = step_makes net task bits f table is t u k below c.renew.new.frame c.cuts.result.now held (Ok c.in-Ok.field-0) gu (g.met.N.Nodes.made_held c.renew.new.nodes) ant.by at c.in-Ok.ensures.built in
     let made : Step = step_of net c.renew.new.frame c.in-Ok.field-0 in
-    let step : IsStep net (constant_table table k) u made = (step_built net task bits f table is t u k below c.renew.new.frame c.as_slice-in-loop-t.result.now held (Ok c.in-Ok.field-0) ant.by at c.in-Ok.ensures.built).ok in
+    let step : IsStep net (constant_table table k) u made = (step_built net task bits f table is t u k below c.renew.new.frame c.cuts.result.now held (Ok c.in-Ok.field-0) ant.by at c.in-Ok.ensures.built).ok in
     let nets : List Rails = nets_of c.renew.new.frame in
     let long : length nets ≡ net.nets = step.long in
     let have : (id : ℕ) → id < length nets → AreRails u (constant_set (table k id)) (rails_at nets id) = λ id lt. step.nets id (omega (arith, long, lt)) in
-    let wanted : AllZip (IsCutBy u) (symbolic_cuts_at (map (fixed_quint bits) task.con) k) c.as_slice-in-loop-t-2.result.now = Demands-keep t u (symbolic_cuts_at (map (fixed_quint bits) task.con) k) c.as_slice-in-loop-t-2.result.now gt gu makes.keeps con.by in
+    let wanted : AllZip (IsCutBy u) (symbolic_cuts_at (map (fixed_quint bits) task.con) k) c.cuts-in-loop-t.result.now = Demands-keep t u (symbolic_cuts_at (map (fixed_quint bits) task.con) k) c.cuts-in-loop-t.result.now gt gu makes.keeps con.by in
     let inside : All (λ quint. quint.node.0 < length nets) task.con = λ j d lt. let within = c.requires.con j d lt in omega (arith, long, within) in
-    let told = first_is f u (table k) nets bits k gu have task.con c.as_slice-in-loop-t-2.result.now inside wanted in
+    let told = first_is f u (table k) nets bits k gu have task.con c.cuts-in-loop-t.result.now inside wanted in
     place_is net task bits f table is t u k below c.renew.new.frame held c.in-Some.node at (subst (λ (o : Option NodeId). IsTold f (table k) (cuts_at task.con bits k) o) (sym c.in-Some.ensures) told)
 
 pub returns-in-Some-clause-same : goal.returns-in-Some-clause-same
@@ -190,12 +190,12 @@ returns-in-Some-clause-same g c =
     let is : IsTableOf net task bits table = c.requires.found.1 in
     let held : List Rails = next_of net c.loop-t.frame in
     let at : IsPlaceAt net task bits f table t k held = p.reached table is in
-    let ant : IsNextLine t net (map (fixed_quint bits) task.ant) n k c.cuts_at.new.self c.as_slice-in-loop-t.result.now = next_line t net (map (fixed_quint bits) task.ant) n k c.loop-t.ant c.cuts_at.new.self c.in_ok-asked.asked.items c.as_slice-in-loop-t.result.now
-    p.ant c.loop-t-test.true (fixed_inside bits net.nets task.ant c.requires.ant) c.as_slice-in-loop-t.ensures.value c.in_ok-asked.ensures in
+    let ant : IsNextLine t net (map (fixed_quint bits) task.ant) n k c.advance.new.self c.cuts.result.now = next_line t net (map (fixed_quint bits) task.ant) n k c.loop-t.ant c.advance.new.self c.advance.new.self.cuts.items c.cuts.result.now
+    p.ant c.loop-t-test.true (fixed_inside bits net.nets task.ant c.requires.ant) c.cuts.ensures c.in_ok-advance.ensures in
     let u : Store = g.N.Nodes.store c.renew.new.nodes in
     let gt = g.met.N.Nodes.diagram c.loop-t.nodes in
     let gu = g.met.N.Nodes.diagram c.renew.new.nodes in
-    let makes = step_makes net task bits f table is t u k below c.renew.new.frame c.as_slice-in-loop-t.result.now held (Ok c.in-Ok.field-0) gu (g.met.N.Nodes.made_held c.renew.new.nodes) ant.by at c.in-Ok.ensures.built in
+    let makes = step_makes net task bits f table is t u k below c.renew.new.frame c.cuts.result.now held (Ok c.in-Ok.field-0) gu (g.met.N.Nodes.made_held c.renew.new.nodes) ant.by at c.in-Ok.ensures.built in
     nothing_more s t u p.same makes
 
 pub loop-t-preserved : goal.loop-t-preserved
@@ -214,33 +214,33 @@ loop-t-preserved g c =
     let is : IsTableOf net task bits table = c.requires.found.1 in
     let held : List Rails = next_of net c.loop-t.frame in
     let at : IsPlaceAt net task bits f table t k held = p.reached table is in
-    let ant : IsNextLine t net (map (fixed_quint bits) task.ant) n k c.cuts_at.new.self c.as_slice-in-loop-t.result.now = next_line t net (map (fixed_quint bits) task.ant) n k c.loop-t.ant c.cuts_at.new.self c.in_ok-asked.asked.items c.as_slice-in-loop-t.result.now
-    p.ant c.loop-t-test.true (fixed_inside bits net.nets task.ant c.requires.ant) c.as_slice-in-loop-t.ensures.value c.in_ok-asked.ensures in
+    let ant : IsNextLine t net (map (fixed_quint bits) task.ant) n k c.advance.new.self c.cuts.result.now = next_line t net (map (fixed_quint bits) task.ant) n k c.loop-t.ant c.advance.new.self c.advance.new.self.cuts.items c.cuts.result.now
+    p.ant c.loop-t-test.true (fixed_inside bits net.nets task.ant c.requires.ant) c.cuts.ensures c.in_ok-advance.ensures in
     let u : Store = g.N.Nodes.store c.renew.new.nodes in
     let gt = g.met.N.Nodes.diagram c.loop-t.nodes in
     let gu = g.met.N.Nodes.diagram c.renew.new.nodes in
-    let con : IsNextLine t net (map (fixed_quint bits) task.con) n k c.cuts_at-in-loop-t.new.self c.as_slice-in-loop-t-2.result.now = next_line t net (map (fixed_quint bits) task.con) n k c.loop-t.con c.cuts_at-in-loop-t.new.self c.in_ok-wanted.wanted.items c.as_slice-in-loop-t-2.result.now
-    p.con c.loop-t-test.true (fixed_inside bits net.nets task.con c.requires.con) c.as_slice-in-loop-t-2.ensures.value c.in_ok-wanted.ensures in
-    let makes = step_makes net task bits f table is t u k below c.renew.new.frame c.as_slice-in-loop-t.result.now held (Ok c.in-Ok.field-0) gu (g.met.N.Nodes.made_held c.renew.new.nodes) ant.by at c.in-Ok.ensures.built in
+    let con : IsNextLine t net (map (fixed_quint bits) task.con) n k c.advance-in-loop-t.new.self c.cuts-in-loop-t.result.now = next_line t net (map (fixed_quint bits) task.con) n k c.loop-t.con c.advance-in-loop-t.new.self c.advance-in-loop-t.new.self.cuts.items c.cuts-in-loop-t.result.now
+    p.con c.loop-t-test.true (fixed_inside bits net.nets task.con c.requires.con) c.cuts-in-loop-t.ensures c.in_ok-advance-2.ensures in
+    let makes = step_makes net task bits f table is t u k below c.renew.new.frame c.cuts.result.now held (Ok c.in-Ok.field-0) gu (g.met.N.Nodes.made_held c.renew.new.nodes) ant.by at c.in-Ok.ensures.built in
     record {
-      ant = Line-keeps t u (map (fixed_quint bits) task.ant) n (k + 1) c.cuts_at.new.self gt gu makes.keeps ant.is;
-      con = Line-keeps t u (map (fixed_quint bits) task.con) n (k + 1) c.cuts_at-in-loop-t.new.self gt gu makes.keeps con.is;
+      ant = Line-keeps t u (map (fixed_quint bits) task.ant) n (k + 1) c.advance.new.self gt gu makes.keeps ant.is;
+      con = Line-keeps t u (map (fixed_quint bits) task.con) n (k + 1) c.advance-in-loop-t.new.self gt gu makes.keeps con.is;
       reached = λ table is.
           let held : List Rails = next_of net c.loop-t.frame in
           let at : IsPlaceAt net task bits f table t k held = p.reached table is in
-          let ant : IsNextLine t net (map (fixed_quint bits) task.ant) n k c.cuts_at.new.self c.as_slice-in-loop-t.result.now = next_line t net (map (fixed_quint bits) task.ant) n k c.loop-t.ant c.cuts_at.new.self c.in_ok-asked.asked.items c.as_slice-in-loop-t.result.now
-          p.ant c.loop-t-test.true (fixed_inside bits net.nets task.ant c.requires.ant) c.as_slice-in-loop-t.ensures.value c.in_ok-asked.ensures in
-          let con : IsNextLine t net (map (fixed_quint bits) task.con) n k c.cuts_at-in-loop-t.new.self c.as_slice-in-loop-t-2.result.now = next_line t net (map (fixed_quint bits) task.con) n k c.loop-t.con c.cuts_at-in-loop-t.new.self c.in_ok-wanted.wanted.items c.as_slice-in-loop-t-2.result.now
-          p.con c.loop-t-test.true (fixed_inside bits net.nets task.con c.requires.con) c.as_slice-in-loop-t-2.ensures.value c.in_ok-wanted.ensures in
-          let makes = step_makes net task bits f table is t u k below c.renew.new.frame c.as_slice-in-loop-t.result.now held (Ok c.in-Ok.field-0) gu (g.met.N.Nodes.made_held c.renew.new.nodes) ant.by at c.in-Ok.ensures.built in
+          let ant : IsNextLine t net (map (fixed_quint bits) task.ant) n k c.advance.new.self c.cuts.result.now = next_line t net (map (fixed_quint bits) task.ant) n k c.loop-t.ant c.advance.new.self c.advance.new.self.cuts.items c.cuts.result.now
+          p.ant c.loop-t-test.true (fixed_inside bits net.nets task.ant c.requires.ant) c.cuts.ensures c.in_ok-advance.ensures in
+          let con : IsNextLine t net (map (fixed_quint bits) task.con) n k c.advance-in-loop-t.new.self c.cuts-in-loop-t.result.now = next_line t net (map (fixed_quint bits) task.con) n k c.loop-t.con c.advance-in-loop-t.new.self c.advance-in-loop-t.new.self.cuts.items c.cuts-in-loop-t.result.now
+          p.con c.loop-t-test.true (fixed_inside bits net.nets task.con c.requires.con) c.cuts-in-loop-t.ensures c.in_ok-advance-2.ensures in
+          let makes = step_makes net task bits f table is t u k below c.renew.new.frame c.cuts.result.now held (Ok c.in-Ok.field-0) gu (g.met.N.Nodes.made_held c.renew.new.nodes) ant.by at c.in-Ok.ensures.built in
           let made : Step = step_of net c.renew.new.frame c.in-Ok.field-0 in
-          let step : IsStep net (constant_table table k) u made = (step_built net task bits f table is t u k below c.renew.new.frame c.as_slice-in-loop-t.result.now held (Ok c.in-Ok.field-0) ant.by at c.in-Ok.ensures.built).ok in
+          let step : IsStep net (constant_table table k) u made = (step_built net task bits f table is t u k below c.renew.new.frame c.cuts.result.now held (Ok c.in-Ok.field-0) ant.by at c.in-Ok.ensures.built).ok in
           let nets : List Rails = nets_of c.renew.new.frame in
           let long : length nets ≡ net.nets = step.long in
           let have : (id : ℕ) → id < length nets → AreRails u (constant_set (table k id)) (rails_at nets id) = λ id lt. step.nets id (omega (arith, long, lt)) in
-          let wanted : AllZip (IsCutBy u) (symbolic_cuts_at (map (fixed_quint bits) task.con) k) c.as_slice-in-loop-t-2.result.now = Demands-keep t u (symbolic_cuts_at (map (fixed_quint bits) task.con) k) c.as_slice-in-loop-t-2.result.now gt gu makes.keeps con.by in
+          let wanted : AllZip (IsCutBy u) (symbolic_cuts_at (map (fixed_quint bits) task.con) k) c.cuts-in-loop-t.result.now = Demands-keep t u (symbolic_cuts_at (map (fixed_quint bits) task.con) k) c.cuts-in-loop-t.result.now gt gu makes.keeps con.by in
           let inside : All (λ quint. quint.node.0 < length nets) task.con = λ j d lt. let within = c.requires.con j d lt in omega (arith, long, within) in
-          let told = first_is f u (table k) nets bits k gu have task.con c.as_slice-in-loop-t-2.result.now inside wanted in
+          let told = first_is f u (table k) nets bits k gu have task.con c.cuts-in-loop-t.result.now inside wanted in
           place_next net task bits f table is t u k below c.renew.new.frame held made at step (subst (λ (o : Option NodeId). IsTold f (table k) (cuts_at task.con bits k) o) (sym c.first_failing_in.ensures ∙ not_some c.first_failing_in.result c.in_default.not-Some) told);
       frame = c.in-Ok.ensures.frame;
       same = nothing_more s t u p.same makes;

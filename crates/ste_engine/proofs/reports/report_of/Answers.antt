@@ -4,6 +4,7 @@ use Rattle.net_core.specs.declared.raw.RawNet.{RawNet}
 use Rattle.ste_model.specs.declared.task.Assertion.{Assertion}
 use Rattle.ste_model.specs.Found.{IsVerdictOf}
 use Rattle.ste_engine.specs.declared.results.Results.{Results}
+use Rattle.ste_engine.specs.private.Firsts.{AreFirsts}
 use Rattle.ste_engine.specs.private.Reports.{IsFailureOf}
 use Rattle.ste_engine.proofs.reports.report_of.Goals as goal
 
@@ -12,6 +13,9 @@ shown_of-requires-clause-judged g c =
     let net : RawNet = c.args.net.now.raw in
     let task : Assertion = c.args.task.now in
     subst (λ (x : Store). IsVerdictOf net x.vars task c.verdict_of-verdict.result) (sym c.in_ok-guards.ensures.store) (c.verdict_of-verdict.ensures net task c.requires.told)
+
+pub shown_of-requires-clause-firsts : goal.shown_of-requires-clause-firsts
+shown_of-requires-clause-firsts g c = subst (λ (x : Store). AreFirsts x.vars c.args.net.now.raw c.args.task.now c.args.firsts) (sym c.in_ok-guards.ensures.store) c.requires.firsts
 
 pub returns-clause-report : goal.returns-clause-report
 returns-clause-report g c =

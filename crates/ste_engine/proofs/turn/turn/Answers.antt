@@ -174,3 +174,33 @@ returns-clause-frame g c =
     } in
     let d = c.in_ok-found.ensures sets asked f h have wanted begun in
     frame_keeps t v net.raw frame net.in_range gt gv (Keeps-trans t u v stu d.spends.keeps) c.in_ok-empty.ensures.frame
+
+pub returns-clause-have : goal.returns-clause-have
+returns-clause-have g c = λ ls ds wanted_sets zip asks family id inside.
+    let s : Store = g.N.Nodes.store c.args.nodes.now in
+    let t : Store = g.N.Nodes.store c.renew.new.nodes in
+    let u : Store = g.N.Nodes.store c.either.new.nodes in
+    let v : Store = g.N.Nodes.store c.find_all.new.nodes in
+    let gt = g.met.N.Nodes.diagram c.renew.new.nodes in
+    let gv = g.met.N.Nodes.diagram c.find_all.new.nodes in
+    let net = c.args.net.now in
+    let con : List Cut = c.args.con.now in
+    let before : Turned = c.args.before.now in
+    let frame : Frame = c.renew.new.frame in
+    let nets : List Rails = nets_of frame in
+    let stu = c.in_ok-contradictory.ensures.keeps in
+    let ksu = Keeps-trans s t u c.in_ok-empty.ensures.keeps stu in
+    let refs : All (AreRefs u) nets = All-refs-keep t u nets stu (rails_refs t frame.board.nets.items c.in_ok-empty.ensures.frame.refs) in
+    let sets : ℕ → SymbolicSet = λ id. set_where u (rails_at nets id) in
+    let have : (id : ℕ) → id < length nets → AreRails u (sets id) (rails_at nets id) = λ id lt. own_set u (rails_at nets id) (refs id _ lt) in
+    let asked : List SymbolicCut = map (λ (x : Cut). record { node = x.node.0; guard = function u x.guard; value = function u x.value }) con in
+    let wanted : AllZip (IsCutBy u) asked con = own_demands u con (λ k d l. IsFrom-grows s.held u.held 0 _ ksu.grows (c.requires.con k d l).guard) (λ k d l. IsFrom-grows s.held u.held 0 _ ksu.grows (c.requires.con k d l).value) in
+    let f : Function = function u before.found.strong in
+    let h : Function = function u before.found.weak in
+    let begun : AreFound f h u before.found = record {
+      strong = own u before.found.strong (IsFrom-grows s.held u.held 0 _ ksu.grows c.requires.before.found.strong);
+      weak = own u before.found.weak (IsFrom-grows s.held u.held 0 _ ksu.grows c.requires.before.found.weak);
+    } in
+    let d = c.in_ok-found.ensures sets asked f h have wanted begun in
+    let a = c.in_ok-empty.ensures.built ls (asked_by ds) wanted_sets zip asks family in
+    Rails-keep t v (wanted_sets id) (rails_at nets id) gt gv (Keeps-trans t u v stu d.spends.keeps) (a.ok.nets id inside)

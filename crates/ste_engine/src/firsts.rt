@@ -1,0 +1,113 @@
+//! Where each assignment fails first, as far as it is clear beside the times; begin with `Firsts`.
+
+ghost use Rattle.std.specs.Prelude.{◌≡◌, ◌<◌, ◌⊎◌, All, IfSome, IsTrue, None, Some, length};
+ghost use Rattle.sym_step.specs.Step.{rails_at};
+ghost use Rattle.sym_step.specs.private.Frames.{nets_of};
+ghost use Rattle.ste_engine.specs.declared.failing.Failure.TheVariants.{Strong, Weak};
+ghost use Rattle.ste_engine.specs.private.Firsts.{IsFirstAt, IsFixed};
+
+use crate::failing::{Failure, first_failing_in};
+use crate::results::Found;
+use dd_nodes::Ref;
+use dual_rail::Rails;
+use ste_base::{NodeId, Time};
+use sym_step::{Cut, Frame};
+
+/// For each way to fail the net of a consequent and the time step at which each assignment fails so first, where it is clear
+/// that there is such a place: all is constant there, and nothing was found before.
+#[derive(Clone, Copy, Debug, PartialEq, Eq, Drop)]
+pub struct Firsts {
+    pub strong: Option<(NodeId, Time)>,
+    pub weak: Option<(NodeId, Time)>,
+}
+
+/// Whether a consequent's guard and value are constants, and so is the set of its net.
+fn is_fixed(r: Rails, c: Cut) -> bool
+    ensures { IsTrue result → IsFixed r c }
+{
+    r.can0.0.max(r.can1.0) < 2 && c.guard.0.max(c.value.0) < 2
+}
+
+/// Whether this is so of each of these consequents, on the sets of a frame.
+fn are_fixed(frame: &Frame, cuts: &[Cut]) -> bool
+    requires { All (λ c. c.node.0 < length (nets_of frame.now)) cuts.now }
+    ensures { IsTrue result
+        → All (λ c. IsFixed (rails_at (nets_of frame.now) c.node.0) c) cuts.now }
+{
+    for c in cuts {
+        if !is_fixed(frame.rails(c.node), *c) {
+            return false;
+        }
+    }
+    true
+}
+
+/// The net of the consequent that fails so first at a time under each assignment, where the sums before and behind the time
+/// say that it is the first time, and all is constant.
+fn first_at(
+    failure: Failure,
+    frame: &Frame,
+    cuts: &[Cut],
+    before: Ref,
+    after: Ref,
+) -> Option<NodeId>
+    requires { All (λ c. c.node.0 < length (nets_of frame.now)) cuts.now }
+    ensures { IfSome result (IsFirstAt failure (nets_of frame.now) cuts.now before) }
+{
+    if before != Ref::FALSE || after == Ref::FALSE {
+        return None;
+    }
+    if !are_fixed(frame, cuts) {
+        return None;
+    }
+    first_failing_in(failure, frame, cuts)
+}
+
+/// The place of a net at a time, or else that of before.
+fn placed(node: Option<NodeId>, time: Time, first: Option<(NodeId, Time)>) -> Option<(NodeId, Time)>
+    ensures { IfSome result (λ place. (first ≡ Some place)
+        ⊎ ((node ≡ Some place.0) × (place.1 ≡ time))) }
+{
+    match node {
+        Some(node) => Some((node, time)),
+        None => first,
+    }
+}
+
+impl Firsts {
+    /// No place is clear yet.
+    pub fn none() -> Firsts
+        ensures strong { result.strong ≡ None }
+        ensures weak { result.weak ≡ None }
+    {
+        Firsts {
+            strong: None,
+            weak: None,
+        }
+    }
+
+    /// The same behind one more time, whose sets the frame has, from what was found before it and with it.
+    pub fn with_time(
+        self,
+        frame: &Frame,
+        cuts: &[Cut],
+        before: Found,
+        after: Found,
+        time: Time,
+    ) -> Firsts
+        requires { All (λ c. c.node.0 < length (nets_of frame.now)) cuts.now }
+        ensures strong { IfSome result.strong (λ place. (self.strong ≡ Some place)
+            ⊎ (IsFirstAt Strong (nets_of frame.now) cuts.now before.strong place.0
+            × (place.1 ≡ time))) }
+        ensures weak { IfSome result.weak (λ place. (self.weak ≡ Some place)
+            ⊎ (IsFirstAt Weak (nets_of frame.now) cuts.now before.weak place.0
+            × (place.1 ≡ time))) }
+    {
+        let strong = first_at(Failure::Strong, frame, cuts, before.strong, after.strong);
+        let weak = first_at(Failure::Weak, frame, cuts, before.weak, after.weak);
+        Firsts {
+            strong: placed(strong, time, self.strong),
+            weak: placed(weak, time, self.weak),
+        }
+    }
+}
