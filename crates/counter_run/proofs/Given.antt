@@ -15,8 +15,7 @@ use Rattle.net_core.proofs.Runs.{some_run}
 use Rattle.clock_step.specs.Simulation.{bit_in}
 use Rattle.clock_step.specs.private.Settled.{AreBits, AreDetermined, bit_at}
 use Rattle.clock_step.proofs.Settling.{bits_known}
-use Rattle.counter_run.specs.private.Matrix.{AreSourceNodes, IsMatrix, SameShape, cell}
-use Rattle.counter_run.proofs.Cells.{matrix_as}
+use Rattle.counter_run.specs.private.Matrix.{AreSourceNodes, cell}
 
 -- the bit of a node in a row that has a bit for each node, by its number
 bit_in_map : (nodes : List NodeId) (bit : ℕ → Bool) (id k : ℕ) → k < length nodes → ((d : NodeId) → (get_or nodes k d).0 ≡ id) → bit_in nodes (map (λ node. bit node.0) nodes) id ≡ bit id
@@ -28,12 +27,12 @@ bit_in_map (node ∷ nodes) bit id (suc k) l at = elim (cases_eq node.0 id) [
 ]
 
 -- a run has at each time the bits that what is given and what the latches hold determine
-pub determined : (net : RawNet) (nodes : List NodeId) (row held first : List Bool) (given now : List (List Bool)) (times t : ℕ) → AreSourceNodes net nodes → t < times → row ≡ map (λ node. cell now t node.0) nodes → ((id : ℕ) → cell now t id ≡ cell given t id) → (run : ℕ → ℕ → Bool) → IsGivenRun net (cell given) first times run → held ≡ map (λ latch. run t latch.output.0) net.latches → AreDetermined net nodes row held (run t)
+pub determined : (net : RawNet) (nodes : List NodeId) (row held first : List Bool) (given : ℕ → ℕ → Bool) (now : ℕ → Bool) (times t : ℕ) → AreSourceNodes net nodes → t < times → row ≡ map (λ node. now node.0) nodes → ((id : ℕ) → id < net.nets → now id ≡ given t id) → (run : ℕ → ℕ → Bool) → IsGivenRun net given first times run → held ≡ map (λ latch. run t latch.output.0) net.latches → AreDetermined net nodes row held (run t)
 determined net nodes row held first given now times t sources l is same run h holds = record {
   gates = h.is_run.gates t l;
   given = λ id m none.
       let at = sources.every id m none in
-      h.sources t id l m none ∙ sym (same id) ∙ sym (bit_in_map nodes (cell now t) id at.0 at.1 at.2) ∙ ap (λ (r : List Bool). bit_in nodes r id) (sym is);
+      h.sources t id l m none ∙ sym (same id m) ∙ sym (bit_in_map nodes now id at.0 at.1 at.2) ∙ ap (λ (r : List Bool). bit_in nodes r id) (sym is);
   latches = holds;
 }
 
@@ -94,48 +93,44 @@ given_as net times items given rows lists first is lists_are first_is h =
 
 -- before time t the bits are those of each run with what is given, later they are what is given, and the latches hold what
 -- the run has next
-pub record AreCompleted (net : RawNet) (times : ℕ) (first : List Bool) (given now : List (List Bool)) (held : List Bool) (t : ℕ) : Type 0 where
-  pub matrix : IsMatrix net.nets times now
+pub record AreCompleted (net : RawNet) (times : ℕ) (first : List Bool) (given now : ℕ → ℕ → Bool) (held : List Bool) (t : ℕ) : Type 0 where
   pub count : length held ≡ length net.latches
-  pub later : (s id : ℕ) → t ≤ s → cell now s id ≡ cell given s id
-  pub done : (run : ℕ → ℕ → Bool) → IsGivenRun net (cell given) first times run → (s id : ℕ) → s < t → id < net.nets → cell now s id ≡ run s id
-  pub holds : (run : ℕ → ℕ → Bool) → IsGivenRun net (cell given) first times run → t < times → held ≡ map (λ latch. run t latch.output.0) net.latches
+  pub later : (s id : ℕ) → t ≤ s → id < net.nets → now s id ≡ given s id
+  pub done : (run : ℕ → ℕ → Bool) → IsGivenRun net given first times run → (s id : ℕ) → s < t → id < net.nets → now s id ≡ run s id
+  pub holds : (run : ℕ → ℕ → Bool) → IsGivenRun net given first times run → t < times → held ≡ map (λ latch. run t latch.output.0) net.latches
 
-pub none_completed : (net : RawNet) (times : ℕ) (first held : List Bool) (given : List (List Bool)) → IsMatrix net.nets times given → held ≡ first → length first ≡ length net.latches → AreCompleted net times first given given held 0
-none_completed net times first held given matrix is size = record {
-  matrix = matrix;
+pub none_completed : (net : RawNet) (times : ℕ) (first held : List Bool) (given now : ℕ → ℕ → Bool) → held ≡ first → length first ≡ length net.latches → ((s id : ℕ) → now s id ≡ given s id) → AreCompleted net times first given now held 0
+none_completed net times first held given now is size same = record {
   count = ap length is ∙ size;
-  later = λ s id l. refl;
+  later = λ s id l m. same s id;
   done = λ run h s id l m. absurd (omega arith);
   holds = λ run h l. is ∙ starts_are (run 0) net.latches first (h.starts l);
 }
 
--- one time more, with the bits of all nets at it
-pub one_completed : (net : RawNet) (nodes : List NodeId) (times t : ℕ) (first row held shown bits next : List Bool) (given now later : List (List Bool)) → IsInRange net → AreSourceNodes net nodes → t < times → row ≡ map (λ node. cell now t node.0) nodes → shown ≡ held
-    → ((bit : ℕ → Bool) → AreDetermined net nodes row shown bit → AreBits net bit bits) → SameShape now later → ((id : ℕ) → id < length now → cell later t id ≡ bit_at bits id) → ((s id : ℕ) → s ≢ t → cell later s id ≡ cell now s id)
+-- one time more, with the bits of all nets at it; `seen` are the bits that the row was gathered from
+pub one_completed : (net : RawNet) (nodes : List NodeId) (times t : ℕ) (first row held shown bits next : List Bool) (given now later : ℕ → ℕ → Bool) (seen : ℕ → Bool) → IsInRange net → AreSourceNodes net nodes → t < times → row ≡ map (λ node. seen node.0) nodes → ((id : ℕ) → seen id ≡ now t id) → shown ≡ held
+    → ((bit : ℕ → Bool) → AreDetermined net nodes row shown bit → AreBits net bit bits) → ((id : ℕ) → id < net.nets → later t id ≡ bit_at bits id) → ((s id : ℕ) → id < net.nets → s ≢ t → later s id ≡ now s id)
     → next ≡ map (λ latch. bit_at bits latch.input.0) net.latches → AreCompleted net times first given now held t → AreCompleted net times first given later next (t + 1)
-one_completed net nodes times t first row held shown bits next given now later range sources l row_is shown_is settles shape placed others next_is before =
-    let tall = before.matrix.tall in
-    let known : (run : ℕ → ℕ → Bool) → IsGivenRun net (cell given) first times run → AreBits net (run t) bits = λ run h.
-    settles (run t) (determined net nodes row shown first given now times t sources l row_is (λ id. before.later t id (omega arith)) run h (shown_is ∙ before.holds run h l)) in
+one_completed net nodes times t first row held shown bits next given now later seen range sources l row_is seen_is shown_is settles placed others next_is before =
+    let known : (run : ℕ → ℕ → Bool) → IsGivenRun net given first times run → AreBits net (run t) bits = λ run h.
+    settles (run t) (determined net nodes row shown first given seen times t sources l row_is (λ id m. seen_is id ∙ before.later t id (omega arith) m) run h (shown_is ∙ before.holds run h l)) in
     record {
-      matrix = matrix_as net.nets times now later before.matrix shape;
       count = ap length next_is ∙ length-map net.latches (λ (latch : Latch). bit_at bits latch.input.0);
-      later = λ s id m. others s id (λ e. absurd (omega (arith, e, m))) ∙ before.later s id (omega (arith, m));
+      later = λ s id m n. others s id n (λ e. absurd (omega (arith, e, m))) ∙ before.later s id (omega (arith, m)) n;
       done = λ run h s id m n. elim (cases_lt s t) [
-        | inl early ↦ others s id (λ e. absurd (omega (arith, e, early))) ∙ before.done run h s id early n
+        | inl early ↦ others s id n (λ e. absurd (omega (arith, e, early))) ∙ before.done run h s id early n
         | inr at ↦
             let same : s ≡ t = omega (arith, at, m) in
-            ap (λ (k : ℕ). cell later k id) same ∙ placed id (omega (arith, tall, n)) ∙ known run h id n ∙ ap (λ (k : ℕ). run k id) (sym same)
+            ap (λ (k : ℕ). later k id) same ∙ placed id n ∙ known run h id n ∙ ap (λ (k : ℕ). run k id) (sym same)
       ];
       holds = λ run h m.
           let e : suc t ≡ t + 1 = omega arith in
-          subst (λ (k : ℕ). next ≡ map (λ latch. run k latch.output.0) net.latches) e (held_next net (cell given) first bits next times t range next_is run h (known run h) (omega (arith, m)));
+          subst (λ (k : ℕ). next ≡ map (λ latch. run k latch.output.0) net.latches) e (held_next net given first bits next times t range next_is run h (known run h) (omega (arith, m)));
     }
 
 -- when all times are done the rows are the run
-pub all_completed : (net : RawNet) (order : List ℕ) (times t : ℕ) (first held : List Bool) (given now : List (List Bool)) → IsInRange net → HasOneDriver net → IsSettledOrder net order → length first ≡ length net.latches → times ≤ t
-    → AreCompleted net times first given now held t → IsGivenRun net (cell given) first times (cell now)
-all_completed net order times t first held given now range driver is_order size l completed =
-    let made = some_run net driver (settled_by_order net order is_order) (cell given) first times size in
-    run_as net (cell given) first times made.0 (cell now) range made.1 (λ s id m n. completed.done made.0 made.1 s id (omega (arith, l, m)) n)
+pub all_completed : (net : RawNet) (order : List ℕ) (times t : ℕ) (first held : List Bool) (given now last : ℕ → ℕ → Bool) → IsInRange net → HasOneDriver net → IsSettledOrder net order → length first ≡ length net.latches → times ≤ t
+    → ((s id : ℕ) → id < net.nets → last s id ≡ now s id) → AreCompleted net times first given now held t → IsGivenRun net given first times last
+all_completed net order times t first held given now last range driver is_order size l same completed =
+    let made = some_run net driver (settled_by_order net order is_order) given first times size in
+    run_as net given first times made.0 last range made.1 (λ s id m n. same s id n ∙ completed.done made.0 made.1 s id (omega (arith, l, m)) n)

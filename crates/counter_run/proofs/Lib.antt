@@ -1,5 +1,6 @@
 pub mod Askings
 pub mod Cells
+pub mod Blocks
 pub mod Given
 pub mod Printing
 pub mod SourceNodes

@@ -1,3 +1,4 @@
 -- Definitions that serve private functions.
 pub mod Matrix
+pub mod Block
 pub mod Asking

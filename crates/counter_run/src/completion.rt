@@ -7,6 +7,7 @@ ghost use Rattle.ste_model.specs.Runs.{HasRows, run_of};
 ghost use Rattle.counter_run.specs.private.Matrix.{AreSourceNodes, IsMatrix, cell};
 
 use crate::asked::first_bits;
+use crate::block::Block;
 use crate::matrix::{gather, lists_of, put_column};
 use crate::row::Row;
 use crate::undriven::undriven_nets;
@@ -107,6 +108,7 @@ fn complete_many(
     let outputs = latch_outputs(alloc, net)?;
     let mut held = copy_of(alloc, first)?;
     let mut row = Vec::new(alloc);
+    let mut block = Block::new(alloc, net.nets())?;
     for time in 0..times {
         gather(rows, nodes, time, &mut row)?;
         resettle(
@@ -119,9 +121,10 @@ fn complete_many(
             bits,
             due,
         );
-        put_column(rows, time, bits);
+        block.push(rows, bits)?;
         hold_next(net, bits, &mut held)?;
     }
+    block.write_out(rows);
     Ok(())
 }
 

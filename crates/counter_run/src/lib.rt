@@ -4,6 +4,7 @@
 
 mod along;
 mod asked;
+mod block;
 mod completion;
 pub mod laws;
 mod matrix;

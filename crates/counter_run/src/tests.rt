@@ -169,20 +169,20 @@ fn rows_at(alloc: Global, rows: &[Items<bool>], t: usize) -> Result<Vec<Items<bo
     Ok(found)
 }
 
-/// Whether a run of 20 times has at each of them the bits of a run of one time, from what the latches hold by then.
+/// Whether a run of 67 times has at each of them the bits of a run of one time, from what the latches hold by then.
 fn is_step_by_step(
     alloc: Global,
     net: &Net,
     inputs: &[Items<bool>],
     first: &[bool],
 ) -> Result<bool, Fail> {
-    let long = run_with(alloc, net, 20, inputs, first)?;
+    let long = run_with(alloc, net, 67, inputs, first)?;
     let mut held: Vec<bool> = first.iter().copied().collect(alloc)?;
-    for t in 0..20 {
+    for t in 0..67 {
         let rows = rows_at(alloc, inputs, t)?;
         let one = run_with(alloc, net, 1, rows.as_slice(), held.as_slice())?;
         for id in 0..net.nets() as usize {
-            if one.get(2 * id + 1).copied() != long.get(21 * id + t + 1).copied() {
+            if one.get(2 * id + 1).copied() != long.get(68 * id + t + 1).copied() {
                 return Ok(false);
             }
         }
@@ -199,9 +199,18 @@ fn a_long_run_is_step_by_step(rt: HostRuntime) -> Result<(), Fail> {
     let alloc = rt.alloc();
     let net = sample_net(alloc)?;
     let rows = [
-        bits_of(alloc, b"11011100010111101001")?,
-        bits_of(alloc, b"10101111001010110101")?,
-        bits_of(alloc, b"01100000011100000001")?,
+        bits_of(
+            alloc,
+            b"0000001100011111111001010110110010101000011111101011011101010010111",
+        )?,
+        bits_of(
+            alloc,
+            b"1101000111010001011001011111100110111101110110100001110110001101111",
+        )?,
+        bits_of(
+            alloc,
+            b"0000011100000000001000100010100000100000000000100000010000000011001",
+        )?,
     ];
     if is_step_by_step(alloc, &net, &rows, &[false, true, false])? {
         Ok(())
