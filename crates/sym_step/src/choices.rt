@@ -3,7 +3,7 @@
 ghost use Rattle.std.specs.Prelude.{◌≡◌, ◌≢◌, ◌↔◌, ◌≤◌, ◌<◌, ◌^◌, ◌/◌, ℕ, All, IsTrue, length, max};
 ghost use Rattle.std.specs.Int.{bit_at};
 ghost use Rattle.net_core.specs.Work.{AreWide};
-ghost use Rattle.sym_step.specs.private.Choices.{AreChoices, IsChoice, IsDigit, lit_bit, row_bit, rows_bit};
+ghost use Rattle.sym_step.specs.private.Choices.{AreChoices, AreConstant, HaveChoice, IsChoice, IsDigit, lit_bit, row_bit, rows_bit};
 ghost use Rattle.sym_step.specs.private.NetSets.{net_at};
 
 use crate::net_rails::NetRails;
@@ -135,6 +135,7 @@ fn digit(nets: &[NetRails], input: NodeId) -> usize
     requires { input.0 < length nets.now }
     ensures within { result ≤ 64 }
     ensures digit { result < 64 → IsDigit (net_at nets.now input.0) result }
+    ensures constant { result < 64 ↔ AreConstant (net_at nets.now input.0) }
 {
     let r = nets[input.0 as usize];
     if are_constant(r.can0, r.can1) {
@@ -147,7 +148,8 @@ fn digit(nets: &[NetRails], input: NodeId) -> usize
 /// The choice which the sets of these nets are, where they are at most three, and constants; else no number below 64.
 pub fn choice_of(nets: &[NetRails], inputs: &[NodeId]) -> usize
     requires { All (λ input. input.0 < length nets.now) inputs.now }
-    ensures { result < 64 → IsChoice nets.now inputs.now result }
+    ensures choice { result < 64 → IsChoice nets.now inputs.now result }
+    ensures constant { result < 64 ↔ HaveChoice nets.now inputs.now }
 {
     match inputs {
         [] => 0,

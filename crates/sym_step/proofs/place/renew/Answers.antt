@@ -49,7 +49,7 @@ returns-then-not-marks-g-clause-have g c = λ ds before sets zip have is.
     let both : BothLists lists (length gate.inputs) = cover_lists at.cover lists (length gate.inputs) at.lists_are sound width in
     let n = c.choice_of-choice.result in
     let choice : IsChoice nets gate.inputs n =
-    subst (λ (xs : List NetRails). IsChoice xs gate.inputs n) c.as_slice.ensures.value (subst (λ (ids : List NodeId). IsChoice c.as_slice.result.now ids n) c.as_slice-2.ensures (c.choice_of-choice.ensures c.if-choice-lt-CHOICES.true)) in
+    subst (λ (xs : List NetRails). IsChoice xs gate.inputs n) c.as_slice.ensures.value (subst (λ (ids : List NodeId). IsChoice c.as_slice.result.now ids n) c.as_slice-2.ensures (c.choice_of-choice.ensures.choice c.if-choice-lt-CHOICES.true)) in
     let narrow : lists.on.width ≤ 3 = let few = choice.few in let same = ap (λ (r : CoverRows). r.on.width) at.lists_are in omega (arith, few, same, width) in
     let told : AreChoices lists.on.list lists.off.list c.choices.result = c.choices.ensures narrow in
     let r : NetRails = c.net.result in
