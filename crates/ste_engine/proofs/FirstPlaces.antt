@@ -1,8 +1,8 @@
 -- The place at which each assignment fails first, where all is constant at its time and nothing was found before.
 use Rattle.std.proofs.Common.{◌≡◌, ℕ, zero, suc, ◌<◌, Bool, true, false, not, List, [], ◌∷◌, length, map, filter, get_or, Option, None, Some, refl, sym, ◌∙◌, ap, subst, arith, All, Contains, inl, inr}
-use Rattle.std.specs.Prelude.{Any, IfSome, IsTrue, ◌↔◌, ◌⊎◌, ◌&&◌, ◌||◌, if◌then◌else◌}
+use Rattle.std.specs.Prelude.{Any, IfSome, IsTrue, ◌↔◌, ◌⊎◌, ◌==◌, ◌&&◌, ◌||◌, if◌then◌else◌, nat_lt}
 use Rattle.std.specs.List.{AllZip}
-use Rattle.std.proofs.lemmas.Bool.{cases_eq}
+use Rattle.std.proofs.lemmas.Bool.{cases_eq, eqb-true, ltb-true}
 use Rattle.std.proofs.lemmas.List.Elements.{All-head, All-tail}
 use Rattle.bool_expr.specs.Value.{value_of}
 use Rattle.dd_nodes.specs.declared.node.Ref.{Ref}
@@ -26,7 +26,7 @@ use Rattle.sym_step.specs.declared.cut.Cut.{Cut}
 use Rattle.sym_step.specs.Step.{IsCutBy, rails_at}
 use Rattle.ste_engine.specs.declared.failing.Failure.{Failure}
 use Rattle.ste_engine.specs.declared.failing.Failure.TheVariants.{Strong, Weak}
-use Rattle.ste_engine.specs.private.Firsts.{IsFirstAt, IsFirstPlace, IsFixed}
+use Rattle.ste_engine.specs.private.Firsts.{IsFirstAt, IsFirstPlace, are_fixed, first_at, is_first, is_fixed, place_or}
 use Rattle.ste_engine.specs.private.Places.{FailsBy, fails, first_failing, misses}
 use Rattle.ste_engine.proofs.FirstFails.{IsTold, and_true, by_bits, not_here, test_is, told_behind, told_here}
 use Rattle.ste_engine.proofs.Times.{through_has}
@@ -42,6 +42,24 @@ same_everywhere s r bits other d l = elim (cases_eq r.0 0) as (λ _. function s 
 -- a constant has the bit that its function has under this assignment
 fixed_means : (s : Store) (f : Function) (r : Ref) (bits : List Bool) → IsGood s → r.0 < 2 → length bits ≡ s.vars → Means s f r → Means s (λ _. f bits) r
 fixed_means s f r bits d l long m = record { ref = m.ref; value = λ other k. same_everywhere s r other bits d l ∙ m.value bits long }
+
+both_true : (a b : Bool) → (a && b) ≡ true → (a ≡ true) × (b ≡ true)
+both_true true b e = (refl, e)
+both_true false b e = absurd (cc e)
+
+-- a consequent's guard and value are constants, and so is the set of its net
+record IsFixed (r : Rails) (c : Cut) : Type 0 where
+  zero : r.can0.0 < 2
+  one : r.can1.0 < 2
+  guard : c.guard.0 < 2
+  value : c.value.0 < 2
+
+fixed_one : (r : Rails) (c : Cut) → is_fixed r c ≡ true → IsFixed r c
+fixed_one r c e =
+    let both = both_true (nat_lt r.can0.0 2 && nat_lt r.can1.0 2) (nat_lt c.guard.0 2 && nat_lt c.value.0 2) e in
+    let set = both_true (nat_lt r.can0.0 2) (nat_lt r.can1.0 2) both.0 in
+    let asked = both_true (nat_lt c.guard.0 2) (nat_lt c.value.0 2) both.1 in
+    record { zero = ltb-true r.can0.0 2 set.0; one = ltb-true r.can1.0 2 set.1; guard = ltb-true c.guard.0 2 asked.0; value = ltb-true c.value.0 2 asked.1 }
 
 -- ---- the consequents of the time
 
@@ -64,20 +82,20 @@ module _ (failure : Failure) (s : Store) (d : IsGood s) (sets : ℕ → Symbolic
       let test = test_is failure plain (quint_at bits t q) in
       (λ h. test.0 (on ∙ (sym e ∙ h)), λ h. e ∙ (sym on ∙ test.1 h))
 
-  first_told : (quints : List Quint) (cuts : List Cut) → All (λ quint. AreRails s (sets quint.node.0) (rails_at nets quint.node.0)) quints → AllZip (IsCutBy s) (symbolic_cuts_at quints t) cuts → All (λ c. IsFixed (rails_at nets c.node.0) c) cuts
+  first_told : (quints : List Quint) (cuts : List Cut) → All (λ quint. AreRails s (sets quint.node.0) (rails_at nets quint.node.0)) quints → AllZip (IsCutBy s) (symbolic_cuts_at quints t) cuts → IsTrue (are_fixed nets cuts)
       → IsTold failure plain (cuts_at quints bits t) (first_failing failure nets cuts)
   first_told [] [] have zip fixed = λ any. let lt = any.2 in absurd (omega (arith, lt))
   first_told [] (c ∷ cs) have zip fixed = absurd zip
   first_told (q ∷ qs) cuts have zip fixed = by (has_time t q) refl cuts (λ cs z f. first_told qs cs (All-tail (λ (quint : Quint). AreRails s (sets quint.node.0) (rails_at nets quint.node.0)) q qs have) z f) zip fixed
     where
       by : (b : Bool) → has_time t q ≡ b → (cs : List Cut)
-          → ((ds : List Cut) → AllZip (IsCutBy s) (symbolic_cuts_at qs t) ds → All (λ c. IsFixed (rails_at nets c.node.0) c) ds → IsTold failure plain (cuts_at qs bits t) (first_failing failure nets ds))
-          → AllZip (IsCutBy s) (map symbolic_cut (if b then q ∷ filter (has_time t) qs else filter (has_time t) qs)) cs → All (λ c. IsFixed (rails_at nets c.node.0) c) cs → IsTold failure plain (cuts_at (q ∷ qs) bits t) (first_failing failure nets cs)
+          → ((ds : List Cut) → AllZip (IsCutBy s) (symbolic_cuts_at qs t) ds → IsTrue (are_fixed nets ds) → IsTold failure plain (cuts_at qs bits t) (first_failing failure nets ds))
+          → AllZip (IsCutBy s) (map symbolic_cut (if b then q ∷ filter (has_time t) qs else filter (has_time t) qs)) cs → IsTrue (are_fixed nets cs) → IsTold failure plain (cuts_at (q ∷ qs) bits t) (first_failing failure nets cs)
       by true e [] rest z f = absurd z
       by true e (c ∷ cs) rest z f =
           told_here failure plain (quint_at bits t q) (cuts_at qs bits t) c.node (first_failing failure nets cs) (fails failure (rails_at nets c.node.0) c)
-          (fixed_is q c e (All-head (λ (quint : Quint). AreRails s (sets quint.node.0) (rails_at nets quint.node.0)) q qs have) z.0 (All-head (λ (c : Cut). IsFixed (rails_at nets c.node.0) c) c cs f)) (sym z.0.node)
-          (rest cs z.1 (All-tail (λ (c : Cut). IsFixed (rails_at nets c.node.0) c) c cs f))
+          (fixed_is q c e (All-head (λ (quint : Quint). AreRails s (sets quint.node.0) (rails_at nets quint.node.0)) q qs have) z.0 (fixed_one (rails_at nets c.node.0) c (both_true (is_fixed (rails_at nets c.node.0) c) (are_fixed nets cs) f).0)) (sym z.0.node)
+          (rest cs z.1 (both_true (is_fixed (rails_at nets c.node.0) c) (are_fixed nets cs) f).1)
       by false e cs rest z f = told_behind failure plain (quint_at bits t q) (cuts_at qs bits t) (first_failing failure nets cs) (not_here failure plain bits t q e) (rest cs z f)
 
 -- ---- the times before
@@ -171,6 +189,26 @@ first_place failure net task vars table whole t u gt gu tv uv k lt nets cuts bef
       first = told.first;
       earliest = none_before failure task table bits k (sym (m.value bits (long ∙ sym tv)) ∙ zero_bit t before bits gt at.nothing);
     }
+
+-- a net that is told at a time is that of the first consequent that fails so, where nothing was found before
+pub clear_at : (failure : Failure) (nets : List Rails) (cuts : List Cut) (before after : Ref) → IfSome (first_at failure nets cuts before after) (IsFirstAt failure nets cuts before)
+clear_at failure nets cuts before after = by (is_first before after && are_fixed nets cuts) refl (first_failing failure nets cuts) refl
+  where
+    by : (b : Bool) → (is_first before after && are_fixed nets cuts) ≡ b → (o : Option NodeId) → first_failing failure nets cuts ≡ o → IfSome (if b then o else None) (IsFirstAt failure nets cuts before)
+    by false e o is = tt
+    by true e None is = tt
+    by true e (Some node) is =
+        let parts = both_true (is_first before after) (are_fixed nets cuts) e in
+        record { nothing = eqb-true before.0 0 (both_true (before.0 == 0) (not (after.0 == 0)) parts.0).0; fixed = parts.1; first = is }
+
+-- a place is that of before, or one of a net that is told at the time
+pub old_or_clear : (node : Option NodeId) (time : ℕ) (old new : Option (NodeId × ℕ)) (P : NodeId → Type 0) → new ≡ place_or node time old → IfSome node P → IfSome new (λ place. (old ≡ Some place) ⊎ (P place.0 × (place.1 ≡ time)))
+old_or_clear node time old new P is h = subst (λ (x : Option (NodeId × ℕ)). IfSome x (λ place. (old ≡ Some place) ⊎ (P place.0 × (place.1 ≡ time)))) (sym is) (by node old h)
+  where
+    by : (node : Option NodeId) (old : Option (NodeId × ℕ)) → IfSome node P → IfSome (place_or node time old) (λ place. (old ≡ Some place) ⊎ (P place.0 × (place.1 ≡ time)))
+    by (Some node) old h = inr (h, refl)
+    by None None h = tt
+    by None (Some place) h = inl refl
 
 -- a place that was told before, or one of this time
 pub told_or_new : (old new : Option (NodeId × ℕ)) (P Q : NodeId × ℕ → Type 0) → IfSome new (λ place. (old ≡ Some place) ⊎ Q place) → IfSome old P → ((place : NodeId × ℕ) → Q place → P place) → IfSome new P

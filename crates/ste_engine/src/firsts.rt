@@ -1,10 +1,9 @@
 //! Where each assignment fails first, as far as it is clear beside the times; begin with `Firsts`.
 
-ghost use Rattle.std.specs.Prelude.{◌≡◌, ◌<◌, ◌⊎◌, All, IfSome, IsTrue, None, Some, length};
-ghost use Rattle.sym_step.specs.Step.{rails_at};
+ghost use Rattle.std.specs.Prelude.{◌≡◌, ◌<◌, ◌⊎◌, All, IfSome, None, Some, length};
 ghost use Rattle.sym_step.specs.private.Frames.{nets_of};
 ghost use Rattle.ste_engine.specs.declared.failing.Failure.TheVariants.{Strong, Weak};
-ghost use Rattle.ste_engine.specs.private.Firsts.{IsFirstAt, IsFixed};
+ghost use Rattle.ste_engine.specs.private.Firsts.{IsFirstAt, are_fixed, first_at, is_fixed, place_or};
 
 use crate::failing::{Failure, first_failing_in};
 use crate::results::Found;
@@ -23,7 +22,7 @@ pub struct Firsts {
 
 /// Whether a consequent's guard and value are constants, and so is the set of its net.
 fn is_fixed(r: Rails, c: Cut) -> bool
-    ensures { IsTrue result → IsFixed r c }
+    ensures { result ≡ is_fixed r c }
 {
     r.can0.0.max(r.can1.0) < 2 && c.guard.0.max(c.value.0) < 2
 }
@@ -31,8 +30,7 @@ fn is_fixed(r: Rails, c: Cut) -> bool
 /// Whether this is so of each of these consequents, on the sets of a frame.
 fn are_fixed(frame: &Frame, cuts: &[Cut]) -> bool
     requires { All (λ c. c.node.0 < length (nets_of frame.now)) cuts.now }
-    ensures { IsTrue result
-        → All (λ c. IsFixed (rails_at (nets_of frame.now) c.node.0) c) cuts.now }
+    ensures { result ≡ are_fixed (nets_of frame.now) cuts.now }
 {
     for c in cuts {
         if !is_fixed(frame.rails(c.node), *c) {
@@ -52,7 +50,7 @@ fn first_at(
     after: Ref,
 ) -> Option<NodeId>
     requires { All (λ c. c.node.0 < length (nets_of frame.now)) cuts.now }
-    ensures { IfSome result (IsFirstAt failure (nets_of frame.now) cuts.now before) }
+    ensures { result ≡ first_at failure (nets_of frame.now) cuts.now before after }
 {
     if before != Ref::FALSE || after == Ref::FALSE {
         return None;
@@ -65,8 +63,7 @@ fn first_at(
 
 /// The place of a net at a time, or else that of before.
 fn placed(node: Option<NodeId>, time: Time, first: Option<(NodeId, Time)>) -> Option<(NodeId, Time)>
-    ensures { IfSome result (λ place. (first ≡ Some place)
-        ⊎ ((node ≡ Some place.0) × (place.1 ≡ time))) }
+    ensures { result ≡ place_or node time first }
 {
     match node {
         Some(node) => Some((node, time)),
@@ -96,6 +93,16 @@ impl Firsts {
         time: Time,
     ) -> Firsts
         requires { All (λ c. c.node.0 < length (nets_of frame.now)) cuts.now }
+
+        // The place of this time where it is clear, and else that of before.
+        ensures is_strong { result.strong ≡ place_or
+            (first_at Strong (nets_of frame.now) cuts.now before.strong after.strong)
+            time self.strong }
+        ensures is_weak { result.weak ≡ place_or
+            (first_at Weak (nets_of frame.now) cuts.now before.weak after.weak)
+            time self.weak }
+
+        // So a place is that of before, or the first one under each assignment.
         ensures strong { IfSome result.strong (λ place. (self.strong ≡ Some place)
             ⊎ (IsFirstAt Strong (nets_of frame.now) cuts.now before.strong place.0
             × (place.1 ≡ time))) }
