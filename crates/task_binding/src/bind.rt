@@ -2,13 +2,14 @@
 
 ghost use Rattle.std.specs.Prelude.{◌≡◌, ◌&&◌, is_some, map, IfOk, OnOk};
 ghost use Rattle.std.specs.List.{list_all};
+ghost use Rattle.bool_expr.specs.Tree.{tree_of};
 ghost use Rattle.ste_model.specs.Trees.{quint_tree, bind_tree, edge_tree, task_tree};
 ghost use Rattle.task_binding.specs.Bound.{net_by, quint_bound, bind_bound, edge_bound, task_bound};
 ghost use Rattle.task_binding.specs.private.Known.{quint_known, bind_known, edge_known, task_known};
 
 use crate::resolve::Resolve;
 use assert_syntax::tasks::{RawBind, RawEdge, RawQuint, RawTask};
-use bool_expr::copy_expr;
+use bool_expr::{Expr, copy_expr};
 use std::alloc::{AllocError, Global};
 use ste_base::{Items, Name, NodeId, copies};
 use ste_model::{Assertion, Bind, Edge, Graph, Quint, Task};
@@ -27,6 +28,16 @@ fn named_net<N: Resolve>(names: &N, known: &mut bool, node: &Name) -> NodeId
     }
 }
 
+/// The same expression again. A constant, as most guards are, takes no call.
+fn copied(alloc: Global, expr: &Expr) -> Result<Expr, AllocError>
+    ensures { IfOk result (λ copy. tree_of copy ≡ tree_of expr.now) }
+{
+    match expr {
+        Expr::Const(bit) => Ok(Expr::Const(*bit)),
+        _ => copy_expr(alloc, expr),
+    }
+}
+
 /// A quintuple over nets; `known` becomes false where its node names none.
 fn bind_quint<N: Resolve>(
     alloc: Global,
@@ -40,9 +51,9 @@ fn bind_quint<N: Resolve>(
         ≡ (known.old && quint_known (N.net_of names.now) quint.now)) }
 {
     Ok(Quint {
-        guard: copy_expr(alloc, &quint.guard)?,
+        guard: copied(alloc, &quint.guard)?,
         node: named_net(names, known, &quint.node),
-        value: copy_expr(alloc, &quint.value)?,
+        value: copied(alloc, &quint.value)?,
         from: quint.from,
         to: quint.to,
     })
@@ -61,9 +72,9 @@ fn bind_bind<N: Resolve>(
         ≡ (known.old && bind_known (N.net_of names.now) bind.now)) }
 {
     Ok(Bind {
-        guard: copy_expr(alloc, &bind.guard)?,
+        guard: copied(alloc, &bind.guard)?,
         node: named_net(names, known, &bind.node),
-        value: copy_expr(alloc, &bind.value)?,
+        value: copied(alloc, &bind.value)?,
     })
 }
 
@@ -79,11 +90,11 @@ fn bind_quints<N: Resolve>(
     ensures known { OnOk result (known.new
         ≡ (known.old && list_all (quint_known (N.net_of names.now)) quints.now)) }
 {
-    let mut bound = Items::new(alloc);
+    let mut bound = Vec::with_capacity(alloc, quints.len())?;
     for quint in quints {
         bound.push(bind_quint(alloc, names, known, quint)?)?;
     }
-    Ok(bound)
+    Ok(bound.into())
 }
 
 /// Bindings of an edge over nets, in order; `known` becomes false where a node names none.
@@ -98,11 +109,11 @@ fn bind_binds<N: Resolve>(
     ensures known { OnOk result (known.new
         ≡ (known.old && list_all (bind_known (N.net_of names.now)) binds.now)) }
 {
-    let mut bound = Items::new(alloc);
+    let mut bound = Vec::with_capacity(alloc, binds.len())?;
     for bind in binds {
         bound.push(bind_bind(alloc, names, known, bind)?)?;
     }
-    Ok(bound)
+    Ok(bound.into())
 }
 
 /// An edge over nets; `known` becomes false where a node names none.
@@ -137,11 +148,11 @@ fn bind_edges<N: Resolve>(
     ensures known { OnOk result (known.new
         ≡ (known.old && list_all (edge_known (N.net_of names.now)) edges.now)) }
 {
-    let mut bound = Items::new(alloc);
+    let mut bound = Vec::with_capacity(alloc, edges.len())?;
     for edge in edges {
         bound.push(bind_edge(alloc, names, known, edge)?)?;
     }
-    Ok(bound)
+    Ok(bound.into())
 }
 
 /// A task over nets; `known` becomes false where a node names none.

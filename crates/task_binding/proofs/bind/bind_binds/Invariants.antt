@@ -8,5 +8,5 @@ use Rattle.task_binding.proofs.bind.bind_binds.Given as goal
 -- those so far are bound, and it is known whether the nodes of each name nets
 abbrev pub invariant-loop-bind : goal.invariant-loop-bind
 invariant-loop-bind g l =
-    (map bind_tree l.bound ≡ map (bind_bound (net_by (g.N.Resolve.net_of l.names))) (take l.bind-index l.binds))
+    (map bind_tree l.bound.items ≡ map (bind_bound (net_by (g.N.Resolve.net_of l.names))) (take l.bind-index l.binds))
     × (l.known ≡ (l.initial.known && list_all (bind_known (g.N.Resolve.net_of l.names)) (take l.bind-index l.binds)))
