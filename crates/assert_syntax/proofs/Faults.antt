@@ -1,10 +1,9 @@
 -- The first fault, from what the earlier lines say.
 use Rattle.std.proofs.Common.{ℕ, suc, ◌≡◌, ◌≤◌, refl, ap, List, [], ◌∷◌, ◌++◌, length, Bool, true, false, if◌then◌else◌, Option, Some, None, arith, nat_le, ◌&&◌}
-use Rattle.assert_syntax.specs.declared.form.Entry.{Entry}
-use Rattle.assert_syntax.specs.declared.form.Form.{Form}
-use Rattle.assert_syntax.specs.declared.form.Form.TheVariants as form
 use Rattle.assert_syntax.specs.declared.form.LineFault.{LineFault}
 use Rattle.assert_syntax.specs.declared.form.LineFault.TheVariants.{Bad, Many}
+use Rattle.assert_syntax.specs.Forms.{Entry, Form}
+use Rattle.assert_syntax.specs.Forms as form
 use Rattle.assert_syntax.specs.Parses.{Parse}
 use Rattle.assert_syntax.specs.Places.{Context, context_behind, context_of, fault_or, first_double, first_fault, form_fault, line_fault, may_stand, names_fault, vertices_behind}
 use Rattle.assert_syntax.specs.private.Drafts.{HasRoom}
@@ -46,13 +45,13 @@ names_fit most None names e = let h = if_none (nat_le (length names) most) e in 
 
 -- behind a line without a fault there are no more of anything than there may be
 pub room_behind : (parse : Parse) (context : Context) (form : Form) → form_fault parse context form ≡ None → HasRoom context → HasRoom (context_behind context form)
-room_behind parse context (form.Vars names) e room = record { vars = names_fit 1000 (first_double context.vars names) (context.vars ++ names) e; names = room.names; vertices = room.vertices; edges = room.edges }
-room_behind parse context (form.Ste name reset) e room = record { vars = room.vars; names = names_fit 256 (first_double context.names (name ∷ [])) (context.names ++ name ∷ []) e; vertices = room.vertices; edges = room.edges }
-room_behind parse context (form.Gste name vertex reset) e room = record { vars = room.vars; names = names_fit 256 (first_double context.names (name ∷ [])) (context.names ++ name ∷ []) e; vertices = omega arith; edges = omega arith }
-room_behind parse context (form.Edge from to) e room =
-    let vertices = vertices_behind (form.Edge from to) context.vertices in
+room_behind parse context (form.vars names) e room = record { vars = names_fit 1000 (first_double context.vars names) (context.vars ++ names) e; names = room.names; vertices = room.vertices; edges = room.edges }
+room_behind parse context (form.ste name reset) e room = record { vars = room.vars; names = names_fit 256 (first_double context.names (name ∷ [])) (context.names ++ name ∷ []) e; vertices = room.vertices; edges = room.edges }
+room_behind parse context (form.gste name vertex reset) e room = record { vars = room.vars; names = names_fit 256 (first_double context.names (name ∷ [])) (context.names ++ name ∷ []) e; vertices = omega arith; edges = omega arith }
+room_behind parse context (form.edge from to) e room =
+    let vertices = vertices_behind (form.edge from to) context.vertices in
     let h = both_true (nat_le (length vertices) 1000) (nat_le (suc context.edges) 10000) (if_none (nat_le (length vertices) 1000 && nat_le (suc context.edges) 10000) e) in
     record { vars = room.vars; names = room.names; vertices = grind (arith, h.0); edges = grind (arith, h.1) }
-room_behind parse context (form.Clause clause) e room = room
-room_behind parse context form.End e room = record { vars = room.vars; names = room.names; vertices = room.vertices; edges = room.edges }
-room_behind parse context form.Wrong e room = room
+room_behind parse context (form.clause clause) e room = room
+room_behind parse context form.ending e room = record { vars = room.vars; names = room.names; vertices = room.vertices; edges = room.edges }
+room_behind parse context form.wrong e room = room

@@ -10,14 +10,12 @@ use Rattle.bool_expr.specs.Grammar.{Expression, nesting, spelling}
 use Rattle.bool_expr.specs.Read.{Spells, first_unknown, number_in}
 use Rattle.bool_expr.specs.Tokens.{tokens_of}
 use Rattle.bool_expr.proofs.Answered.{one_tree}
-use Rattle.assert_syntax.specs.declared.form.Clause.{Clause}
-use Rattle.assert_syntax.specs.declared.form.Entry.{Entry}
-use Rattle.assert_syntax.specs.declared.form.Form.{Form}
-use Rattle.assert_syntax.specs.declared.form.Form.TheVariants as form
 use Rattle.assert_syntax.specs.declared.form.LineFault.{LineFault}
 use Rattle.assert_syntax.specs.declared.form.LineFault.TheVariants.{Bad, Deep, Double, Unknown, Many}
 use Rattle.assert_syntax.specs.declared.form.Span.{Span}
 use Rattle.assert_syntax.specs.declared.form.Span.TheVariants as span
+use Rattle.assert_syntax.specs.Forms.{Clause, Entry, Form}
+use Rattle.assert_syntax.specs.Forms as form
 use Rattle.assert_syntax.specs.Parses.{Parse, IsParse, IsSpelled, is_deep}
 use Rattle.assert_syntax.specs.Places.{Context, clause_fault, context_behind, context_of, fault_or, first_double, first_fault, form_fault, line_fault, may_stand, names_behind, names_fault, span_fault, unknown_fault, vars_behind, vertices_behind}
 use Rattle.assert_syntax.specs.Rules.{FirstFaultIsLeast, GoesBefore, HasFault, HasForm, IsBad, IsDeep, IsDouble, IsFirstDouble, IsFirstFault, IsFirstUndeclared, IsGraphAt, IsLargeGraph, IsLate, IsMany, IsUnknown, SpellsDeep, SpellsNone, Stands, declared, forms_of, mentions, starts_edge}
@@ -89,7 +87,7 @@ one_large : (a b : Bool) → (a && b) ≡ false → (a ≡ false) ⊎ (b ≡ fal
 one_large false b e = inl refl
 one_large true b e = inr e
 
-edge_before : (lines : List Entry) (i : ℕ) (from to : List ℕ) → Stands lines i (form.Edge from to) → (other : LineFault) → GoesBefore other Many → ¬ HasFault lines i (form.Edge from to) other
+edge_before : (lines : List Entry) (i : ℕ) (from to : List ℕ) → Stands lines i (form.edge from to) → (other : LineFault) → GoesBefore other Many → ¬ HasFault lines i (form.edge from to) other
 edge_before lines i from to s Bad g (inl f) = f s
 edge_before lines i from to s Bad g (inr f) = f
 edge_before lines i from to s Deep g f = f
@@ -97,7 +95,7 @@ edge_before lines i from to s (Double x) g f = f
 edge_before lines i from to s (Unknown x) g f = f
 edge_before lines i from to s Many g f = absurd g
 
-edge_none : (lines : List Entry) (i : ℕ) (from to : List ℕ) → Stands lines i (form.Edge from to) → (¬ IsLargeGraph lines i) → (kind : LineFault) → ¬ HasFault lines i (form.Edge from to) kind
+edge_none : (lines : List Entry) (i : ℕ) (from to : List ℕ) → Stands lines i (form.edge from to) → (¬ IsLargeGraph lines i) → (kind : LineFault) → ¬ HasFault lines i (form.edge from to) kind
 edge_none lines i from to s apart Bad (inl f) = f s
 edge_none lines i from to s apart Bad (inr f) = f
 edge_none lines i from to s apart Deep f = f
@@ -106,19 +104,19 @@ edge_none lines i from to s apart (Unknown x) f = f
 edge_none lines i from to s apart Many f = apart f
 
 -- what the graph of an edge has with it
-edge_told : (lines : List Entry) (i : ℕ) (c : Context) (from to : List ℕ) → Told lines i c → HasForm lines i (form.Edge from to) → (start : ℕ) → IsGraphAt lines i start → GraphTold lines (suc i) start (vertices_behind (form.Edge from to) c.vertices) (suc c.edges)
-edge_told lines i c from to told has start g = graph_more lines i start (form.Edge from to) c.vertices c.edges (let h = g.earlier in omega (arith, h)) has (λ e. absurd (cc e)) (told.graph start g)
+edge_told : (lines : List Entry) (i : ℕ) (c : Context) (from to : List ℕ) → Told lines i c → HasForm lines i (form.edge from to) → (start : ℕ) → IsGraphAt lines i start → GraphTold lines (suc i) start (vertices_behind (form.edge from to) c.vertices) (suc c.edges)
+edge_told lines i c from to told has start g = graph_more lines i start (form.edge from to) c.vertices c.edges (let h = g.earlier in omega (arith, h)) has (λ e. absurd (cc e)) (told.graph start g)
 
-edge_by : (b : Bool) (lines : List Entry) (i : ℕ) (c : Context) (from to : List ℕ) → Told lines i c → HasForm lines i (form.Edge from to) → may_stand (form.Edge from to) c.place ≡ true → (nat_le (length (vertices_behind (form.Edge from to) c.vertices)) 1000 && nat_le (suc c.edges) 10000) ≡ b → Decided lines i (form.Edge from to) (if b then None else Some Many)
+edge_by : (b : Bool) (lines : List Entry) (i : ℕ) (c : Context) (from to : List ℕ) → Told lines i c → HasForm lines i (form.edge from to) → may_stand (form.edge from to) c.place ≡ true → (nat_le (length (vertices_behind (form.edge from to) c.vertices)) 1000 && nat_le (suc c.edges) 10000) ≡ b → Decided lines i (form.edge from to) (if b then None else Some Many)
 edge_by true lines i c from to told has may e =
-    let both = both_small (nat_le (length (vertices_behind (form.Edge from to) c.vertices)) 1000) (nat_le (suc c.edges) 10000) e in
-    edge_none lines i from to (stands lines i c.place (form.Edge from to) told.place may) apart
+    let both = both_small (nat_le (length (vertices_behind (form.edge from to) c.vertices)) 1000) (nat_le (suc c.edges) 10000) e in
+    edge_none lines i from to (stands lines i c.place (form.edge from to) told.place may) apart
   where
     apart : IsLargeGraph lines i → ⊥
     apart large =
         let t = edge_told lines i c from to told has large.start large.graph in
-        let a : length (vertices_behind (form.Edge from to) c.vertices) ≤ 1000 = grind (arith, (both_small (nat_le (length (vertices_behind (form.Edge from to) c.vertices)) 1000) (nat_le (suc c.edges) 10000) e).0) in
-        let b : suc c.edges ≤ 10000 = grind (arith, (both_small (nat_le (length (vertices_behind (form.Edge from to) c.vertices)) 1000) (nat_le (suc c.edges) 10000) e).1) in
+        let a : length (vertices_behind (form.edge from to) c.vertices) ≤ 1000 = grind (arith, (both_small (nat_le (length (vertices_behind (form.edge from to) c.vertices)) 1000) (nat_le (suc c.edges) 10000) e).0) in
+        let b : suc c.edges ≤ 10000 = grind (arith, (both_small (nat_le (length (vertices_behind (form.edge from to) c.vertices)) 1000) (nat_le (suc c.edges) 10000) e).1) in
         let u = ap length t.0 in
         let v = t.1 in
         elim large.large [ inl h ↦ absurd (omega (arith, h, u, a)) | inr h ↦ absurd (omega (arith, h, v, b)) ]
@@ -128,11 +126,11 @@ edge_by false lines i c from to told has may e =
     let u = ap length t.0 in
     let v = t.1 in
     let large : (1000 < length (insert_all bytes_eq [] (flat_map mentions (drop s.0 (take (suc i) (forms_of lines)))))) ⊎ (10000 < length (filter starts_edge (drop s.0 (take (suc i) (forms_of lines))))) =
-    elim (one_large (nat_le (length (vertices_behind (form.Edge from to) c.vertices)) 1000) (nat_le (suc c.edges) 10000) e) [
-      | inl h ↦ inl (let k : 1000 < length (vertices_behind (form.Edge from to) c.vertices) = grind (arith, h) in omega (arith, k, u))
+    elim (one_large (nat_le (length (vertices_behind (form.edge from to) c.vertices)) 1000) (nat_le (suc c.edges) 10000) e) [
+      | inl h ↦ inl (let k : 1000 < length (vertices_behind (form.edge from to) c.vertices) = grind (arith, h) in omega (arith, k, u))
       | inr h ↦ inr (let k : 10000 < suc c.edges = grind (arith, h) in omega (arith, k, v))
     ] in
-    (record { start = s.0; graph = s.1; large = large }, edge_before lines i from to (stands lines i c.place (form.Edge from to) told.place may))
+    (record { start = s.0; graph = s.1; large = large }, edge_before lines i from to (stands lines i c.place (form.edge from to) told.place may))
 
 -- a clause
 spelled_not_none : (text : List ℕ) (d : Expression) → Spells d text → ¬ SpellsNone text
@@ -158,36 +156,36 @@ none_deep false b e = (refl, e)
 
 -- what is known of a clause whose texts spell expressions that are not nested too deep
 record Plain (lines : List Entry) (i : ℕ) (clause : Clause) : Type 0 where
-  good : ¬ IsBad lines i (form.Clause clause)
-  flat : ¬ IsDeep (form.Clause clause)
+  good : ¬ IsBad lines i (form.clause clause)
+  flat : ¬ IsDeep (form.clause clause)
 
-plain_before_unknown : (lines : List Entry) (i : ℕ) (clause : Clause) (word : List ℕ) → Plain lines i clause → (other : LineFault) → GoesBefore other (Unknown word) → ¬ HasFault lines i (form.Clause clause) other
+plain_before_unknown : (lines : List Entry) (i : ℕ) (clause : Clause) (word : List ℕ) → Plain lines i clause → (other : LineFault) → GoesBefore other (Unknown word) → ¬ HasFault lines i (form.clause clause) other
 plain_before_unknown lines i clause word p Bad g f = p.good f
 plain_before_unknown lines i clause word p Deep g f = p.flat f
 plain_before_unknown lines i clause word p (Double x) g f = f
 plain_before_unknown lines i clause word p (Unknown x) g f = absurd g
 plain_before_unknown lines i clause word p Many g f = absurd g
 
-plain_before_many : (lines : List Entry) (i : ℕ) (clause : Clause) → Plain lines i clause → ((word : List ℕ) → ¬ IsUnknown lines i (form.Clause clause) word) → (other : LineFault) → GoesBefore other Many → ¬ HasFault lines i (form.Clause clause) other
+plain_before_many : (lines : List Entry) (i : ℕ) (clause : Clause) → Plain lines i clause → ((word : List ℕ) → ¬ IsUnknown lines i (form.clause clause) word) → (other : LineFault) → GoesBefore other Many → ¬ HasFault lines i (form.clause clause) other
 plain_before_many lines i clause p known Bad g f = p.good f
 plain_before_many lines i clause p known Deep g f = p.flat f
 plain_before_many lines i clause p known (Double x) g f = f
 plain_before_many lines i clause p known (Unknown x) g f = known x f
 plain_before_many lines i clause p known Many g f = absurd g
 
-plain_none : (lines : List Entry) (i : ℕ) (clause : Clause) → Plain lines i clause → ((word : List ℕ) → ¬ IsUnknown lines i (form.Clause clause) word) → (¬ IsLate clause.span) → (kind : LineFault) → ¬ HasFault lines i (form.Clause clause) kind
+plain_none : (lines : List Entry) (i : ℕ) (clause : Clause) → Plain lines i clause → ((word : List ℕ) → ¬ IsUnknown lines i (form.clause clause) word) → (¬ IsLate clause.span) → (kind : LineFault) → ¬ HasFault lines i (form.clause clause) kind
 plain_none lines i clause p known early Bad f = p.good f
 plain_none lines i clause p known early Deep f = p.flat f
 plain_none lines i clause p known early (Double x) f = f
 plain_none lines i clause p known early (Unknown x) f = known x f
 plain_none lines i clause p known early Many f = early f
 
-times_decide : (lines : List Entry) (i : ℕ) (clause : Clause) (times : Span) → clause.span ≡ times → Plain lines i clause → ((word : List ℕ) → ¬ IsUnknown lines i (form.Clause clause) word) → Decided lines i (form.Clause clause) (span_fault times)
+times_decide : (lines : List Entry) (i : ℕ) (clause : Clause) (times : Span) → clause.span ≡ times → Plain lines i clause → ((word : List ℕ) → ¬ IsUnknown lines i (form.clause clause) word) → Decided lines i (form.clause clause) (span_fault times)
 times_decide lines i clause span.Late e p known = (subst IsLate (sym e) tt, plain_before_many lines i clause p known)
 times_decide lines i clause span.Absent e p known = plain_none lines i clause p known (λ late. subst IsLate e late)
 times_decide lines i clause (span.During a b) e p known = plain_none lines i clause p known (λ late. subst IsLate e late)
 
-unknown_decide : (lines : List Entry) (i : ℕ) (clause : Clause) (vars : List (List ℕ)) (a b : Option (List ℕ)) → vars ≡ declared lines i → first_unknown (number_in vars) (tokens_of clause.value ++ tokens_of clause.guard) ≡ or_else a b → Plain lines i clause → Decided lines i (form.Clause clause) (unknown_fault a b clause.span)
+unknown_decide : (lines : List Entry) (i : ℕ) (clause : Clause) (vars : List (List ℕ)) (a b : Option (List ℕ)) → vars ≡ declared lines i → first_unknown (number_in vars) (tokens_of clause.value ++ tokens_of clause.guard) ≡ or_else a b → Plain lines i clause → Decided lines i (form.clause clause) (unknown_fault a b clause.span)
 unknown_decide lines i clause vars (Some word) b v e p =
     (subst (λ names. IsFirstUndeclared names (tokens_of clause.value ++ tokens_of clause.guard) word) v (undeclared_found vars (tokens_of clause.value ++ tokens_of clause.guard) word e), plain_before_unknown lines i clause word p)
 unknown_decide lines i clause vars None (Some word) v e p =
@@ -195,23 +193,23 @@ unknown_decide lines i clause vars None (Some word) v e p =
 unknown_decide lines i clause vars None None v e p =
     times_decide lines i clause clause.span refl p (λ word r. undeclared_none vars (tokens_of clause.value ++ tokens_of clause.guard) word e (subst (λ names. IsFirstUndeclared names (tokens_of clause.value ++ tokens_of clause.guard) word) (sym v) r))
 
-good_clause : (lines : List Entry) (i : ℕ) (clause : Clause) (d e : Expression) → Stands lines i (form.Clause clause) → Spells d clause.value → Spells e clause.guard → ¬ IsBad lines i (form.Clause clause)
+good_clause : (lines : List Entry) (i : ℕ) (clause : Clause) (d e : Expression) → Stands lines i (form.clause clause) → Spells d clause.value → Spells e clause.guard → ¬ IsBad lines i (form.clause clause)
 good_clause lines i clause d e s v g (inl f) = f s
 good_clause lines i clause d e s v g (inr (inl f)) = f d v
 good_clause lines i clause d e s v g (inr (inr f)) = f e g
 
-deep_before : (lines : List Entry) (i : ℕ) (clause : Clause) → (¬ IsBad lines i (form.Clause clause)) → (other : LineFault) → GoesBefore other Deep → ¬ HasFault lines i (form.Clause clause) other
+deep_before : (lines : List Entry) (i : ℕ) (clause : Clause) → (¬ IsBad lines i (form.clause clause)) → (other : LineFault) → GoesBefore other Deep → ¬ HasFault lines i (form.clause clause) other
 deep_before lines i clause good Bad g f = good f
 deep_before lines i clause good Deep g f = absurd g
 deep_before lines i clause good (Double x) g f = absurd g
 deep_before lines i clause good (Unknown x) g f = absurd g
 deep_before lines i clause good Many g f = absurd g
 
-flat_clause : (clause : Clause) (d e : Expression) → Spells d clause.value → Spells e clause.guard → is_deep d ≡ false → is_deep e ≡ false → ¬ IsDeep (form.Clause clause)
+flat_clause : (clause : Clause) (d e : Expression) → Spells d clause.value → Spells e clause.guard → is_deep d ≡ false → is_deep e ≡ false → ¬ IsDeep (form.clause clause)
 flat_clause clause d e v g x y (inl f) = flat_not_deep clause.value d v x f
 flat_clause clause d e v g x y (inr f) = flat_not_deep clause.guard e g y f
 
-depth_by : (b : Bool) (lines : List Entry) (i : ℕ) (clause : Clause) (vars : List (List ℕ)) (d e : Expression) → vars ≡ declared lines i → Stands lines i (form.Clause clause) → Spells d clause.value → Spells e clause.guard → (is_deep d || is_deep e) ≡ b → Decided lines i (form.Clause clause) (if b then Some Deep else unknown_fault (first_unknown (number_in vars) (spelling d)) (first_unknown (number_in vars) (spelling e)) clause.span)
+depth_by : (b : Bool) (lines : List Entry) (i : ℕ) (clause : Clause) (vars : List (List ℕ)) (d e : Expression) → vars ≡ declared lines i → Stands lines i (form.clause clause) → Spells d clause.value → Spells e clause.guard → (is_deep d || is_deep e) ≡ b → Decided lines i (form.clause clause) (if b then Some Deep else unknown_fault (first_unknown (number_in vars) (spelling d)) (first_unknown (number_in vars) (spelling e)) clause.span)
 depth_by true lines i clause vars d e known s v g h =
     (elim (one_deep (is_deep d) (is_deep e) h) [ inl x ↦ inl (deep_is clause.value d v x) | inr y ↦ inr (deep_is clause.guard e g y) ], deep_before lines i clause (good_clause lines i clause d e s v g))
 depth_by false lines i clause vars d e known s v g h =
@@ -220,13 +218,13 @@ depth_by false lines i clause vars d e known s v g h =
     unknown_both (number_in vars) (tokens_of clause.value) (tokens_of clause.guard) ∙ ap (λ k. or_else (first_unknown (number_in vars) k) (first_unknown (number_in vars) (tokens_of clause.guard))) (sym v) ∙ ap (λ k. or_else (first_unknown (number_in vars) (spelling d)) (first_unknown (number_in vars) k)) (sym g) in
     unknown_decide lines i clause vars _ _ known all (record { good = good_clause lines i clause d e s v g; flat = flat_clause clause d e v g flat.0 flat.1 })
 
-clause_decides : (lines : List Entry) (i : ℕ) (clause : Clause) (vars : List (List ℕ)) (value guard : Option Expression) → vars ≡ declared lines i → Stands lines i (form.Clause clause) → IsSpelled clause.value value → IsSpelled clause.guard guard → Decided lines i (form.Clause clause) (clause_fault vars value guard clause.span)
-clause_decides lines i clause vars None guard known s v g = bad_first lines i (form.Clause clause) (inr (inl v))
-clause_decides lines i clause vars (Some d) None known s v g = bad_first lines i (form.Clause clause) (inr (inr g))
+clause_decides : (lines : List Entry) (i : ℕ) (clause : Clause) (vars : List (List ℕ)) (value guard : Option Expression) → vars ≡ declared lines i → Stands lines i (form.clause clause) → IsSpelled clause.value value → IsSpelled clause.guard guard → Decided lines i (form.clause clause) (clause_fault vars value guard clause.span)
+clause_decides lines i clause vars None guard known s v g = bad_first lines i (form.clause clause) (inr (inl v))
+clause_decides lines i clause vars (Some d) None known s v g = bad_first lines i (form.clause clause) (inr (inr g))
 clause_decides lines i clause vars (Some d) (Some e) known s v g = depth_by (is_deep d || is_deep e) lines i clause vars d e known s v g refl
 
 -- a line that ends a task
-end_none : (lines : List Entry) (i : ℕ) → Stands lines i form.End → (kind : LineFault) → ¬ HasFault lines i form.End kind
+end_none : (lines : List Entry) (i : ℕ) → Stands lines i form.ending → (kind : LineFault) → ¬ HasFault lines i form.ending kind
 end_none lines i s Bad (inl f) = f s
 end_none lines i s Bad (inr f) = f
 end_none lines i s Deep f = f
@@ -240,10 +238,10 @@ good_head a b s apart (inr f) = apart f
 
 -- a line that may stand
 form_decides : (parse : Parse) (lines : List Entry) (i : ℕ) (c : Context) (form : Form) → IsParse parse → Told lines i c → HasForm lines i form → may_stand form c.place ≡ true → Decided lines i form (form_fault parse c form)
-form_decides parse lines i c (form.Vars names) is told has may =
-    let all = vars_on lines i (form.Vars names) c.vars has told.vars in
-    naming_decides lines i (form.Vars names) 1000 c.vars names (vars_behind (form.Vars names) c.vars) (first_double c.vars names) (record {
-      good = good_head _ _ (stands lines i c.place (form.Vars names) told.place may) (λ f. f);
+form_decides parse lines i c (form.vars names) is told has may =
+    let all = vars_on lines i (form.vars names) c.vars has told.vars in
+    naming_decides lines i (form.vars names) 1000 c.vars names (vars_behind (form.vars names) c.vars) (first_double c.vars names) (record {
+      good = good_head _ _ (stands lines i c.place (form.vars names) told.place may) (λ f. f);
       flat = λ f. f;
       familiar = λ word f. f;
       to_double = λ word r. subst (λ k. IsFirstDouble k names word) told.vars r;
@@ -251,9 +249,9 @@ form_decides parse lines i c (form.Vars names) is told has may =
       to_many = λ h. subst (λ k. 1000 < length k) all h;
       from_many = λ h. subst (λ k. 1000 < length k) (sym all) h;
     }) refl
-form_decides parse lines i c (form.Ste name reset) is told has may =
-    let all = names_on lines i (form.Ste name reset) c.names has told.names in
-    naming_decides lines i (form.Ste name reset) 256 c.names (name ∷ []) (names_behind (form.Ste name reset) c.names) (first_double c.names (name ∷ [])) (record {
+form_decides parse lines i c (form.ste name reset) is told has may =
+    let all = names_on lines i (form.ste name reset) c.names has told.names in
+    naming_decides lines i (form.ste name reset) 256 c.names (name ∷ []) (names_behind (form.ste name reset) c.names) (first_double c.names (name ∷ [])) (record {
       good = good_head _ _ tt (λ f. f);
       flat = λ f. f;
       familiar = λ word f. f;
@@ -262,9 +260,9 @@ form_decides parse lines i c (form.Ste name reset) is told has may =
       to_many = λ h. subst (λ k. 256 < length k) all h;
       from_many = λ h. subst (λ k. 256 < length k) (sym all) h;
     }) refl
-form_decides parse lines i c (form.Gste name vertex reset) is told has may =
-    let all = names_on lines i (form.Gste name vertex reset) c.names has told.names in
-    naming_decides lines i (form.Gste name vertex reset) 256 c.names (name ∷ []) (names_behind (form.Gste name vertex reset) c.names) (first_double c.names (name ∷ [])) (record {
+form_decides parse lines i c (form.gste name vertex reset) is told has may =
+    let all = names_on lines i (form.gste name vertex reset) c.names has told.names in
+    naming_decides lines i (form.gste name vertex reset) 256 c.names (name ∷ []) (names_behind (form.gste name vertex reset) c.names) (first_double c.names (name ∷ [])) (record {
       good = good_head _ _ tt (λ f. f);
       flat = λ f. f;
       familiar = λ word f. f;
@@ -273,10 +271,10 @@ form_decides parse lines i c (form.Gste name vertex reset) is told has may =
       to_many = λ h. subst (λ k. 256 < length k) all h;
       from_many = λ h. subst (λ k. 256 < length k) (sym all) h;
     }) refl
-form_decides parse lines i c (form.Edge from to) is told has may = edge_by _ lines i c from to told has may refl
-form_decides parse lines i c (form.Clause clause) is told has may = clause_decides lines i clause c.vars (parse clause.value) (parse clause.guard) told.vars (stands lines i c.place (form.Clause clause) told.place may) (is clause.value) (is clause.guard)
-form_decides parse lines i c form.End is told has may = end_none lines i (stands lines i c.place form.End told.place may)
-form_decides parse lines i c form.Wrong is told has may = absurd (cc may)
+form_decides parse lines i c (form.edge from to) is told has may = edge_by _ lines i c from to told has may refl
+form_decides parse lines i c (form.clause clause) is told has may = clause_decides lines i clause c.vars (parse clause.value) (parse clause.guard) told.vars (stands lines i c.place (form.clause clause) told.place may) (is clause.value) (is clause.guard)
+form_decides parse lines i c form.ending is told has may = end_none lines i (stands lines i c.place form.ending told.place may)
+form_decides parse lines i c form.wrong is told has may = absurd (cc may)
 
 -- any line
 decided_by : (b : Bool) (parse : Parse) (lines : List Entry) (i : ℕ) (c : Context) (form : Form) → IsParse parse → Told lines i c → HasForm lines i form → may_stand form c.place ≡ b → Decided lines i form (if b then form_fault parse c form else Some Bad)

@@ -7,13 +7,12 @@ use Rattle.std.proofs.lemmas.Grind.{flat_map-append}
 use Rattle.std.proofs.lemmas.List.Elements.{filter-append}
 use Rattle.std.proofs.lemmas.List.Sums.{fold-append}
 use Rattle.indexmap.specs.IndexSet.{insert_all}
-use Rattle.assert_syntax.specs.declared.form.Entry.{Entry}
-use Rattle.assert_syntax.specs.declared.form.Form.{Form}
-use Rattle.assert_syntax.specs.declared.form.Form.TheVariants as form
 use Rattle.assert_syntax.specs.declared.form.Span.{Span}
 use Rattle.assert_syntax.specs.declared.form.Span.TheVariants as span
 use Rattle.assert_syntax.specs.declared.place.Place.{Place}
 use Rattle.assert_syntax.specs.declared.place.Place.TheVariants.{Start, Assertion, Graph, Edge, Ended}
+use Rattle.assert_syntax.specs.Forms.{Entry, Form}
+use Rattle.assert_syntax.specs.Forms as form
 use Rattle.assert_syntax.specs.Places.{Context, context_behind, context_of, edges_behind, holds_edges, may_stand, names_behind, place_behind, span_fits, vars_behind, vertices_behind}
 use Rattle.assert_syntax.specs.Rules.{ClauseStands, HasForm, IsFirst, IsBehind, IsGraphAt, Stands, declared, declares, forms_of, mentions, names_task, opens, starts_edge, tasks_named}
 
@@ -56,13 +55,13 @@ at_on lines i Ended form at has none = behind_on lines i Ended form at has none
 
 -- the place behind a line
 place_on : (lines : List Entry) (i : ℕ) (place : Place) (form : Form) → IsAt lines i place → HasForm lines i form → IsAt lines (suc i) (place_behind form place)
-place_on lines i place (form.Vars names) at has = at_on lines i place (form.Vars names) at has refl
-place_on lines i place (form.Ste name reset) at has = behind_here lines i Assertion (form.Ste name reset) has refl
-place_on lines i place (form.Gste name vertex reset) at has = behind_here lines i Graph (form.Gste name vertex reset) has refl
-place_on lines i place (form.Edge from to) at has = behind_here lines i Edge (form.Edge from to) has refl
-place_on lines i place (form.Clause clause) at has = at_on lines i place (form.Clause clause) at has refl
-place_on lines i place form.End at has = behind_here lines i Ended form.End has refl
-place_on lines i place form.Wrong at has = at_on lines i place form.Wrong at has refl
+place_on lines i place (form.vars names) at has = at_on lines i place (form.vars names) at has refl
+place_on lines i place (form.ste name reset) at has = behind_here lines i Assertion (form.ste name reset) has refl
+place_on lines i place (form.gste name vertex reset) at has = behind_here lines i Graph (form.gste name vertex reset) has refl
+place_on lines i place (form.edge from to) at has = behind_here lines i Edge (form.edge from to) has refl
+place_on lines i place (form.clause clause) at has = at_on lines i place (form.clause clause) at has refl
+place_on lines i place form.ending at has = behind_here lines i Ended form.ending has refl
+place_on lines i place form.wrong at has = at_on lines i place form.wrong at has refl
 
 one_place : (a b : Place) → Some a ≡ Some b → a ≡ b
 one_place a b e = cc
@@ -129,38 +128,38 @@ clause_stands_not lines i place span.Late at may b = let e = sym (ap (span_fits 
 
 -- a line that may stand by what is kept stands
 pub stands : (lines : List Entry) (i : ℕ) (place : Place) (form : Form) → IsAt lines i place → may_stand form place ≡ true → Stands lines i form
-stands lines i Start (form.Vars names) at may = at
-stands lines i Assertion (form.Vars names) at may = absurd (cc may)
-stands lines i Graph (form.Vars names) at may = absurd (cc may)
-stands lines i Edge (form.Vars names) at may = absurd (cc may)
-stands lines i Ended (form.Vars names) at may = absurd (cc may)
-stands lines i place (form.Ste name reset) at may = tt
-stands lines i place (form.Gste name vertex reset) at may = tt
-stands lines i Start (form.Edge from to) at may = absurd (cc may)
-stands lines i Assertion (form.Edge from to) at may = absurd (cc may)
-stands lines i Graph (form.Edge from to) at may = inl at
-stands lines i Edge (form.Edge from to) at may = inr at
-stands lines i Ended (form.Edge from to) at may = absurd (cc may)
-stands lines i place (form.Clause clause) at may = clause_stands lines i place clause.span at may
-stands lines i Start form.End at may = absurd (cc may)
-stands lines i Assertion form.End at may = inl at
-stands lines i Graph form.End at may = inr (inl at)
-stands lines i Edge form.End at may = inr (inr at)
-stands lines i Ended form.End at may = absurd (cc may)
-stands lines i place form.Wrong at may = absurd (cc may)
+stands lines i Start (form.vars names) at may = at
+stands lines i Assertion (form.vars names) at may = absurd (cc may)
+stands lines i Graph (form.vars names) at may = absurd (cc may)
+stands lines i Edge (form.vars names) at may = absurd (cc may)
+stands lines i Ended (form.vars names) at may = absurd (cc may)
+stands lines i place (form.ste name reset) at may = tt
+stands lines i place (form.gste name vertex reset) at may = tt
+stands lines i Start (form.edge from to) at may = absurd (cc may)
+stands lines i Assertion (form.edge from to) at may = absurd (cc may)
+stands lines i Graph (form.edge from to) at may = inl at
+stands lines i Edge (form.edge from to) at may = inr at
+stands lines i Ended (form.edge from to) at may = absurd (cc may)
+stands lines i place (form.clause clause) at may = clause_stands lines i place clause.span at may
+stands lines i Start form.ending at may = absurd (cc may)
+stands lines i Assertion form.ending at may = inl at
+stands lines i Graph form.ending at may = inr (inl at)
+stands lines i Edge form.ending at may = inr (inr at)
+stands lines i Ended form.ending at may = absurd (cc may)
+stands lines i place form.wrong at may = absurd (cc may)
 
 -- a line that may not stand by what is kept does not stand
 pub stands_not : (lines : List Entry) (i : ℕ) (place : Place) (form : Form) → IsAt lines i place → may_stand form place ≡ false → ¬ Stands lines i form
-stands_not lines i place (form.Vars names) at may first = let e = sym (ap (may_stand (form.Vars names)) (at_first lines i place at first)) ∙ may in absurd (cc e)
-stands_not lines i place (form.Ste name reset) at may s = absurd (cc may)
-stands_not lines i place (form.Gste name vertex reset) at may s = absurd (cc may)
-stands_not lines i place (form.Edge from to) at may (inl b) = let e = sym (ap (may_stand (form.Edge from to)) (at_behind lines i place Graph at b)) ∙ may in absurd (cc e)
-stands_not lines i place (form.Edge from to) at may (inr b) = let e = sym (ap (may_stand (form.Edge from to)) (at_behind lines i place Edge at b)) ∙ may in absurd (cc e)
-stands_not lines i place (form.Clause clause) at may s = clause_stands_not lines i place clause.span at may s
-stands_not lines i place form.End at may (inl b) = let e = sym (ap (may_stand form.End) (at_behind lines i place Assertion at b)) ∙ may in absurd (cc e)
-stands_not lines i place form.End at may (inr (inl b)) = let e = sym (ap (may_stand form.End) (at_behind lines i place Graph at b)) ∙ may in absurd (cc e)
-stands_not lines i place form.End at may (inr (inr b)) = let e = sym (ap (may_stand form.End) (at_behind lines i place Edge at b)) ∙ may in absurd (cc e)
-stands_not lines i place form.Wrong at may s = s
+stands_not lines i place (form.vars names) at may first = let e = sym (ap (may_stand (form.vars names)) (at_first lines i place at first)) ∙ may in absurd (cc e)
+stands_not lines i place (form.ste name reset) at may s = absurd (cc may)
+stands_not lines i place (form.gste name vertex reset) at may s = absurd (cc may)
+stands_not lines i place (form.edge from to) at may (inl b) = let e = sym (ap (may_stand (form.edge from to)) (at_behind lines i place Graph at b)) ∙ may in absurd (cc e)
+stands_not lines i place (form.edge from to) at may (inr b) = let e = sym (ap (may_stand (form.edge from to)) (at_behind lines i place Edge at b)) ∙ may in absurd (cc e)
+stands_not lines i place (form.clause clause) at may s = clause_stands_not lines i place clause.span at may s
+stands_not lines i place form.ending at may (inl b) = let e = sym (ap (may_stand form.ending) (at_behind lines i place Assertion at b)) ∙ may in absurd (cc e)
+stands_not lines i place form.ending at may (inr (inl b)) = let e = sym (ap (may_stand form.ending) (at_behind lines i place Graph at b)) ∙ may in absurd (cc e)
+stands_not lines i place form.ending at may (inr (inr b)) = let e = sym (ap (may_stand form.ending) (at_behind lines i place Edge at b)) ∙ may in absurd (cc e)
+stands_not lines i place form.wrong at may s = s
 
 -- the forms up to a place, with one more
 take_more : {A : Type 0} (xs : List A) (i : ℕ) (x : A) → slice_get xs i ≡ Some x → take (suc i) xs ≡ take i xs ++ x ∷ []
@@ -187,22 +186,22 @@ gathered f lines i form has =
     ap (flat_map f) (take_more (forms_of lines) i form has) ∙ flat_map-append f (take i (forms_of lines)) (form ∷ []) ∙ ap (λ k. flat_map f (take i (forms_of lines)) ++ k) (append-nil (f form))
 
 vars_are : (form : Form) (vars : List (List ℕ)) → vars_behind form vars ≡ vars ++ declares form
-vars_are (form.Vars names) vars = refl
-vars_are (form.Ste name reset) vars = sym (append-nil vars)
-vars_are (form.Gste name vertex reset) vars = sym (append-nil vars)
-vars_are (form.Edge from to) vars = sym (append-nil vars)
-vars_are (form.Clause clause) vars = sym (append-nil vars)
-vars_are form.End vars = sym (append-nil vars)
-vars_are form.Wrong vars = sym (append-nil vars)
+vars_are (form.vars names) vars = refl
+vars_are (form.ste name reset) vars = sym (append-nil vars)
+vars_are (form.gste name vertex reset) vars = sym (append-nil vars)
+vars_are (form.edge from to) vars = sym (append-nil vars)
+vars_are (form.clause clause) vars = sym (append-nil vars)
+vars_are form.ending vars = sym (append-nil vars)
+vars_are form.wrong vars = sym (append-nil vars)
 
 names_are : (form : Form) (names : List (List ℕ)) → names_behind form names ≡ names ++ names_task form
-names_are (form.Vars vars) names = sym (append-nil names)
-names_are (form.Ste name reset) names = refl
-names_are (form.Gste name vertex reset) names = refl
-names_are (form.Edge from to) names = sym (append-nil names)
-names_are (form.Clause clause) names = sym (append-nil names)
-names_are form.End names = sym (append-nil names)
-names_are form.Wrong names = sym (append-nil names)
+names_are (form.vars vars) names = sym (append-nil names)
+names_are (form.ste name reset) names = refl
+names_are (form.gste name vertex reset) names = refl
+names_are (form.edge from to) names = sym (append-nil names)
+names_are (form.clause clause) names = sym (append-nil names)
+names_are form.ending names = sym (append-nil names)
+names_are form.wrong names = sym (append-nil names)
 
 -- the variables and the names behind a line
 pub vars_on : (lines : List Entry) (i : ℕ) (form : Form) (vars : List (List ℕ)) → HasForm lines i form → vars ≡ declared lines i → vars_behind form vars ≡ declared lines (suc i)
@@ -242,22 +241,22 @@ graph_same lines i start form g has some = elim (up_to start i g.earlier) [
 ]
 
 vertices_are : (form : Form) (vertices : List (List ℕ)) → (opens form ≡ Some Graph → ⊥) → vertices_behind form vertices ≡ insert_all bytes_eq vertices (mentions form)
-vertices_are (form.Vars names) vertices apart = refl
-vertices_are (form.Ste name reset) vertices apart = refl
-vertices_are (form.Gste name vertex reset) vertices apart = absurd (apart refl)
-vertices_are (form.Edge from to) vertices apart = refl
-vertices_are (form.Clause clause) vertices apart = refl
-vertices_are form.End vertices apart = refl
-vertices_are form.Wrong vertices apart = refl
+vertices_are (form.vars names) vertices apart = refl
+vertices_are (form.ste name reset) vertices apart = refl
+vertices_are (form.gste name vertex reset) vertices apart = absurd (apart refl)
+vertices_are (form.edge from to) vertices apart = refl
+vertices_are (form.clause clause) vertices apart = refl
+vertices_are form.ending vertices apart = refl
+vertices_are form.wrong vertices apart = refl
 
 edges_are : (form : Form) (edges : ℕ) → (opens form ≡ Some Graph → ⊥) → edges_behind form edges ≡ edges + length (filter starts_edge (form ∷ []))
-edges_are (form.Vars names) edges apart = omega arith
-edges_are (form.Ste name reset) edges apart = omega arith
-edges_are (form.Gste name vertex reset) edges apart = absurd (apart refl)
-edges_are (form.Edge from to) edges apart = omega arith
-edges_are (form.Clause clause) edges apart = omega arith
-edges_are form.End edges apart = omega arith
-edges_are form.Wrong edges apart = omega arith
+edges_are (form.vars names) edges apart = omega arith
+edges_are (form.ste name reset) edges apart = omega arith
+edges_are (form.gste name vertex reset) edges apart = absurd (apart refl)
+edges_are (form.edge from to) edges apart = omega arith
+edges_are (form.clause clause) edges apart = omega arith
+edges_are form.ending edges apart = omega arith
+edges_are form.wrong edges apart = omega arith
 
 -- one line more of a graph
 pub graph_more : (lines : List Entry) (i start : ℕ) (form : Form) (vertices : List (List ℕ)) (edges : ℕ) → start ≤ i → HasForm lines i form → (opens form ≡ Some Graph → ⊥) → GraphTold lines i start vertices edges → GraphTold lines (suc i) start (vertices_behind form vertices) (edges_behind form edges)
@@ -269,9 +268,9 @@ graph_more lines i start form vertices edges h has apart told =
       edges_are form edges apart ∙ ap (λ n. n + length (filter starts_edge (form ∷ []))) told.1 ∙ sym (length-append (filter starts_edge w) (filter starts_edge (form ∷ []))) ∙ ap length (sym (filter-append starts_edge w (form ∷ [])) ∙ sym (ap (filter starts_edge) more)),
     )
 
-graph_starts : (lines : List Entry) (i : ℕ) (name vertex : List ℕ) (reset : Bool) → HasForm lines i (form.Gste name vertex reset) → GraphTold lines (suc i) i (vertex ∷ []) 0
+graph_starts : (lines : List Entry) (i : ℕ) (name vertex : List ℕ) (reset : Bool) → HasForm lines i (form.gste name vertex reset) → GraphTold lines (suc i) i (vertex ∷ []) 0
 graph_starts lines i name vertex reset has =
-    let more : drop i (take (suc i) (forms_of lines)) ≡ form.Gste name vertex reset ∷ [] = window (forms_of lines) i i (form.Gste name vertex reset) (omega arith) has ∙ ap (λ w. w ++ form.Gste name vertex reset ∷ []) (none_from (forms_of lines) i) in
+    let more : drop i (take (suc i) (forms_of lines)) ≡ form.gste name vertex reset ∷ [] = window (forms_of lines) i i (form.gste name vertex reset) (omega arith) has ∙ ap (λ w. w ++ form.gste name vertex reset ∷ []) (none_from (forms_of lines) i) in
     (sym (ap (λ w. insert_all bytes_eq [] (flat_map mentions w)) more), sym (ap (λ w. length (filter starts_edge w)) more))
 
 -- what the lines before place i say is kept so
@@ -288,23 +287,23 @@ graph_kept lines i c form told has apart start g =
     graph_more lines i start form c.vertices c.edges (let h = before.earlier in omega (arith, h)) has apart (told.graph start before)
 
 graph_told : (lines : List Entry) (i : ℕ) (c : Context) (form : Form) → Told lines i c → HasForm lines i form → (start : ℕ) → IsGraphAt lines (suc i) start → GraphTold lines (suc i) start (vertices_behind form c.vertices) (edges_behind form c.edges)
-graph_told lines i c (form.Gste name vertex reset) told has start g =
-    subst (λ s. GraphTold lines (suc i) s (vertex ∷ []) 0) (sym (graph_same lines i start (form.Gste name vertex reset) g has refl)) (graph_starts lines i name vertex reset has)
-graph_told lines i c (form.Vars names) told has start g = graph_kept lines i c (form.Vars names) told has (λ e. absurd (cc e)) start g
-graph_told lines i c (form.Ste name reset) told has start g = graph_kept lines i c (form.Ste name reset) told has (λ e. absurd (cc e)) start g
-graph_told lines i c (form.Edge from to) told has start g = graph_kept lines i c (form.Edge from to) told has (λ e. absurd (cc e)) start g
-graph_told lines i c (form.Clause clause) told has start g = graph_kept lines i c (form.Clause clause) told has (λ e. absurd (cc e)) start g
-graph_told lines i c form.End told has start g = graph_kept lines i c form.End told has (λ e. absurd (cc e)) start g
-graph_told lines i c form.Wrong told has start g = graph_kept lines i c form.Wrong told has (λ e. absurd (cc e)) start g
+graph_told lines i c (form.gste name vertex reset) told has start g =
+    subst (λ s. GraphTold lines (suc i) s (vertex ∷ []) 0) (sym (graph_same lines i start (form.gste name vertex reset) g has refl)) (graph_starts lines i name vertex reset has)
+graph_told lines i c (form.vars names) told has start g = graph_kept lines i c (form.vars names) told has (λ e. absurd (cc e)) start g
+graph_told lines i c (form.ste name reset) told has start g = graph_kept lines i c (form.ste name reset) told has (λ e. absurd (cc e)) start g
+graph_told lines i c (form.edge from to) told has start g = graph_kept lines i c (form.edge from to) told has (λ e. absurd (cc e)) start g
+graph_told lines i c (form.clause clause) told has start g = graph_kept lines i c (form.clause clause) told has (λ e. absurd (cc e)) start g
+graph_told lines i c form.ending told has start g = graph_kept lines i c form.ending told has (λ e. absurd (cc e)) start g
+graph_told lines i c form.wrong told has start g = graph_kept lines i c form.wrong told has (λ e. absurd (cc e)) start g
 
 still_started : (lines : List Entry) (i : ℕ) (c : Context) (form : Form) → Told lines i c → HasForm lines i form → may_stand form c.place ≡ true → holds_edges (place_behind form c.place) ≡ true → (start : ℕ) × IsGraphAt lines (suc i) start
-still_started lines i c (form.Gste name vertex reset) told has may h = (i, graph_here lines i (form.Gste name vertex reset) has refl)
-still_started lines i c (form.Vars names) told has may h = let s = told.started h in (s.0, graph_on lines i s.0 (form.Vars names) s.1 has (λ e. absurd (cc e)))
-still_started lines i c (form.Ste name reset) told has may h = absurd (cc h)
-still_started lines i c (form.Edge from to) told has may h = let s = told.started may in (s.0, graph_on lines i s.0 (form.Edge from to) s.1 has (λ e. absurd (cc e)))
-still_started lines i c (form.Clause clause) told has may h = let s = told.started h in (s.0, graph_on lines i s.0 (form.Clause clause) s.1 has (λ e. absurd (cc e)))
-still_started lines i c form.End told has may h = absurd (cc h)
-still_started lines i c form.Wrong told has may h = absurd (cc may)
+still_started lines i c (form.gste name vertex reset) told has may h = (i, graph_here lines i (form.gste name vertex reset) has refl)
+still_started lines i c (form.vars names) told has may h = let s = told.started h in (s.0, graph_on lines i s.0 (form.vars names) s.1 has (λ e. absurd (cc e)))
+still_started lines i c (form.ste name reset) told has may h = absurd (cc h)
+still_started lines i c (form.edge from to) told has may h = let s = told.started may in (s.0, graph_on lines i s.0 (form.edge from to) s.1 has (λ e. absurd (cc e)))
+still_started lines i c (form.clause clause) told has may h = let s = told.started h in (s.0, graph_on lines i s.0 (form.clause clause) s.1 has (λ e. absurd (cc e)))
+still_started lines i c form.ending told has may h = absurd (cc h)
+still_started lines i c form.wrong told has may h = absurd (cc may)
 
 -- one line more
 pub told_on : (lines : List Entry) (i : ℕ) (c : Context) (form : Form) → Told lines i c → HasForm lines i form → may_stand form c.place ≡ true → Told lines (suc i) (context_behind c form)

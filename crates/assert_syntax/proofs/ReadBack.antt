@@ -13,10 +13,6 @@ use Rattle.bool_expr.specs.Grammar.{Expression, literal, nesting, single, spelli
 use Rattle.bool_expr.specs.declared.token.Sign.TheVariants.{Or, Xor, And}
 use Rattle.bool_expr.specs.Read.{Spells, first_unknown, number_in}
 use Rattle.bool_expr.proofs.Answered.{one_tree}
-use Rattle.assert_syntax.specs.declared.form.Clause.{Clause}
-use Rattle.assert_syntax.specs.declared.form.Entry.{Entry}
-use Rattle.assert_syntax.specs.declared.form.Form.{Form}
-use Rattle.assert_syntax.specs.declared.form.Form.TheVariants as form
 use Rattle.assert_syntax.specs.declared.form.LineFault.{LineFault}
 use Rattle.assert_syntax.specs.declared.form.Side.{Side}
 use Rattle.assert_syntax.specs.declared.form.Side.TheVariants.{Antecedent, Consequent}
@@ -26,7 +22,8 @@ use Rattle.assert_syntax.specs.declared.place.Place.{Place}
 use Rattle.assert_syntax.specs.declared.place.Place.TheVariants as place
 use Rattle.assert_syntax.specs.declared.form.LineFault.TheVariants.{Bad}
 use Rattle.assert_syntax.specs.Answer.{entry_of, entries_of}
-use Rattle.assert_syntax.specs.Forms.{clause_of, clause_with, expression_length, form_of, guarded, span_of, valued}
+use Rattle.assert_syntax.specs.Forms.{Clause, Entry, Form, clause_of, clause_with, expression_length, form_of, guarded, span_of, valued}
+use Rattle.assert_syntax.specs.Forms as form
 use Rattle.assert_syntax.specs.Parses.{Parse, IsParse, IsSpelled, is_deep, tree_over}
 use Rattle.assert_syntax.specs.Places.{Context, clause_fault, context_of, fault_or, first_double, first_fault, graph_fault, holds_edges, names_fault, span_fits}
 use Rattle.assert_syntax.specs.Rules.{IsFirstDouble}
@@ -50,18 +47,18 @@ abbrev entry : ℕ → Form → Entry
 entry line form = record { line = line; form = form }
 
 abbrev clause_entry : SaidClause → Entry
-clause_entry c = entry c.line (form.Clause (said_clause c))
+clause_entry c = entry c.line (form.clause (said_clause c))
 
 abbrev edge_entries : SaidEdge → List Entry
-edge_entries e = entry e.line (form.Edge e.from e.to) ∷ map clause_entry e.clauses
+edge_entries e = entry e.line (form.edge e.from e.to) ∷ map clause_entry e.clauses
 
 abbrev task_entries : SaidTask → List Entry
-task_entries (ste line name reset clauses) = entry line (form.Ste name reset) ∷ (map clause_entry clauses ++ entry line form.End ∷ [])
-task_entries (gste line name vertex reset edges) = entry line (form.Gste name vertex reset) ∷ (flat_map edge_entries edges ++ entry line form.End ∷ [])
+task_entries (ste line name reset clauses) = entry line (form.ste name reset) ∷ (map clause_entry clauses ++ entry line form.ending ∷ [])
+task_entries (gste line name vertex reset edges) = entry line (form.gste name vertex reset) ∷ (flat_map edge_entries edges ++ entry line form.ending ∷ [])
 
 abbrev vars_entries : List (List ℕ) → List Entry
 vars_entries [] = []
-vars_entries (name ∷ names) = entry 1 (form.Vars (name ∷ names)) ∷ []
+vars_entries (name ∷ names) = entry 1 (form.vars (name ∷ names)) ∷ []
 
 -- words that end an expression, or none
 abbrev Ends : List (List ℕ) → Type 0
@@ -100,7 +97,7 @@ abbrev IsOpen : Option (List (List ℕ)) → Type 0
 IsOpen None = Unit {0}
 IsOpen (Some words) = All (λ word. ends_expression word ≡ false) words
 
-guard_form : (side : Side) (node value : List ℕ) (words : List (List ℕ)) (times : Option SaidTimes) → All (λ word. ends_expression word ≡ false) words → AreSaid times → guarded side node value (words ++ times_words times) ≡ form.Clause (record { side = side; node = node; value = value; guard = spaced words; span = said_span times })
+guard_form : (side : Side) (node value : List ℕ) (words : List (List ℕ)) (times : Option SaidTimes) → All (λ word. ends_expression word ≡ false) words → AreSaid times → guarded side node value (words ++ times_words times) ≡ form.clause (record { side = side; node = node; value = value; guard = spaced words; span = said_span times })
 guard_form side node value words times goes said =
     let rest = times_words times in
     ap (λ n. clause_with side node value (spaced (take n (words ++ rest))) (span_of (drop n (words ++ rest)))) (up_to_end words rest goes (times_end times))
@@ -108,7 +105,7 @@ guard_form side node value words times goes said =
     ∙ ap (λ k. clause_with side node value (spaced words) (span_of k)) (drop-append_seam words rest)
     ∙ ap (clause_with side node value (spaced words)) (span_is times said)
 
-valued_form : (side : Side) (node value : List ℕ) (guard : Option (List (List ℕ))) (times : Option SaidTimes) → IsOpen guard → AreSaid times → valued side node value (guard_words guard ++ times_words times) ≡ form.Clause (record { side = side; node = node; value = value; guard = guard_text guard; span = said_span times })
+valued_form : (side : Side) (node value : List ℕ) (guard : Option (List (List ℕ))) (times : Option SaidTimes) → IsOpen guard → AreSaid times → valued side node value (guard_words guard ++ times_words times) ≡ form.clause (record { side = side; node = node; value = value; guard = guard_text guard; span = said_span times })
 valued_form side node value None None goes said = refl
 valued_form side node value None (Some times) goes said = ap (clause_with side node value (codes "1")) (span_is (Some times) said)
 valued_form side node value (Some words) times goes said = guard_form side node value words times goes said
@@ -123,7 +120,7 @@ side_form : (side : Side) (words : List (List ℕ)) → form_of (side_word side 
 side_form Antecedent words = refl
 side_form Consequent words = refl
 
-clause_form : (c : SaidClause) → All (λ word. ends_expression word ≡ false) c.value → IsOpen c.guard → AreSaid c.times → form_of (clause_words c) ≡ form.Clause (said_clause c)
+clause_form : (c : SaidClause) → All (λ word. ends_expression word ≡ false) c.value → IsOpen c.guard → AreSaid c.times → form_of (clause_words c) ≡ form.clause (said_clause c)
 clause_form c value guard times =
     let rest = guard_words c.guard ++ times_words c.times in
     side_form c.side (c.node ∷ codes "=" ∷ (c.value ++ rest))
@@ -142,7 +139,7 @@ bind_times : (times : Option SaidTimes) → times ≡ None → AreSaid times
 bind_times None e = tt
 bind_times (Some times) e = absurd (cc e)
 
-one_spelled : (c : SaidClause) → form_of (clause_words c) ≡ form.Clause (said_clause c) → entry_of (clause_line c) ≡ clause_entry c
+one_spelled : (c : SaidClause) → form_of (clause_words c) ≡ form.clause (said_clause c) → entry_of (clause_line c) ≡ clause_entry c
 one_spelled c e = ap (entry c.line) e
 
 quints_spelled : (vars : List (List ℕ)) (cs : List SaidClause) → All (IsQuintSaid vars) cs → entries_of (map clause_line cs) ≡ map clause_entry cs
@@ -166,24 +163,24 @@ edges_spelled : (vars : List (List ℕ)) (es : List SaidEdge) → All (EdgeSaid 
 edges_spelled vars [] all = refl
 edges_spelled vars (e ∷ es) all =
     map-append entry_of (edge_lines e) (flat_map edge_lines es)
-    ∙ ap (λ k. (entry e.line (form.Edge e.from e.to) ∷ k) ++ entries_of (flat_map edge_lines es)) (binds_spelled vars e.clauses (All-head (EdgeSaid vars) e es all))
+    ∙ ap (λ k. (entry e.line (form.edge e.from e.to) ∷ k) ++ entries_of (flat_map edge_lines es)) (binds_spelled vars e.clauses (All-head (EdgeSaid vars) e es all))
     ∙ ap (λ k. edge_entries e ++ k) (edges_spelled vars es (All-tail (EdgeSaid vars) e es all))
 
-ste_form : (name : List ℕ) (reset : Bool) → form_of (codes ".ste" ∷ name ∷ reset_words reset) ≡ form.Ste name reset
+ste_form : (name : List ℕ) (reset : Bool) → form_of (codes ".ste" ∷ name ∷ reset_words reset) ≡ form.ste name reset
 ste_form name true = refl
 ste_form name false = refl
 
-gste_form : (name vertex : List ℕ) (reset : Bool) → form_of (codes ".gste" ∷ name ∷ vertex ∷ reset_words reset) ≡ form.Gste name vertex reset
+gste_form : (name vertex : List ℕ) (reset : Bool) → form_of (codes ".gste" ∷ name ∷ vertex ∷ reset_words reset) ≡ form.gste name vertex reset
 gste_form name vertex true = refl
 gste_form name vertex false = refl
 
 task_spelled : (vars : List (List ℕ)) (t : SaidTask) → IsSayable vars t → entries_of (task_lines t) ≡ task_entries t
 task_spelled vars (ste line name reset cs) say =
     ap (λ f. entry line f ∷ entries_of (map clause_line cs ++ line_of line (codes ".end" ∷ []) ∷ [])) (ste_form name reset)
-    ∙ ap (λ k. entry line (form.Ste name reset) ∷ k) (map-append entry_of (map clause_line cs) (line_of line (codes ".end" ∷ []) ∷ []) ∙ ap (λ k. k ++ entry line form.End ∷ []) (quints_spelled vars cs say))
+    ∙ ap (λ k. entry line (form.ste name reset) ∷ k) (map-append entry_of (map clause_line cs) (line_of line (codes ".end" ∷ []) ∷ []) ∙ ap (λ k. k ++ entry line form.ending ∷ []) (quints_spelled vars cs say))
 task_spelled vars (gste line name vertex reset es) say =
     ap (λ f. entry line f ∷ entries_of (flat_map edge_lines es ++ line_of line (codes ".end" ∷ []) ∷ [])) (gste_form name vertex reset)
-    ∙ ap (λ k. entry line (form.Gste name vertex reset) ∷ k) (map-append entry_of (flat_map edge_lines es) (line_of line (codes ".end" ∷ []) ∷ []) ∙ ap (λ k. k ++ entry line form.End ∷ []) (edges_spelled vars es say.2))
+    ∙ ap (λ k. entry line (form.gste name vertex reset) ∷ k) (map-append entry_of (flat_map edge_lines es) (line_of line (codes ".end" ∷ []) ∷ []) ∙ ap (λ k. k ++ entry line form.ending ∷ []) (edges_spelled vars es say.2))
 
 tasks_spelled : (vars : List (List ℕ)) (ts : List SaidTask) → All (IsSayable vars) ts → entries_of (flat_map task_lines ts) ≡ flat_map task_entries ts
 tasks_spelled vars [] all = refl
@@ -192,7 +189,7 @@ tasks_spelled vars (t ∷ ts) all =
     ∙ ap (λ k. k ++ entries_of (flat_map task_lines ts)) (task_spelled vars t (All-head (IsSayable vars) t ts all))
     ∙ ap (λ k. task_entries t ++ k) (tasks_spelled vars ts (All-tail (IsSayable vars) t ts all))
 
-vars_form : (b : Bool) (names : List (List ℕ)) → b ≡ true → (if b then form.Vars names else form.Wrong) ≡ form.Vars names
+vars_form : (b : Bool) (names : List (List ℕ)) → b ≡ true → (if b then form.vars names else form.wrong) ≡ form.vars names
 vars_form true names e = refl
 vars_form false names e = absurd (cc e)
 
@@ -270,7 +267,7 @@ edges_past parse vars vertices [] rest = refl
 edges_past parse vars vertices (c ∷ cs) rest = edges_past parse vars vertices cs rest
 
 -- the lines of edges, and what is behind them
-edge_apart : (e : SaidEdge) (es : List SaidEdge) (rest : List Entry) → flat_map edge_entries (e ∷ es) ++ rest ≡ entry e.line (form.Edge e.from e.to) ∷ (map clause_entry e.clauses ++ (flat_map edge_entries es ++ rest))
+edge_apart : (e : SaidEdge) (es : List SaidEdge) (rest : List Entry) → flat_map edge_entries (e ∷ es) ++ rest ≡ entry e.line (form.edge e.from e.to) ∷ (map clause_entry e.clauses ++ (flat_map edge_entries es ++ rest))
 edge_apart e es rest = append_assoc (edge_entries e) (flat_map edge_entries es) rest
 
 tasks_past_edges : (parse : Parse) (vars : List (List ℕ)) (es : List SaidEdge) (rest : List Entry) → tasks_of parse vars (flat_map edge_entries es ++ rest) ≡ tasks_of parse vars rest
@@ -306,20 +303,20 @@ edges_read parse vars vertices all (edge ∷ es) rest e none no_bind =
     no_more (e ∷ es) side = refl
 
 -- a task, and the later ones
-ended : (front : List Entry) (line : ℕ) (ts : List SaidTask) → (front ++ entry line form.End ∷ []) ++ Later ts ≡ front ++ entry line form.End ∷ Later ts
-ended front line ts = append_assoc front (entry line form.End ∷ []) (Later ts)
+ended : (front : List Entry) (line : ℕ) (ts : List SaidTask) → (front ++ entry line form.ending ∷ []) ++ Later ts ≡ front ++ entry line form.ending ∷ Later ts
+ended front line ts = append_assoc front (entry line form.ending ∷ []) (Later ts)
 
 task_read : (parse : Parse) (vars : List (List ℕ)) (t : SaidTask) (ts : List SaidTask) → tasks_of parse vars (task_entries t ++ Later ts) ≡ said_task parse vars t ∷ tasks_of parse vars (Later ts)
 task_read parse vars (ste line name reset cs) ts =
-    let rest = entry line form.End ∷ Later ts in
+    let rest = entry line form.ending ∷ Later ts in
     let side_read : (side : Side) → quints_of parse side vars (map clause_entry cs ++ rest) ≡ map (said_quint parse vars) (on_side side cs) = λ side. quints_read parse side vars cs rest ∙ ap (λ k. map (said_quint parse vars) (on_side side cs) ++ k) (no_quints parse side vars ts) ∙ append-nil (map (said_quint parse vars) (on_side side cs)) in
-    ap (λ k. tasks_of parse vars (entry line (form.Ste name reset) ∷ k)) (ended (map clause_entry cs) line ts)
+    ap (λ k. tasks_of parse vars (entry line (form.ste name reset) ∷ k)) (ended (map clause_entry cs) line ts)
     ∙ ap (λ k. assertion line name reset k (quints_of parse Consequent vars (map clause_entry cs ++ rest)) ∷ tasks_of parse vars (map clause_entry cs ++ rest)) (side_read Antecedent)
     ∙ ap (λ k. assertion line name reset (map (said_quint parse vars) (on_side Antecedent cs)) k ∷ tasks_of parse vars (map clause_entry cs ++ rest)) (side_read Consequent)
     ∙ ap (λ k. said_task parse vars (ste line name reset cs) ∷ k) (tasks_past parse vars cs rest)
 task_read parse vars (gste line name vertex reset es) ts =
-    let rest = entry line form.End ∷ Later ts in
-    ap (λ k. tasks_of parse vars (entry line (form.Gste name vertex reset) ∷ k)) (ended (flat_map edge_entries es) line ts)
+    let rest = entry line form.ending ∷ Later ts in
+    ap (λ k. tasks_of parse vars (entry line (form.gste name vertex reset) ∷ k)) (ended (flat_map edge_entries es) line ts)
     ∙ ap (λ k. graph line name reset k (edges_of parse vars (vertex ∷ []) (flat_map edge_entries es ++ rest)) ∷ tasks_of parse vars (flat_map edge_entries es ++ rest)) (vertices_read (vertex ∷ []) es rest (λ vs. no_vertices vs ts))
     ∙ ap (λ k. graph line name reset (vertices_said vertex es) k ∷ tasks_of parse vars (flat_map edge_entries es ++ rest)) (edges_read parse vars (vertex ∷ []) (vertices_said vertex es) es rest refl (λ vs. no_edges parse vars vs ts) (λ side. no_binds parse side vars ts))
     ∙ ap (λ k. said_task parse vars (gste line name vertex reset es) ∷ k) (tasks_past_edges parse vars es rest)
@@ -343,8 +340,8 @@ vars_past_edges vars (e ∷ es) rest = ap (vars_with vars) (edge_apart e es rest
 
 vars_stay : (vars : List (List ℕ)) (ts : List SaidTask) → vars_with vars (Later ts) ≡ vars
 vars_stay vars [] = refl
-vars_stay vars (ste line name reset cs ∷ ts) = ap (vars_with vars) (ended (map clause_entry cs) line ts) ∙ vars_past vars cs (entry line form.End ∷ Later ts) ∙ vars_stay vars ts
-vars_stay vars (gste line name vertex reset es ∷ ts) = ap (vars_with vars) (ended (flat_map edge_entries es) line ts) ∙ vars_past_edges vars es (entry line form.End ∷ Later ts) ∙ vars_stay vars ts
+vars_stay vars (ste line name reset cs ∷ ts) = ap (vars_with vars) (ended (map clause_entry cs) line ts) ∙ vars_past vars cs (entry line form.ending ∷ Later ts) ∙ vars_stay vars ts
+vars_stay vars (gste line name vertex reset es ∷ ts) = ap (vars_with vars) (ended (flat_map edge_entries es) line ts) ∙ vars_past_edges vars es (entry line form.ending ∷ Later ts) ∙ vars_stay vars ts
 
 vars_read : (vars : List (List ℕ)) (ts : List SaidTask) → vars_with [] (vars_entries vars ++ Later ts) ≡ vars
 vars_read [] ts = vars_stay [] ts
@@ -469,7 +466,7 @@ names_fine : (names : List (List ℕ)) (name : List ℕ) → list_any (bytes_eq 
 names_fine names name new few = rw new (let n = length-append names (name ∷ []) in rw (le_true (length (names ++ name ∷ [])) 256 (omega (arith, n, few))) refl)
 
 -- the end of a graph, and the later tasks
-behind_graph : (parse : Parse) (vars names : List (List ℕ)) (line : ℕ) (ts : List SaidTask) → ((vs : List (List ℕ)) (k : ℕ) → fault_from parse (context place.Ended vars names vs k) (Later ts) ≡ None) → (next : Place) (vs : List (List ℕ)) (k : ℕ) → holds_edges next ≡ true → fault_from parse (context next vars names vs k) (entry line form.End ∷ Later ts) ≡ None
+behind_graph : (parse : Parse) (vars names : List (List ℕ)) (line : ℕ) (ts : List SaidTask) → ((vs : List (List ℕ)) (k : ℕ) → fault_from parse (context place.Ended vars names vs k) (Later ts) ≡ None) → (next : Place) (vs : List (List ℕ)) (k : ℕ) → holds_edges next ≡ true → fault_from parse (context next vars names vs k) (entry line form.ending ∷ Later ts) ≡ None
 behind_graph parse vars names line ts clean place.Graph vs k h = clean vs k
 behind_graph parse vars names line ts clean place.Edge vs k h = clean vs k
 behind_graph parse vars names line ts clean place.Start vs k h = absurd (cc h)
@@ -482,8 +479,8 @@ tasks_clean parse at vars names vertices edges (ste line name reset cs ∷ ts) i
     let say = All-head (IsSayable vars) (ste line name reset cs) ts all in
     let fresh = first_new (list_any (bytes_eq name) names) name (first_double (names ++ name ∷ []) (map said_name ts)) new in
     let n = length-append names (name ∷ []) in
-    let behind = entry line form.End ∷ Later ts in
-    ap (λ k. fault_from parse (context at vars names vertices edges) (entry line (form.Ste name reset) ∷ k)) (ended (map clause_entry cs) line ts)
+    let behind = entry line form.ending ∷ Later ts in
+    ap (λ k. fault_from parse (context at vars names vertices edges) (entry line (form.ste name reset) ∷ k)) (ended (map clause_entry cs) line ts)
     ∙ ap (λ f. fault_or line f (fault_from parse (context place.Assertion vars (names ++ name ∷ []) vertices edges) (map clause_entry cs ++ behind))) (names_fine names name fresh.0 (omega (arith, few)))
     ∙ quints_clean parse (context place.Assertion vars (names ++ name ∷ []) vertices edges) cs behind is refl say
     ∙ tasks_clean parse place.Ended vars (names ++ name ∷ []) vertices edges ts is (All-tail (IsSayable vars) (ste line name reset cs) ts all) fresh.1 (omega (arith, n, few))
@@ -491,8 +488,8 @@ tasks_clean parse at vars names vertices edges (gste line name vertex reset es �
     let say = All-head (IsSayable vars) (gste line name vertex reset es) ts all in
     let fresh = first_new (list_any (bytes_eq name) names) name (first_double (names ++ name ∷ []) (map said_name ts)) new in
     let n = length-append names (name ∷ []) in
-    let behind = entry line form.End ∷ Later ts in
-    ap (λ k. fault_from parse (context at vars names vertices edges) (entry line (form.Gste name vertex reset) ∷ k)) (ended (flat_map edge_entries es) line ts)
+    let behind = entry line form.ending ∷ Later ts in
+    ap (λ k. fault_from parse (context at vars names vertices edges) (entry line (form.gste name vertex reset) ∷ k)) (ended (flat_map edge_entries es) line ts)
     ∙ ap (λ f. fault_or line f (fault_from parse (context place.Graph vars (names ++ name ∷ []) (vertex ∷ []) 0) (flat_map edge_entries es ++ behind))) (names_fine names name fresh.0 (omega (arith, few)))
     ∙ edges_clean parse place.Graph vars (names ++ name ∷ []) (vertex ∷ []) 0 es behind is refl say.0 (omega (arith, say.1)) say.2
     (behind_graph parse vars (names ++ name ∷ []) line ts (λ vs k. tasks_clean parse place.Ended vars (names ++ name ∷ []) vs k ts is (All-tail (IsSayable vars) (gste line name vertex reset es) ts all) fresh.1 (omega (arith, n, few))))

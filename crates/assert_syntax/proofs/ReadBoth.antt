@@ -25,6 +25,14 @@ read_by vars text (Err OutOfMemory) None exact cause s = tt
 pub read_as : (vars : List (List ℕ)) (text : List ℕ) (answer : Result Expr ExprFault) → ((d : Expression) → Spells d text → IsAnswer vars d answer) → HasCause vars text answer → (parse : Parse) → IsParse parse → IsRead vars (parse text) answer
 read_as vars text answer exact cause parse is = read_by vars text answer (parse text) exact cause (is text)
 
+-- what a text is read as for which memory is wanting
+no_memory_by : (vars : List (List ℕ)) (o : Option Expression) → IsRead vars o (Err OutOfMemory)
+no_memory_by vars None = tt
+no_memory_by vars (Some d) = tt
+
+pub no_memory : (vars : List (List ℕ)) (text : List ℕ) (parse : Parse) → IsRead vars (parse text) (Err OutOfMemory)
+no_memory vars text parse = no_memory_by vars (parse text)
+
 deep : (d : Expression) → 100 < nesting d → is_deep d ≡ true
 deep d h = grind (arith, h)
 

@@ -7,12 +7,11 @@ use Rattle.assert_syntax.specs.declared.draft.OpenTask.{OpenTask}
 use Rattle.assert_syntax.specs.declared.draft.OpenTask.TheVariants.{Closed, Ste, Gste}
 use Rattle.assert_syntax.specs.declared.fault.TaskFault.{TaskFault}
 use Rattle.assert_syntax.specs.declared.fault.TaskFault.TheVariants.{BadLine, TooDeep, DoubleName, UnknownVar, TooMany, NoTask, OutOfMemory}
-use Rattle.assert_syntax.specs.declared.form.Entry.{Entry}
-use Rattle.assert_syntax.specs.declared.form.Form.{Form}
 use Rattle.assert_syntax.specs.declared.form.LineFault.{LineFault}
 use Rattle.assert_syntax.specs.declared.form.LineFault.TheVariants.{Bad, Deep, Double, Unknown, Many}
 use Rattle.assert_syntax.specs.declared.tasks.RawTask.{RawTask}
 use Rattle.assert_syntax.specs.declared.tasks.RawTasks.{RawTasks}
+use Rattle.assert_syntax.specs.Forms.{Entry, Form, form_of}
 use Rattle.assert_syntax.specs.Answer.{entry_of, entries_of, IsAnswer}
 use Rattle.assert_syntax.specs.Parses.{Parse, IsParse}
 use Rattle.assert_syntax.specs.Places.{Context, context_behind, context_of, fault_or, first_fault, form_fault, line_fault, may_stand}
@@ -30,6 +29,13 @@ all_gone (x ∷ xs) = all_gone xs
 
 none_left : {A : Type 0} (xs : List A) (k : ℕ) → k ≡ length xs → drop k xs ≡ []
 none_left xs k same = rw same (all_gone xs)
+
+-- a line by its number and the form of its words
+pub by_form : (line : Line) (form : Form) → form ≡ form_of line.words → record { line = line.number; form = form } ≡ entry_of line
+by_form line form e = ap (λ f. with_form f) e
+  where
+    with_form : Form → Entry
+    with_form f = record { line = line.number; form = f }
 
 -- what is still to come decides the first fault, the variables and the tasks
 abbrev pub Decide : Parse → Context → Draft → List Line → List Line → Type 0
@@ -149,5 +155,5 @@ pub caused : (all : List Entry) (answer : Result RawTasks TaskFault) → ((parse
 caused all answer exact = (a_parse.0, a_parse.1, exact a_parse.0 a_parse.1)
 
 -- a line by its form
-pub at_form : (parse : Parse) (old new : Context) (before after : Draft) (entry : Entry) (form : Form) (answer : Result (Unit {0}) TaskFault) → entry.form ≡ form → IsStep parse old new before after (record { line = entry.line; form = form }) answer → IsStep parse old new before after entry answer
-at_form parse old new before after entry form answer e step = subst (λ f. IsStep parse old new before after (record { line = entry.line; form = f }) answer) (sym e) step
+pub at_form : (parse : Parse) (old new : Context) (before after : Draft) (line : ℕ) (form one : Form) (answer : Result (Unit {0}) TaskFault) → form ≡ one → IsStep parse old new before after (record { line = line; form = one }) answer → IsStep parse old new before after (record { line = line; form = form }) answer
+at_form parse old new before after line form one answer e step = subst (λ f. IsStep parse old new before after (record { line = line; form = f }) answer) (sym e) step

@@ -3,10 +3,9 @@ use Rattle.std.specs.Prelude.{◌≡◌, ◌≢◌, [], List, map, Some, None, R
 use Rattle.blif_lines.specs.declared.lines.Line.{Line}
 use Rattle.assert_syntax.specs.declared.fault.TaskFault.{TaskFault}
 use Rattle.assert_syntax.specs.declared.fault.TaskFault.TheVariants.{BadLine, TooDeep, DoubleName, UnknownVar, TooMany, NoTask, OutOfMemory}
-use Rattle.assert_syntax.specs.declared.form.Entry.{Entry}
 use Rattle.assert_syntax.specs.declared.form.LineFault.TheVariants.{Bad, Deep, Double, Unknown, Many}
 use Rattle.assert_syntax.specs.declared.tasks.RawTasks.{RawTasks}
-use Rattle.assert_syntax.specs.Forms.{form_of}
+use Rattle.assert_syntax.specs.Forms.{Entry, form_of}
 use Rattle.assert_syntax.specs.Parses.{Parse}
 use Rattle.assert_syntax.specs.Places.{first_fault}
 use Rattle.assert_syntax.specs.Spelled.{task_tree, tasks_of, vars_with}

@@ -1,9 +1,7 @@
 -- Meaning. What the words of a task line spell, wherever the line stands. The rules are this project's own choice.
-use Rattle.std.specs.Prelude.{ℕ, ◌∷◌, [], List, length, take, drop, true, false, Option, Some, None, unwrap_or, if◌then◌else◌, nat_le, bytes_eq, codes}
+use Rattle.std.specs.Prelude.{ℕ, ◌∷◌, [], List, length, take, drop, Bool, true, false, Option, Some, None, unwrap_or, if◌then◌else◌, nat_le, bytes_eq, codes}
 use Rattle.std.specs.List.{list_all, position}
 use Rattle.blif_lines.specs.Laws.{spaced}
-use Rattle.assert_syntax.specs.declared.form.Form.{Form}
-use Rattle.assert_syntax.specs.declared.form.Form.TheVariants.{Vars, Ste, Gste, Edge, Clause, End, Wrong}
 use Rattle.assert_syntax.specs.declared.form.Moment.{Moment}
 use Rattle.assert_syntax.specs.declared.form.Moment.TheVariants as moment
 use Rattle.assert_syntax.specs.declared.form.Side.{Side}
@@ -12,32 +10,62 @@ use Rattle.assert_syntax.specs.declared.form.Span.{Span}
 use Rattle.assert_syntax.specs.declared.form.Span.TheVariants.{Absent, During, Late}
 use Rattle.assert_syntax.specs.Words.{ends_expression, is_variable, moment_of}
 
+-- a line of an antecedent or of a consequent: the texts of its value and of its guard, which may be no expressions
+pub record Clause : Type 0 where
+  pub side : Side
+  pub node : List ℕ
+  pub value : List ℕ
+  pub guard : List ℕ
+  pub span : Span
+
+-- what the words of a line spell, wherever the line stands
+pub data Form : Type 0 where
+  -- it declares these variables
+  vars : List (List ℕ) → Form
+  -- it starts an assertion: name and reset
+  ste : List ℕ → Bool → Form
+  -- it starts a graph: name, initial vertex and reset
+  gste : List ℕ → List ℕ → Bool → Form
+  -- it starts an edge between two vertices
+  edge : List ℕ → List ℕ → Form
+  -- it is a line of an antecedent or of a consequent
+  clause : Clause → Form
+  -- it ends a task
+  ending : Form
+  -- it may stand nowhere
+  wrong : Form
+
+-- a line's number and its form
+pub record Entry : Type 0 where
+  pub line : ℕ
+  pub form : Form
+
 -- what the words behind `.vars` spell: one or more variables
 abbrev pub vars_of : List (List ℕ) → Form
-vars_of [] = Wrong
-vars_of (word ∷ words) = if list_all is_variable (word ∷ words) then Vars (word ∷ words) else Wrong
+vars_of [] = wrong
+vars_of (word ∷ words) = if list_all is_variable (word ∷ words) then vars (word ∷ words) else wrong
 
 -- what the words behind `.ste` spell: a name, and perhaps `reset`
 abbrev pub ste_of : List (List ℕ) → Form
-ste_of (name ∷ []) = Ste name false
-ste_of (name ∷ reset ∷ []) = if bytes_eq reset (codes "reset") then Ste name true else Wrong
-ste_of other = Wrong
+ste_of (name ∷ []) = ste name false
+ste_of (name ∷ reset ∷ []) = if bytes_eq reset (codes "reset") then ste name true else wrong
+ste_of other = wrong
 
 -- what the words behind `.gste` spell: a name, the initial vertex, and perhaps `reset`
 abbrev pub gste_of : List (List ℕ) → Form
-gste_of (name ∷ vertex ∷ []) = Gste name vertex false
-gste_of (name ∷ vertex ∷ reset ∷ []) = if bytes_eq reset (codes "reset") then Gste name vertex true else Wrong
-gste_of other = Wrong
+gste_of (name ∷ vertex ∷ []) = gste name vertex false
+gste_of (name ∷ vertex ∷ reset ∷ []) = if bytes_eq reset (codes "reset") then gste name vertex true else wrong
+gste_of other = wrong
 
 -- what the words behind `.edge` spell
 abbrev pub edge_of : List (List ℕ) → Form
-edge_of (from ∷ to ∷ []) = Edge from to
-edge_of other = Wrong
+edge_of (from ∷ to ∷ []) = edge from to
+edge_of other = wrong
 
 -- what the words behind `.end` spell
 abbrev pub end_of : List (List ℕ) → Form
-end_of [] = End
-end_of other = Wrong
+end_of [] = ending
+end_of other = wrong
 
 -- the times from one moment to another: the first is not above the second, unless one of them is late
 abbrev pub span_between : Moment → Moment → Option Span
@@ -60,9 +88,9 @@ expression_length words = unwrap_or (position ends_expression words) (length wor
 
 -- a clause, where its line ends in times that have their form
 abbrev pub clause_with : Side → List ℕ → List ℕ → List ℕ → Option Span → Form
-clause_with side node value guard None = Wrong
+clause_with side node value guard None = wrong
 clause_with side node value guard (Some span) =
-    Clause (record { side = side; node = node; value = value; guard = guard; span = span })
+    clause (record { side = side; node = node; value = value; guard = guard; span = span })
 
 -- a clause with a guard, by the words behind `when`
 abbrev pub guarded : Side → List ℕ → List ℕ → List (List ℕ) → Form
@@ -82,12 +110,12 @@ valued side node value (word ∷ words) =
 abbrev pub clause_of : Side → List (List ℕ) → Form
 clause_of side (node ∷ equals ∷ words) =
     let size = expression_length words in
-    if bytes_eq equals (codes "=") then valued side node (spaced (take size words)) (drop size words) else Wrong
-clause_of side other = Wrong
+    if bytes_eq equals (codes "=") then valued side node (spaced (take size words)) (drop size words) else wrong
+clause_of side other = wrong
 
 -- the form of a line by its words
 abbrev pub form_of : List (List ℕ) → Form
-form_of [] = Wrong
+form_of [] = wrong
 form_of (first ∷ words) =
     if bytes_eq first (codes ".vars") then vars_of words
     else if bytes_eq first (codes ".ste") then ste_of words
@@ -96,4 +124,4 @@ form_of (first ∷ words) =
     else if bytes_eq first (codes ".ant") then clause_of Antecedent words
     else if bytes_eq first (codes ".con") then clause_of Consequent words
     else if bytes_eq first (codes ".end") then end_of words
-    else Wrong
+    else wrong

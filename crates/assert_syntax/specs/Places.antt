@@ -5,15 +5,14 @@ use Rattle.std.specs.List.{list_any}
 use Rattle.indexmap.specs.IndexSet.{insert_all}
 use Rattle.bool_expr.specs.Grammar.{Expression, spelling}
 use Rattle.bool_expr.specs.Read.{first_unknown, number_in}
-use Rattle.assert_syntax.specs.declared.form.Entry.{Entry}
-use Rattle.assert_syntax.specs.declared.form.Form.{Form}
-use Rattle.assert_syntax.specs.declared.form.Form.TheVariants as form
 use Rattle.assert_syntax.specs.declared.form.LineFault.{LineFault}
 use Rattle.assert_syntax.specs.declared.form.LineFault.TheVariants.{Bad, Deep, Double, Unknown, Many}
 use Rattle.assert_syntax.specs.declared.form.Span.{Span}
 use Rattle.assert_syntax.specs.declared.form.Span.TheVariants as span
 use Rattle.assert_syntax.specs.declared.place.Place.{Place}
 use Rattle.assert_syntax.specs.declared.place.Place.TheVariants.{Start, Assertion, Graph, Edge, Ended}
+use Rattle.assert_syntax.specs.Forms.{Entry, Form}
+use Rattle.assert_syntax.specs.Forms as form
 use Rattle.assert_syntax.specs.Parses.{Parse, is_deep}
 
 -- no task stands before this place
@@ -42,43 +41,43 @@ span_fits times other = false
 
 -- a line of this form may stand here
 abbrev pub may_stand : Form → Place → Bool
-may_stand (form.Vars names) place = is_start place
-may_stand (form.Ste name reset) place = true
-may_stand (form.Gste name vertex reset) place = true
-may_stand (form.Edge from to) place = holds_edges place
-may_stand (form.Clause clause) place = span_fits clause.span place
-may_stand form.End place = is_inside place
-may_stand form.Wrong place = false
+may_stand (form.vars names) place = is_start place
+may_stand (form.ste name reset) place = true
+may_stand (form.gste name vertex reset) place = true
+may_stand (form.edge from to) place = holds_edges place
+may_stand (form.clause clause) place = span_fits clause.span place
+may_stand form.ending place = is_inside place
+may_stand form.wrong place = false
 
 -- the place behind a line of this form
 abbrev pub place_behind : Form → Place → Place
-place_behind (form.Ste name reset) place = Assertion
-place_behind (form.Gste name vertex reset) place = Graph
-place_behind (form.Edge from to) place = Edge
-place_behind form.End place = Ended
+place_behind (form.ste name reset) place = Assertion
+place_behind (form.gste name vertex reset) place = Graph
+place_behind (form.edge from to) place = Edge
+place_behind form.ending place = Ended
 place_behind other place = place
 
 -- the variables that are declared behind a line of this form
 abbrev pub vars_behind : Form → List (List ℕ) → List (List ℕ)
-vars_behind (form.Vars names) vars = vars ++ names
+vars_behind (form.vars names) vars = vars ++ names
 vars_behind other vars = vars
 
 -- the names of the tasks that are started behind a line of this form
 abbrev pub names_behind : Form → List (List ℕ) → List (List ℕ)
-names_behind (form.Ste name reset) names = names ++ name ∷ []
-names_behind (form.Gste name vertex reset) names = names ++ name ∷ []
+names_behind (form.ste name reset) names = names ++ name ∷ []
+names_behind (form.gste name vertex reset) names = names ++ name ∷ []
 names_behind other names = names
 
 -- the vertices of the last graph behind a line of this form, in the order of first mention
 abbrev pub vertices_behind : Form → List (List ℕ) → List (List ℕ)
-vertices_behind (form.Gste name vertex reset) vertices = vertex ∷ []
-vertices_behind (form.Edge from to) vertices = insert_all bytes_eq vertices (from ∷ to ∷ [])
+vertices_behind (form.gste name vertex reset) vertices = vertex ∷ []
+vertices_behind (form.edge from to) vertices = insert_all bytes_eq vertices (from ∷ to ∷ [])
 vertices_behind other vertices = vertices
 
 -- the number of edges of the last graph behind a line of this form
 abbrev pub edges_behind : Form → ℕ → ℕ
-edges_behind (form.Gste name vertex reset) edges = 0
-edges_behind (form.Edge from to) edges = suc edges
+edges_behind (form.gste name vertex reset) edges = 0
+edges_behind (form.edge from to) edges = suc edges
 edges_behind other edges = edges
 
 -- what the lines before a line say of it
@@ -144,15 +143,15 @@ clause_fault vars (Some value) (Some guard) times =
 
 -- what is wrong with a line of this form that may stand where it does
 abbrev pub form_fault : Parse → Context → Form → Option LineFault
-form_fault parse context (form.Vars names) =
-    names_fault 1000 (first_double context.vars names) (vars_behind (form.Vars names) context.vars)
-form_fault parse context (form.Ste name reset) =
-    names_fault 256 (first_double context.names (name ∷ [])) (names_behind (form.Ste name reset) context.names)
-form_fault parse context (form.Gste name vertex reset) =
-    names_fault 256 (first_double context.names (name ∷ [])) (names_behind (form.Gste name vertex reset) context.names)
-form_fault parse context (form.Edge from to) =
-    graph_fault (vertices_behind (form.Edge from to) context.vertices) (suc context.edges)
-form_fault parse context (form.Clause clause) = clause_fault context.vars (parse clause.value) (parse clause.guard) clause.span
+form_fault parse context (form.vars names) =
+    names_fault 1000 (first_double context.vars names) (vars_behind (form.vars names) context.vars)
+form_fault parse context (form.ste name reset) =
+    names_fault 256 (first_double context.names (name ∷ [])) (names_behind (form.ste name reset) context.names)
+form_fault parse context (form.gste name vertex reset) =
+    names_fault 256 (first_double context.names (name ∷ [])) (names_behind (form.gste name vertex reset) context.names)
+form_fault parse context (form.edge from to) =
+    graph_fault (vertices_behind (form.edge from to) context.vertices) (suc context.edges)
+form_fault parse context (form.clause clause) = clause_fault context.vars (parse clause.value) (parse clause.guard) clause.span
 form_fault parse context other = None
 
 -- what is wrong with a line of this form

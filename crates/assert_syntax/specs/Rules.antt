@@ -6,15 +6,14 @@ use Rattle.indexmap.specs.IndexSet.{insert_all}
 use Rattle.bool_expr.specs.Grammar.{Expression, nesting}
 use Rattle.bool_expr.specs.Read.{Spells}
 use Rattle.bool_expr.specs.Tokens.{Token, tokens_of, variable}
-use Rattle.assert_syntax.specs.declared.form.Entry.{Entry}
-use Rattle.assert_syntax.specs.declared.form.Form.{Form}
-use Rattle.assert_syntax.specs.declared.form.Form.TheVariants as form
 use Rattle.assert_syntax.specs.declared.form.LineFault.{LineFault}
 use Rattle.assert_syntax.specs.declared.form.LineFault.TheVariants.{Bad, Deep, Double, Unknown, Many}
 use Rattle.assert_syntax.specs.declared.form.Span.{Span}
 use Rattle.assert_syntax.specs.declared.form.Span.TheVariants as span
 use Rattle.assert_syntax.specs.declared.place.Place.{Place}
 use Rattle.assert_syntax.specs.declared.place.Place.TheVariants.{Assertion, Graph, Edge, Ended}
+use Rattle.assert_syntax.specs.Forms.{Entry, Form}
+use Rattle.assert_syntax.specs.Forms as form
 use Rattle.assert_syntax.specs.Parses.{Parse, IsParse}
 use Rattle.assert_syntax.specs.Places.{first_fault}
 
@@ -28,10 +27,10 @@ HasForm lines k form = slice_get (forms_of lines) k ≡ Some form
 
 -- the place that a line of this form opens, where it opens one: it starts an assertion, a graph or an edge, or ends a task
 abbrev pub opens : Form → Option Place
-opens (form.Ste name reset) = Some Assertion
-opens (form.Gste name vertex reset) = Some Graph
-opens (form.Edge from to) = Some Edge
-opens form.End = Some Ended
+opens (form.ste name reset) = Some Assertion
+opens (form.gste name vertex reset) = Some Graph
+opens (form.edge from to) = Some Edge
+opens form.ending = Some Ended
 opens other = None
 
 -- no line before place i opens a place
@@ -55,17 +54,17 @@ ClauseStands lines i times = IsBehind lines i Assertion
 -- A line of this form may stand at place i: `.vars` before the first task, `.ste` and `.gste` anywhere, `.edge` in a graph,
 -- `.end` in a task.
 abbrev pub Stands : List Entry → ℕ → Form → Type 0
-Stands lines i (form.Vars names) = IsFirst lines i
-Stands lines i (form.Ste name reset) = Unit {0}
-Stands lines i (form.Gste name vertex reset) = Unit {0}
-Stands lines i (form.Edge from to) = IsBehind lines i Graph ⊎ IsBehind lines i Edge
-Stands lines i (form.Clause clause) = ClauseStands lines i clause.span
-Stands lines i form.End = IsBehind lines i Assertion ⊎ (IsBehind lines i Graph ⊎ IsBehind lines i Edge)
-Stands lines i form.Wrong = ⊥
+Stands lines i (form.vars names) = IsFirst lines i
+Stands lines i (form.ste name reset) = Unit {0}
+Stands lines i (form.gste name vertex reset) = Unit {0}
+Stands lines i (form.edge from to) = IsBehind lines i Graph ⊎ IsBehind lines i Edge
+Stands lines i (form.clause clause) = ClauseStands lines i clause.span
+Stands lines i form.ending = IsBehind lines i Assertion ⊎ (IsBehind lines i Graph ⊎ IsBehind lines i Edge)
+Stands lines i form.wrong = ⊥
 
 -- the variables that a line declares, and those of the lines before place i
 abbrev pub declares : Form → List (List ℕ)
-declares (form.Vars names) = names
+declares (form.vars names) = names
 declares other = []
 
 abbrev pub declared : List Entry → ℕ → List (List ℕ)
@@ -73,8 +72,8 @@ declared lines i = flat_map declares (take i (forms_of lines))
 
 -- the task that a line names, and those of the lines before place i
 abbrev pub names_task : Form → List (List ℕ)
-names_task (form.Ste name reset) = name ∷ []
-names_task (form.Gste name vertex reset) = name ∷ []
+names_task (form.ste name reset) = name ∷ []
+names_task (form.gste name vertex reset) = name ∷ []
 names_task other = []
 
 abbrev pub tasks_named : List Entry → ℕ → List (List ℕ)
@@ -98,12 +97,12 @@ pub record IsFirstUndeclared (names : List (List ℕ)) (tokens : List Token) (wo
 
 -- the vertices that a line mentions, and the number of edges that it starts
 abbrev pub mentions : Form → List (List ℕ)
-mentions (form.Gste name vertex reset) = vertex ∷ []
-mentions (form.Edge from to) = from ∷ to ∷ []
+mentions (form.gste name vertex reset) = vertex ∷ []
+mentions (form.edge from to) = from ∷ to ∷ []
 mentions other = []
 
 abbrev pub starts_edge : Form → Bool
-starts_edge (form.Edge from to) = true
+starts_edge (form.edge from to) = true
 starts_edge other = false
 
 -- the nearest line before place i that starts a graph stands at this place
@@ -135,7 +134,7 @@ SpellsDeep text = (d : Expression) × Spells d text × (100 < nesting d)
 
 -- a line of this form at place i is bad: it may not stand there, or has a text for an expression that spells none
 abbrev pub HasNoExpression : Form → Type 0
-HasNoExpression (form.Clause clause) = SpellsNone clause.value ⊎ SpellsNone clause.guard
+HasNoExpression (form.clause clause) = SpellsNone clause.value ⊎ SpellsNone clause.guard
 HasNoExpression other = ⊥
 
 abbrev pub IsBad : List Entry → ℕ → Form → Type 0
@@ -143,28 +142,28 @@ IsBad lines i form = (¬ Stands lines i form) ⊎ HasNoExpression form
 
 -- it has an expression that is nested above 100
 abbrev pub IsDeep : Form → Type 0
-IsDeep (form.Clause clause) = SpellsDeep clause.value ⊎ SpellsDeep clause.guard
+IsDeep (form.clause clause) = SpellsDeep clause.value ⊎ SpellsDeep clause.guard
 IsDeep other = ⊥
 
 -- it declares a variable, or names a task, a second time: the first such name
 abbrev pub IsDouble : List Entry → ℕ → Form → List ℕ → Type 0
-IsDouble lines i (form.Vars names) word = IsFirstDouble (declared lines i) names word
-IsDouble lines i (form.Ste name reset) word = IsFirstDouble (tasks_named lines i) (name ∷ []) word
-IsDouble lines i (form.Gste name vertex reset) word = IsFirstDouble (tasks_named lines i) (name ∷ []) word
+IsDouble lines i (form.vars names) word = IsFirstDouble (declared lines i) names word
+IsDouble lines i (form.ste name reset) word = IsFirstDouble (tasks_named lines i) (name ∷ []) word
+IsDouble lines i (form.gste name vertex reset) word = IsFirstDouble (tasks_named lines i) (name ∷ []) word
 IsDouble lines i other word = ⊥
 
 -- its expressions use a variable that is not declared before it: the first such, first in the value and then in the guard
 abbrev pub IsUnknown : List Entry → ℕ → Form → List ℕ → Type 0
-IsUnknown lines i (form.Clause clause) word = IsFirstUndeclared (declared lines i) (tokens_of clause.value ++ tokens_of clause.guard) word
+IsUnknown lines i (form.clause clause) word = IsFirstUndeclared (declared lines i) (tokens_of clause.value ++ tokens_of clause.guard) word
 IsUnknown lines i other word = ⊥
 
 -- with it there are too many of something, or one of its times is above 10,000
 abbrev pub IsMany : List Entry → ℕ → Form → Type 0
-IsMany lines i (form.Vars names) = 1000 < length (declared lines (suc i))
-IsMany lines i (form.Ste name reset) = 256 < length (tasks_named lines (suc i))
-IsMany lines i (form.Gste name vertex reset) = 256 < length (tasks_named lines (suc i))
-IsMany lines i (form.Edge from to) = IsLargeGraph lines i
-IsMany lines i (form.Clause clause) = IsLate clause.span
+IsMany lines i (form.vars names) = 1000 < length (declared lines (suc i))
+IsMany lines i (form.ste name reset) = 256 < length (tasks_named lines (suc i))
+IsMany lines i (form.gste name vertex reset) = 256 < length (tasks_named lines (suc i))
+IsMany lines i (form.edge from to) = IsLargeGraph lines i
+IsMany lines i (form.clause clause) = IsLate clause.span
 IsMany lines i other = ⊥
 
 -- this is wrong with a line of this form at place i

@@ -2,10 +2,6 @@
 use Rattle.std.specs.Prelude.{ℕ, ◌∷◌, [], List, length, map, Bool, true, false, if◌then◌else◌, unwrap_or, bytes_eq}
 use Rattle.std.specs.List.{position}
 use Rattle.bool_expr.specs.Tree.{Tree, tree_of}
-use Rattle.assert_syntax.specs.declared.form.Clause.{Clause}
-use Rattle.assert_syntax.specs.declared.form.Entry.{Entry}
-use Rattle.assert_syntax.specs.declared.form.Form.{Form}
-use Rattle.assert_syntax.specs.declared.form.Form.TheVariants as form
 use Rattle.assert_syntax.specs.declared.form.Side.{Side}
 use Rattle.assert_syntax.specs.declared.form.Side.TheVariants.{Antecedent, Consequent}
 use Rattle.assert_syntax.specs.declared.form.Span.{Span}
@@ -15,6 +11,8 @@ use Rattle.assert_syntax.specs.declared.tasks.RawEdge.{RawEdge}
 use Rattle.assert_syntax.specs.declared.tasks.RawQuint.{RawQuint}
 use Rattle.assert_syntax.specs.declared.tasks.RawTask.{RawTask}
 use Rattle.assert_syntax.specs.declared.tasks.RawTask.TheVariants.{Ste, Gste}
+use Rattle.assert_syntax.specs.Forms.{Clause, Entry, Form}
+use Rattle.assert_syntax.specs.Forms as form
 use Rattle.assert_syntax.specs.Parses.{Parse, tree_over}
 use Rattle.assert_syntax.specs.Places.{vars_behind, vertices_behind}
 
@@ -100,10 +98,10 @@ is_side other side = false
 
 -- the quintuples of one side up to the next line that starts a task
 abbrev pub quints_with : Parse → Side → List (List ℕ) → ℕ → Form → List QuintTree → List QuintTree
-quints_with parse side vars line (form.Clause clause) later =
+quints_with parse side vars line (form.clause clause) later =
     if is_side side clause.side then quint_said parse vars line clause ∷ later else later
-quints_with parse side vars line (form.Ste name reset) later = []
-quints_with parse side vars line (form.Gste name vertex reset) later = []
+quints_with parse side vars line (form.ste name reset) later = []
+quints_with parse side vars line (form.gste name vertex reset) later = []
 quints_with parse side vars line other later = later
 
 abbrev pub quints_of : Parse → Side → List (List ℕ) → List Entry → List QuintTree
@@ -113,11 +111,11 @@ quints_of parse side vars (line ∷ lines) =
 
 -- the bindings of one side up to the next line that starts an edge or a task
 abbrev pub binds_with : Parse → Side → List (List ℕ) → ℕ → Form → List BindTree → List BindTree
-binds_with parse side vars line (form.Clause clause) later =
+binds_with parse side vars line (form.clause clause) later =
     if is_side side clause.side then bind_said parse vars line clause ∷ later else later
-binds_with parse side vars line (form.Edge from to) later = []
-binds_with parse side vars line (form.Ste name reset) later = []
-binds_with parse side vars line (form.Gste name vertex reset) later = []
+binds_with parse side vars line (form.edge from to) later = []
+binds_with parse side vars line (form.ste name reset) later = []
+binds_with parse side vars line (form.gste name vertex reset) later = []
 binds_with parse side vars line other later = later
 
 abbrev pub binds_of : Parse → Side → List (List ℕ) → List Entry → List BindTree
@@ -131,8 +129,8 @@ vertex_number vertices word = unwrap_or (position (bytes_eq word) vertices) (len
 
 -- the vertices with those that are mentioned up to the next line that starts a task
 abbrev pub vertices_with : Form → List (List ℕ) → List (List ℕ) → List (List ℕ)
-vertices_with (form.Ste name reset) vertices later = vertices
-vertices_with (form.Gste name vertex reset) vertices later = vertices
+vertices_with (form.ste name reset) vertices later = vertices
+vertices_with (form.gste name vertex reset) vertices later = vertices
 vertices_with other vertices later = later
 
 abbrev pub vertices_of : List (List ℕ) → List Entry → List (List ℕ)
@@ -151,10 +149,10 @@ edge_said parse vars vertices line from to lines = record {
 
 -- the edges up to the next line that starts a task, behind these vertices
 abbrev pub edges_with : Parse → List (List ℕ) → List (List ℕ) → ℕ → Form → List Entry → List EdgeTree → List EdgeTree
-edges_with parse vars vertices line (form.Edge from to) lines later =
-    edge_said parse vars (vertices_behind (form.Edge from to) vertices) line from to lines ∷ later
-edges_with parse vars vertices line (form.Ste name reset) lines later = []
-edges_with parse vars vertices line (form.Gste name vertex reset) lines later = []
+edges_with parse vars vertices line (form.edge from to) lines later =
+    edge_said parse vars (vertices_behind (form.edge from to) vertices) line from to lines ∷ later
+edges_with parse vars vertices line (form.ste name reset) lines later = []
+edges_with parse vars vertices line (form.gste name vertex reset) lines later = []
 edges_with parse vars vertices line other lines later = later
 
 abbrev pub edges_of : Parse → List (List ℕ) → List (List ℕ) → List Entry → List EdgeTree
@@ -165,9 +163,9 @@ edges_of parse vars vertices (line ∷ lines) =
 
 -- a task for each line that starts one, behind lines that declare these variables
 abbrev pub tasks_with : Parse → List (List ℕ) → ℕ → Form → List Entry → List TaskTree → List TaskTree
-tasks_with parse vars line (form.Ste name reset) lines later =
+tasks_with parse vars line (form.ste name reset) lines later =
     assertion line name reset (quints_of parse Antecedent vars lines) (quints_of parse Consequent vars lines) ∷ later
-tasks_with parse vars line (form.Gste name vertex reset) lines later =
+tasks_with parse vars line (form.gste name vertex reset) lines later =
     graph line name reset (vertices_of (vertex ∷ []) lines) (edges_of parse vars (vertex ∷ []) lines) ∷ later
 tasks_with parse vars line other lines later = later
 

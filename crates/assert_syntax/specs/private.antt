@@ -1,3 +1,4 @@
 -- Definitions that serve private functions.
 pub mod Drafts
+pub mod Held
 pub mod Steps

@@ -1,11 +1,12 @@
 //! What the words of an `.ant` or `.con` line say; begin with `clause_of`.
 
-ghost use Rattle.std.specs.Prelude.{◌≡◌, IfOk, length, take, drop};
+ghost use Rattle.std.specs.Prelude.{◌≡◌, length, take, drop};
+ghost use Rattle.blif_lines.specs.Laws.{spaced};
 ghost use Rattle.assert_syntax.specs.Forms.{span_between, span_of, expression_length, clause_with, guarded, valued, clause_of};
+ghost use Rattle.assert_syntax.specs.private.Held.{guard_held, form_held};
 
-use crate::form::{Clause, Form, Moment, Side, Span};
-use crate::words::{expression_end, is, moment_of, spaced};
-use std::alloc::{AllocError, Global};
+use crate::form::{Clause, Form, Guard, Moment, Side, Span};
+use crate::words::{expression_end, is, moment_of};
 use ste_base::Name;
 
 /// The times from one moment to another.
@@ -59,70 +60,58 @@ fn parted(words: &[Name]) -> (&[Name], &[Name])
 }
 
 /// A clause, where its line ends in times that have their form.
-fn clause_with(
+fn clause_with<'a>(
     side: Side,
-    node: &Name,
-    value: Name,
-    guard: Name,
+    node: &'a Name,
+    value: &'a [Name],
+    guard: Guard<'a>,
     span: Option<Span>,
-) -> Result<Form, AllocError>
-    ensures { IfOk result (λ form. form ≡ clause_with side node.now value guard span) }
+) -> Form<'a>
+    ensures { form_held result
+        ≡ clause_with side node.now (spaced value.now) (guard_held guard.entry) span }
 {
     match span {
-        Some(span) => Ok(Form::Clause(Clause {
+        Some(span) => Form::Clause(Clause {
             side,
-            node: node.clone()?,
+            node,
             value,
             guard,
             span,
-        })),
-        None => Ok(Form::Wrong),
+        }),
+        None => Form::Wrong,
     }
 }
 
 /// A clause with a guard, by the words behind `when`.
-fn guarded(
-    alloc: Global,
-    side: Side,
-    node: &Name,
-    value: Name,
-    words: &[Name],
-) -> Result<Form, AllocError>
-    ensures { IfOk result (λ form. form ≡ guarded side node.now value words.now) }
+fn guarded<'a>(side: Side, node: &'a Name, value: &'a [Name], words: &'a [Name]) -> Form<'a>
+    ensures { form_held result ≡ guarded side node.now (spaced value.now) words.now }
 {
     let (guard, rest) = parted(words);
-    clause_with(side, node, value, spaced(alloc, guard)?, span_of(rest))
+    clause_with(side, node, value, Guard::Words(guard), span_of(rest))
 }
 
 /// A clause by the words behind its value.
-fn valued(
-    alloc: Global,
-    side: Side,
-    node: &Name,
-    value: Name,
-    words: &[Name],
-) -> Result<Form, AllocError>
-    ensures { IfOk result (λ form. form ≡ valued side node.now value words.now) }
+fn valued<'a>(side: Side, node: &'a Name, value: &'a [Name], words: &'a [Name]) -> Form<'a>
+    ensures { form_held result ≡ valued side node.now (spaced value.now) words.now }
 {
     if let Some((word, rest)) = words.split_first()
         && is(word.bytes(), "when")
     {
-        return guarded(alloc, side, node, value, rest);
+        return guarded(side, node, value, rest);
     }
-    let guard = Name::from_bytes(alloc, b"1")?;
-    clause_with(side, node, value, guard, span_of(words))
+    clause_with(side, node, value, Guard::Absent, span_of(words))
 }
 
 /// What the words behind `.ant` or `.con` spell.
-pub fn clause_of(alloc: Global, side: Side, words: &[Name]) -> Result<Form, AllocError>
-    ensures { IfOk result (λ form. form ≡ clause_of side words.now) }
+pub fn clause_of(side: Side, words: &[Name]) -> Form<'_>
+    ensures { form_held result ≡ clause_of side words.now }
 {
     let [node, equals, rest @ ..] = words else {
-        return Ok(Form::Wrong);
+        return Form::Wrong;
     };
     if !is(equals.bytes(), "=") {
-        return Ok(Form::Wrong);
+        return Form::Wrong;
     }
     let (value, behind) = parted(rest);
-    valued(alloc, side, node, spaced(alloc, value)?, behind)
+    valued(side, node, value, behind)
 }

@@ -1,8 +1,9 @@
 //! The tasks that are read so far; begin with `Draft`.
 
-ghost use Rattle.std.specs.Prelude.{◌≡◌, OnOk};
+ghost use Rattle.std.specs.Prelude.{◌≡◌, IfOk, OnOk};
 ghost use Rattle.assert_syntax.specs.Spelled.{from_of, to_of};
 ghost use Rattle.assert_syntax.specs.private.Drafts.{side_added, edge_with, clause_added, edges_closed, edge_added, tasks_closed, quint_of, bind_of};
+ghost use Rattle.assert_syntax.specs.private.Held.{clause_held};
 
 use crate::form::{Clause, Side, Span};
 use crate::tasks::{RawBind, RawEdge, RawQuint, RawTask};
@@ -77,29 +78,29 @@ fn to_of(span: Span) -> Time
 }
 
 /// The quintuple of a line.
-fn quint_of(line: u32, clause: Clause, value: Expr, guard: Expr) -> RawQuint
-    ensures { result ≡ quint_of line clause value guard }
+fn quint_of(line: u32, clause: &Clause, value: Expr, guard: Expr) -> Result<RawQuint, AllocError>
+    ensures { IfOk result (λ quint. quint ≡ quint_of line (clause_held clause.now) value guard) }
 {
-    RawQuint {
+    Ok(RawQuint {
         line,
         guard,
-        node: clause.node,
+        node: clause.node.clone()?,
         value,
         from: from_of(clause.span),
         to: to_of(clause.span),
-    }
+    })
 }
 
 /// The binding of a line.
-fn bind_of(line: u32, clause: Clause, value: Expr, guard: Expr) -> RawBind
-    ensures { result ≡ bind_of line clause value guard }
+fn bind_of(line: u32, clause: &Clause, value: Expr, guard: Expr) -> Result<RawBind, AllocError>
+    ensures { IfOk result (λ bind. bind ≡ bind_of line (clause_held clause.now) value guard) }
 {
-    RawBind {
+    Ok(RawBind {
         line,
         guard,
-        node: clause.node,
+        node: clause.node.clone()?,
         value,
-    }
+    })
 }
 
 /// Adds a clause to the edge.
@@ -116,19 +117,22 @@ fn edge_with(edge: &mut Option<RawEdge>, side: Side, bind: RawBind) -> Result<()
 pub fn clause_added(
     task: &mut OpenTask,
     line: u32,
-    clause: Clause,
+    clause: &Clause,
     value: Expr,
     guard: Expr,
 ) -> Result<(), AllocError>
-    ensures { OnOk result (task.new ≡ clause_added task.old line clause value guard) }
+    ensures { OnOk result (task.new
+        ≡ clause_added task.old line (clause_held clause.now) value guard) }
 {
     let side = clause.side;
     match task {
         OpenTask::Closed => Ok(()),
         OpenTask::Ste { ant, con, .. } => {
-            side_added(side, ant, con, quint_of(line, clause, value, guard))
+            side_added(side, ant, con, quint_of(line, clause, value, guard)?)
         }
-        OpenTask::Gste { edge, .. } => edge_with(edge, side, bind_of(line, clause, value, guard)),
+        OpenTask::Gste { edge, .. } => {
+            edge_with(edge, side, bind_of(line, clause, value, guard)?)
+        }
     }
 }
 

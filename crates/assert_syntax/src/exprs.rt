@@ -1,21 +1,49 @@
 //! The expressions of a clause; begin with `exprs_of`.
 
 ghost use Rattle.std.specs.Prelude.{◌≡◌, ◌<◌, ◌^◌, length};
+ghost use Rattle.blif_lines.specs.Laws.{spaced};
 ghost use Rattle.assert_syntax.specs.Parses.{Parse, IsParse};
 ghost use Rattle.assert_syntax.specs.private.Drafts.{IsRead, both_read, IsClauseRead};
+ghost use Rattle.assert_syntax.specs.private.Held.{guard_held, clause_held};
 
 use crate::fault::TaskFault;
-use crate::form::{Clause, Span};
+use crate::form::{Clause, Guard, Span};
+use crate::words::spaced;
 use bool_expr::{Expr, ExprFault, Variables, read_expr_over};
 use std::alloc::Global;
+use ste_base::Name;
 
 /// Reads the text of an expression over these variables.
 #[tactic(auto, using(crate::proofs::ReadBoth::read_as))]
-fn expr_of(alloc: Global, text: &[u8], vars: &Variables) -> Result<Expr, ExprFault>
+fn text_read(alloc: Global, text: &[u8], vars: &Variables) -> Result<Expr, ExprFault>
     requires { length vars.now < 2 ^ 32 }
     ensures { (parse : Parse) → IsParse parse → IsRead vars.now (parse text.now) result }
 {
     read_expr_over(alloc, text, vars)
+}
+
+/// Reads the expression of some words, whose text has a blank between two of them. One word is read where it lies.
+#[tactic(auto, using(crate::proofs::ReadBoth::no_memory))]
+fn words_read(alloc: Global, words: &[Name], vars: &Variables) -> Result<Expr, ExprFault>
+    requires { length vars.now < 2 ^ 32 }
+    ensures { (parse : Parse) → IsParse parse → IsRead vars.now (parse (spaced words.now)) result }
+{
+    if let [word] = words {
+        return text_read(alloc, word.bytes(), vars);
+    }
+    let text = spaced(alloc, words)?;
+    text_read(alloc, text.as_slice(), vars)
+}
+
+/// Reads a guard.
+fn guard_read(alloc: Global, guard: &Guard, vars: &Variables) -> Result<Expr, ExprFault>
+    requires { length vars.now < 2 ^ 32 }
+    ensures { (parse : Parse) → IsParse parse → IsRead vars.now (parse (guard_held guard.now)) result }
+{
+    match guard {
+        Guard::Absent => text_read(alloc, b"1", vars),
+        Guard::Words(words) => words_read(alloc, words, vars),
+    }
 }
 
 /// The expressions of a clause, or its fault, by what its value and its guard are read as.
@@ -52,10 +80,11 @@ pub fn exprs_of(
     clause: &Clause,
 ) -> Result<(Expr, Expr), TaskFault>
     requires { length vars.now < 2 ^ 32 }
-    ensures { (parse : Parse) → IsParse parse → IsClauseRead vars.now (parse clause.now.value)
-        (parse clause.now.guard) clause.now.span line result }
+    ensures { (parse : Parse) → IsParse parse →
+        IsClauseRead vars.now (parse (clause_held clause.now).value)
+        (parse (clause_held clause.now).guard) clause.now.span line result }
 {
-    let value = expr_of(alloc, clause.value.bytes(), vars);
-    let guard = expr_of(alloc, clause.guard.bytes(), vars);
+    let value = words_read(alloc, clause.value, vars);
+    let guard = guard_read(alloc, &clause.guard, vars);
     both_read(line, value, guard, clause.span)
 }

@@ -1,6 +1,6 @@
 //! The forms of task lines; begin with `Form`.
 
-use ste_base::{Items, Name, Time};
+use ste_base::{Name, Time};
 
 /// What is wrong with a faulty line.
 #[derive(Debug, Drop)]
@@ -46,39 +46,40 @@ pub enum Span {
     Late,
 }
 
-/// A line of an antecedent or of a consequent: the texts of its value and of its guard, which may be no expressions.
-#[derive(Debug, Drop)]
-pub struct Clause {
+/// The guard of a clause.
+#[derive(Clone, Copy, Debug)]
+pub enum Guard<'a> {
+    /// There is none: it is 1.
+    Absent,
+    /// The words of its text, which may be no expression.
+    Words(&'a [Name]),
+}
+
+/// A line of an antecedent or of a consequent, over the words of its line. The text of its value may be no expression.
+#[derive(Clone, Copy, Debug)]
+pub struct Clause<'a> {
     pub side: Side,
-    pub node: Name,
-    pub value: Name,
-    pub guard: Name,
+    pub node: &'a Name,
+    pub value: &'a [Name],
+    pub guard: Guard<'a>,
     pub span: Span,
 }
 
-/// What the words of a line spell, wherever the line stands.
-#[derive(Debug, Drop)]
-pub enum Form {
+/// What the words of a line spell, wherever the line stands, over these words.
+#[derive(Clone, Copy, Debug)]
+pub enum Form<'a> {
     /// A line that declares these variables.
-    Vars(Items<Name>),
+    Vars(&'a [Name]),
     /// A line that starts an assertion: its name, and whether latches begin with their initial values.
-    Ste(Name, bool),
+    Ste(&'a Name, bool),
     /// A line that starts a graph: its name, its initial vertex, and whether latches begin with their initial values.
-    Gste(Name, Name, bool),
+    Gste(&'a Name, &'a Name, bool),
     /// A line that starts an edge between two vertices.
-    Edge(Name, Name),
+    Edge(&'a Name, &'a Name),
     /// A line of an antecedent or of a consequent.
-    Clause(Clause),
+    Clause(Clause<'a>),
     /// A line that ends a task.
     End,
     /// A line that may stand nowhere.
     Wrong,
-}
-
-/// A line with its form.
-#[derive(Debug, Drop)]
-pub struct Entry {
-    /// The line's number, from 1.
-    pub line: u32,
-    pub form: Form,
 }

@@ -2,7 +2,7 @@
 
 ghost use Rattle.std.specs.Prelude.{◌≡◌, ◌≤◌, ◌<◌, ◌^◌, ◌++◌, ◌∷◌, [], suc, length, Bool, true, not, Some, None, OnOk, IfOk, IfErr, IfNone, bytes_eq};
 ghost use Rattle.std.specs.List.{list_any};
-ghost use Rattle.assert_syntax.specs.declared.form.Form.TheVariants as form;
+ghost use Rattle.assert_syntax.specs.Forms as form;
 ghost use Rattle.assert_syntax.specs.Places.{context_of, context_behind, first_double, names_fault, graph_fault, vertices_behind};
 ghost use Rattle.assert_syntax.specs.Spelled.{vertex_number};
 ghost use Rattle.assert_syntax.specs.private.Drafts.{context_held, IsFault};
@@ -93,7 +93,7 @@ impl Known {
     /// Behind a line that declares these variables.
     pub fn declare(&mut self, line: u32, names: &[Name]) -> Result<(), TaskFault>
         ensures context { OnOk result (context_held self.new
-            ≡ context_behind (context_held self.old) (form.Vars names.now)) }
+            ≡ context_behind (context_held self.old) (form.vars names.now)) }
         ensures sound { OnOk result (names_fault 1000 (first_double self.old.vars names.now)
             (self.old.vars ++ names.now) ≡ None) }
         ensures err { IfErr result (λ fault. IsFault line
@@ -139,7 +139,7 @@ impl Known {
     /// Behind a line that starts an assertion of this name.
     pub fn start_assertion(&mut self, line: u32, name: &Name, reset: bool) -> Result<(), TaskFault>
         ensures context { OnOk result (context_held self.new
-            ≡ context_behind (context_held self.old) (form.Ste name.now reset)) }
+            ≡ context_behind (context_held self.old) (form.ste name.now reset)) }
         ensures sound { OnOk result (names_fault 256
             (first_double self.old.names.keys (name.now ∷ []))
             (self.old.names.keys ++ name.now ∷ []) ≡ None) }
@@ -161,7 +161,7 @@ impl Known {
         reset: bool,
     ) -> Result<(), TaskFault>
         ensures context { OnOk result (context_held self.new
-            ≡ context_behind (context_held self.old) (form.Gste name.now vertex.now reset)) }
+            ≡ context_behind (context_held self.old) (form.gste name.now vertex.now reset)) }
         ensures sound { OnOk result (names_fault 256
             (first_double self.old.names.keys (name.now ∷ []))
             (self.old.names.keys ++ name.now ∷ []) ≡ None) }
@@ -182,15 +182,15 @@ impl Known {
     pub fn start_edge(&mut self, line: u32, from: Name, to: Name) -> Result<(u32, u32), TaskFault>
         requires room { self.old.edges ≤ 10000 }
         ensures context { OnOk result (context_held self.new
-            ≡ context_behind (context_held self.old) (form.Edge from to)) }
+            ≡ context_behind (context_held self.old) (form.edge from to)) }
         ensures ends { IfOk result (λ ends.
             (ends.0 ≡ vertex_number self.new.vertices.keys from)
             × (ends.1 ≡ vertex_number self.new.vertices.keys to)) }
         ensures sound { OnOk result (graph_fault
-            (vertices_behind (form.Edge from to) self.old.vertices.keys)
+            (vertices_behind (form.edge from to) self.old.vertices.keys)
             (suc self.old.edges) ≡ None) }
         ensures err { IfErr result (λ fault. IsFault line (graph_fault
-            (vertices_behind (form.Edge from to) self.old.vertices.keys)
+            (vertices_behind (form.edge from to) self.old.vertices.keys)
             (suc self.old.edges)) fault) }
     {
         let (from, _) = self.vertices.insert_full(from)?;

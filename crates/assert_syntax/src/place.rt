@@ -2,6 +2,7 @@
 
 ghost use Rattle.std.specs.Prelude.{◌≡◌};
 ghost use Rattle.assert_syntax.specs.Places.{is_inside, is_start, holds_edges, span_fits, may_stand};
+ghost use Rattle.assert_syntax.specs.private.Held.{form_held};
 
 use crate::form::{Form, Span};
 
@@ -64,7 +65,7 @@ fn span_fits(span: Span, place: Place) -> bool
 
 /// Whether a line of this form may stand here.
 pub(crate) fn may_stand(form: &Form, place: Place) -> bool
-    ensures { result ≡ may_stand form.now place }
+    ensures { result ≡ may_stand (form_held form.now) place }
 {
     match form {
         Form::Vars(_) => is_start(place),

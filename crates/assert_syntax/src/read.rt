@@ -1,17 +1,18 @@
 //! From lines to tasks; begin with `read_tasks`.
 
 ghost use Rattle.std.specs.Prelude.{◌≡◌};
-ghost use Rattle.assert_syntax.specs.declared.form.Form.TheVariants as form;
+ghost use Rattle.assert_syntax.specs.Forms as form;
 ghost use Rattle.assert_syntax.specs.Answer.{IsAnswer, entries_of};
 ghost use Rattle.assert_syntax.specs.Parses.{Parse, IsParse};
 ghost use Rattle.assert_syntax.specs.private.Drafts.{context_held, HasRoom};
+ghost use Rattle.assert_syntax.specs.private.Held.{clause_held, form_held};
 ghost use Rattle.assert_syntax.specs.private.Steps.{IsStep};
 
 use crate::draft::{Draft, OpenTask, clause_added, edge_added, tasks_closed};
 use crate::exprs::exprs_of;
 use crate::fault::TaskFault;
-use crate::form::{Clause, Entry, Form};
-use crate::forms::entry_of;
+use crate::form::{Clause, Form};
+use crate::forms::form_of;
 use crate::known::Known;
 use crate::place::{Place, may_stand};
 use crate::tasks::RawTasks;
@@ -26,17 +27,17 @@ fn assertion_read(
     known: &mut Known,
     draft: &mut Draft,
     line: u32,
-    name: Name,
+    name: &Name,
     reset: bool,
 ) -> Result<(), TaskFault>
     ensures { (parse : Parse) → IsParse parse → IsStep parse (context_held known.old)
         (context_held known.new) draft.old draft.new
-        (record { line = line; form = form.Ste name reset }) result }
+        (record { line = line; form = form.ste name.now reset }) result }
 {
-    known.start_assertion(line, &name, reset)?;
+    known.start_assertion(line, name, reset)?;
     let next = OpenTask::Ste {
         head: line,
-        name,
+        name: name.clone()?,
         reset,
         ant: Items::new(alloc),
         con: Items::new(alloc),
@@ -52,20 +53,20 @@ fn graph_read(
     known: &mut Known,
     draft: &mut Draft,
     line: u32,
-    name: Name,
+    name: &Name,
     vertex: &Name,
     reset: bool,
 ) -> Result<(), TaskFault>
     ensures { (parse : Parse) → IsParse parse → IsStep parse (context_held known.old)
         (context_held known.new) draft.old draft.new
-        (record { line = line; form = form.Gste name vertex.now reset }) result }
+        (record { line = line; form = form.gste name.now vertex.now reset }) result }
 {
     let task = replace(&mut draft.task, OpenTask::Closed);
     tasks_closed(alloc, &mut draft.tasks, task, known.vertices.as_slice())?;
-    known.start_graph(alloc, line, &name, vertex, reset)?;
+    known.start_graph(alloc, line, name, vertex, reset)?;
     draft.task = OpenTask::Gste {
         head: line,
-        name,
+        name: name.clone()?,
         reset,
         edges: Items::new(alloc),
         edge: None,
@@ -79,15 +80,15 @@ fn edge_read(
     known: &mut Known,
     draft: &mut Draft,
     line: u32,
-    from: Name,
-    to: Name,
+    from: &Name,
+    to: &Name,
 ) -> Result<(), TaskFault>
     requires room { HasRoom (context_held known.old) }
     ensures { (parse : Parse) → IsParse parse → IsStep parse (context_held known.old)
         (context_held known.new) draft.old draft.new
-        (record { line = line; form = form.Edge from to }) result }
+        (record { line = line; form = form.edge from.now to.now }) result }
 {
-    let (from, to) = known.start_edge(line, from, to)?;
+    let (from, to) = known.start_edge(line, from.clone()?, to.clone()?)?;
     edge_added(alloc, &mut draft.task, line, from, to)?;
     Ok(())
 }
@@ -98,14 +99,14 @@ fn clause_read(
     known: &Known,
     draft: &mut Draft,
     line: u32,
-    clause: Clause,
+    clause: &Clause,
 ) -> Result<(), TaskFault>
     requires room { HasRoom (context_held known.now) }
     ensures { (parse : Parse) → IsParse parse → IsStep parse (context_held known.now)
         (context_held known.now) draft.old draft.new
-        (record { line = line; form = form.Clause clause }) result }
+        (record { line = line; form = form.clause (clause_held clause.now) }) result }
 {
-    let (value, guard) = exprs_of(alloc, line, &known.vars, &clause)?;
+    let (value, guard) = exprs_of(alloc, line, &known.vars, clause)?;
     clause_added(&mut draft.task, line, clause, value, guard)?;
     Ok(())
 }
@@ -115,21 +116,22 @@ fn line_read(
     alloc: Global,
     known: &mut Known,
     draft: &mut Draft,
-    entry: Entry,
+    line: u32,
+    form: &Form,
 ) -> Result<(), TaskFault>
     requires room { HasRoom (context_held known.old) }
     ensures { (parse : Parse) → IsParse parse → IsStep parse (context_held known.old)
-        (context_held known.new) draft.old draft.new entry result }
+        (context_held known.new) draft.old draft.new
+        (record { line = line; form = form_held form.now }) result }
 {
-    let Entry { line, form } = entry;
     match form {
         Form::Vars(names) => {
-            known.declare(line, names.as_slice())?;
+            known.declare(line, names)?;
             Ok(())
         }
-        Form::Ste(name, reset) => assertion_read(alloc, known, draft, line, name, reset),
+        Form::Ste(name, reset) => assertion_read(alloc, known, draft, line, name, *reset),
         Form::Gste(name, vertex, reset) => {
-            graph_read(alloc, known, draft, line, name, &vertex, reset)
+            graph_read(alloc, known, draft, line, name, vertex, *reset)
         }
         Form::Edge(from, to) => edge_read(alloc, known, draft, line, from, to),
         Form::Clause(clause) => clause_read(alloc, known, draft, line, clause),
@@ -151,11 +153,11 @@ fn tasks_read(alloc: Global, lines: &[Line]) -> Result<RawTasks, TaskFault>
         task: OpenTask::Closed,
     };
     for line in lines {
-        let entry = entry_of(alloc, line)?;
-        if !may_stand(&entry.form, known.place) {
-            return Err(TaskFault::BadLine { line: entry.line });
+        let form = form_of(line.words.as_slice());
+        if !may_stand(&form, known.place) {
+            return Err(TaskFault::BadLine { line: line.number });
         }
-        match line_read(alloc, &mut known, &mut draft, entry) {
+        match line_read(alloc, &mut known, &mut draft, line.number, &form) {
             Ok(()) => {}
             Err(fault) => return Err(fault),
         }

@@ -102,20 +102,17 @@ fn add_word(text: &mut Vec<u8>, word: &[u8]) -> Result<(), AllocError>
     Ok(())
 }
 
-/// The words with a blank between. One word is copied as it is, which takes no memory up to 24 bytes.
+/// The words with a blank between.
 #[tactic(auto, using(crate::proofs::Texts::words_begin, crate::proofs::Texts::words_end, crate::proofs::Texts::word_turn))]
-pub fn spaced(alloc: Global, words: &[Name]) -> Result<Name, AllocError>
-    ensures { IfOk result (λ text. text ≡ spaced words.now) }
+pub fn spaced(alloc: Global, words: &[Name]) -> Result<Vec<u8>, AllocError>
+    ensures { IfOk result (λ text. text.items ≡ spaced words.now) }
 {
     let Some((first, rest)) = words.split_first() else {
-        return Name::from_bytes(alloc, b"");
+        return Ok(Vec::new(alloc));
     };
-    if rest.is_empty() {
-        return first.clone();
-    }
     let mut text = first.bytes().to_vec(alloc)?;
     for word in rest {
         add_word(&mut text, word.bytes())?;
     }
-    Name::from_bytes(alloc, text.as_slice())
+    Ok(text)
 }

@@ -14,12 +14,11 @@ use Rattle.bool_expr.specs.Read.{first_unknown, number_in, place_by}
 use Rattle.bool_expr.specs.Tokens.{Token, closing, sign}
 use Rattle.bool_expr.specs.Tree.{Tree, Trees, all_of, bit, chain, more, none, opposite, place, tree_of, tree_step, under}
 use Rattle.bool_expr.proofs.Places.{within_names}
+use Rattle.assert_syntax.specs.Forms.{Entry, Form}
+use Rattle.assert_syntax.specs.Forms as form
 use Rattle.assert_syntax.specs.Parses.{Parse, is_deep, tree_over}
 use Rattle.assert_syntax.specs.Places.{Context, clause_fault, context_of, fault_or, first_fault, form_fault, line_fault, may_stand, unknown_fault, vars_behind}
 use Rattle.assert_syntax.specs.Spelled as said
-use Rattle.assert_syntax.specs.declared.form.Entry.{Entry}
-use Rattle.assert_syntax.specs.declared.form.Form.{Form}
-use Rattle.assert_syntax.specs.declared.form.Form.TheVariants as form
 use Rattle.assert_syntax.specs.declared.form.LineFault.{LineFault}
 use Rattle.assert_syntax.specs.declared.form.LineFault.TheVariants.{Bad, Deep}
 use Rattle.assert_syntax.specs.declared.form.Side.{Side}
@@ -146,13 +145,13 @@ quint_reads vars quint = reads_tree vars quint.guard && reads_tree vars quint.va
 
 -- the variables behind some lines are no fewer than those before them
 pub behind_grows : (form : Form) (names : List (List ℕ)) → length names ≤ length (vars_behind form names)
-behind_grows (form.Vars others) names = let long = length-append names others in omega (arith, long)
-behind_grows (form.Ste name reset) names = omega arith
-behind_grows (form.Gste name vertex reset) names = omega arith
-behind_grows (form.Edge from to) names = omega arith
-behind_grows (form.Clause clause) names = omega arith
-behind_grows form.End names = omega arith
-behind_grows form.Wrong names = omega arith
+behind_grows (form.vars others) names = let long = length-append names others in omega (arith, long)
+behind_grows (form.ste name reset) names = omega arith
+behind_grows (form.gste name vertex reset) names = omega arith
+behind_grows (form.edge from to) names = omega arith
+behind_grows (form.clause clause) names = omega arith
+behind_grows form.ending names = omega arith
+behind_grows form.wrong names = omega arith
 
 pub vars_grow : (names : List (List ℕ)) (lines : List Entry) → length names ≤ length (said.vars_with names lines)
 vars_grow names [] = omega arith
@@ -168,16 +167,16 @@ with_clause vars false quint later h all = all
 
 with_line : (parse : Parse) (side : Side) (context : Context) (vars line : ℕ) (form : Form) (later : List said.QuintTree) → length context.vars ≤ vars → line_fault parse context form ≡ None → list_all (quint_reads vars) later ≡ true →
     list_all (quint_reads vars) (said.quints_with parse side context.vars line form later) ≡ true
-with_line parse side context vars line (form.Clause clause) later l e all =
-    let fine = else_none (may_stand (form.Clause clause) context.place) (form_fault parse context (form.Clause clause)) Bad e in
+with_line parse side context vars line (form.clause clause) later l e all =
+    let fine = else_none (may_stand (form.clause clause) context.place) (form_fault parse context (form.clause clause)) Bad e in
     with_clause vars (said.is_side side clause.side) (said.quint_said parse context.vars line clause) later
     (clause_reads context.vars vars (parse clause.value) (parse clause.guard) clause.span l fine) all
-with_line parse side context vars line (form.Vars names) later l e all = all
-with_line parse side context vars line (form.Ste name reset) later l e all = refl
-with_line parse side context vars line (form.Gste name vertex reset) later l e all = refl
-with_line parse side context vars line (form.Edge from to) later l e all = all
-with_line parse side context vars line form.End later l e all = all
-with_line parse side context vars line form.Wrong later l e all = all
+with_line parse side context vars line (form.vars names) later l e all = all
+with_line parse side context vars line (form.ste name reset) later l e all = refl
+with_line parse side context vars line (form.gste name vertex reset) later l e all = refl
+with_line parse side context vars line (form.edge from to) later l e all = all
+with_line parse side context vars line form.ending later l e all = all
+with_line parse side context vars line form.wrong later l e all = all
 
 pub quints_read : (parse : Parse) (side : Side) (vars : ℕ) (earlier lines : List Entry) → first_fault parse earlier lines ≡ None → length (said.vars_with (context_of earlier).vars lines) ≤ vars →
     list_all (quint_reads vars) (said.quints_of parse side (context_of earlier).vars lines) ≡ true

@@ -10,12 +10,11 @@ use Rattle.std.proofs.lemmas.List.{length-append}
 use Rattle.std.proofs.lemmas.List.Elements.{All-cons}
 use Rattle.std.proofs.lemmas.Slice.Eq.{bytes_eq-Decides}
 use Rattle.bool_expr.specs.Tree.{tree_of}
+use Rattle.assert_syntax.specs.Forms.{Entry, Form}
+use Rattle.assert_syntax.specs.Forms as form
 use Rattle.assert_syntax.specs.Parses.{Parse}
 use Rattle.assert_syntax.specs.Places.{Context, context_of, first_fault, form_fault, line_fault, may_stand, vars_behind, vertices_behind}
 use Rattle.assert_syntax.specs.Spelled as said
-use Rattle.assert_syntax.specs.declared.form.Entry.{Entry}
-use Rattle.assert_syntax.specs.declared.form.Form.{Form}
-use Rattle.assert_syntax.specs.declared.form.Form.TheVariants as form
 use Rattle.assert_syntax.specs.declared.form.LineFault.TheVariants.{Bad}
 use Rattle.assert_syntax.specs.declared.form.Side.{Side}
 use Rattle.assert_syntax.specs.declared.form.Side.TheVariants.{Antecedent, Consequent}
@@ -41,16 +40,16 @@ with_clause vars false bind later h all = all
 
 with_line : (parse : Parse) (side : Side) (context : Context) (vars line : ℕ) (form : Form) (later : List said.BindTree) → length context.vars ≤ vars → line_fault parse context form ≡ None → list_all (bind_reads vars) later ≡ true →
     list_all (bind_reads vars) (said.binds_with parse side context.vars line form later) ≡ true
-with_line parse side context vars line (form.Clause clause) later l e all =
-    let fine = else_none (may_stand (form.Clause clause) context.place) (form_fault parse context (form.Clause clause)) Bad e in
+with_line parse side context vars line (form.clause clause) later l e all =
+    let fine = else_none (may_stand (form.clause clause) context.place) (form_fault parse context (form.clause clause)) Bad e in
     with_clause vars (said.is_side side clause.side) (said.bind_said parse context.vars line clause) later
     (clause_reads context.vars vars (parse clause.value) (parse clause.guard) clause.span l fine) all
-with_line parse side context vars line (form.Vars names) later l e all = all
-with_line parse side context vars line (form.Ste name reset) later l e all = refl
-with_line parse side context vars line (form.Gste name vertex reset) later l e all = refl
-with_line parse side context vars line (form.Edge from to) later l e all = refl
-with_line parse side context vars line form.End later l e all = all
-with_line parse side context vars line form.Wrong later l e all = all
+with_line parse side context vars line (form.vars names) later l e all = all
+with_line parse side context vars line (form.ste name reset) later l e all = refl
+with_line parse side context vars line (form.gste name vertex reset) later l e all = refl
+with_line parse side context vars line (form.edge from to) later l e all = refl
+with_line parse side context vars line form.ending later l e all = all
+with_line parse side context vars line form.wrong later l e all = all
 
 pub binds_read : (parse : Parse) (side : Side) (vars : ℕ) (earlier lines : List Entry) → first_fault parse earlier lines ≡ None → ((names : List (List ℕ)) (rest : List Entry) → length names ≤ length (said.vars_with names rest)) →
     length (said.vars_with (context_of earlier).vars lines) ≤ vars → list_all (bind_reads vars) (said.binds_of parse side (context_of earlier).vars lines) ≡ true
@@ -127,16 +126,16 @@ number_within vertices word there =
 
 -- the vertices behind a line are no fewer
 behind_no_fewer : (form : Form) (vertices : List (List ℕ)) (grown : List (List ℕ)) → length (vertices_behind form vertices) ≤ length grown → length vertices ≤ length (said.vertices_with form vertices grown)
-behind_no_fewer (form.Ste name reset) vertices grown l = omega arith
-behind_no_fewer (form.Gste name vertex reset) vertices grown l = omega arith
-behind_no_fewer (form.Edge from to) vertices grown l =
+behind_no_fewer (form.ste name reset) vertices grown l = omega arith
+behind_no_fewer (form.gste name vertex reset) vertices grown l = omega arith
+behind_no_fewer (form.edge from to) vertices grown l =
     let one = inserted_long vertices from in
     let two = inserted_long (with_word vertices from) to in
     omega (arith, one, two, l)
-behind_no_fewer (form.Vars names) vertices grown l = l
-behind_no_fewer (form.Clause clause) vertices grown l = l
-behind_no_fewer form.End vertices grown l = l
-behind_no_fewer form.Wrong vertices grown l = l
+behind_no_fewer (form.vars names) vertices grown l = l
+behind_no_fewer (form.clause clause) vertices grown l = l
+behind_no_fewer form.ending vertices grown l = l
+behind_no_fewer form.wrong vertices grown l = l
 
 pub vertices_grow : (vertices : List (List ℕ)) (lines : List Entry) → length vertices ≤ length (said.vertices_of vertices lines)
 vertices_grow vertices [] = omega arith
@@ -151,9 +150,9 @@ edge_fits vars vertices edge =
     nat_lt edge.from vertices && (nat_lt edge.to vertices && (list_all (bind_reads vars) edge.ant && list_all (bind_reads vars) edge.con))
 
 new_edge : (parse : Parse) (names vertices : List (List ℕ)) (vars line : ℕ) (from to : List ℕ) (lines : List Entry) (count : ℕ) → ((side : Side) → list_all (bind_reads vars) (said.binds_of parse side names lines) ≡ true) →
-    length (vertices_behind (form.Edge from to) vertices) ≤ count → edge_fits vars count (said.edge_said parse names (vertices_behind (form.Edge from to) vertices) line from to lines) ≡ true
+    length (vertices_behind (form.edge from to) vertices) ≤ count → edge_fits vars count (said.edge_said parse names (vertices_behind (form.edge from to) vertices) line from to lines) ≡ true
 new_edge parse names vertices vars line from to lines count binds l =
-    let all = vertices_behind (form.Edge from to) vertices in
+    let all = vertices_behind (form.edge from to) vertices in
     let one : said.vertex_number all from < length all = number_within all from (inserted_stays (with_word vertices from) to from (inserted_there vertices from)) in
     let two : said.vertex_number all to < length all = number_within all to (inserted_there (with_word vertices from) to) in
     let ant = said.binds_of parse Antecedent names lines in
@@ -165,15 +164,15 @@ new_edge parse names vertices vars line from to lines count binds l =
 with_edge : (parse : Parse) (names vertices : List (List ℕ)) (vars line : ℕ) (form : Form) (lines : List Entry) (later : List said.EdgeTree) (grown : List (List ℕ)) → ((side : Side) → list_all (bind_reads vars) (said.binds_of parse side (vars_behind form names) lines) ≡ true) →
     length (vertices_behind form vertices) ≤ length grown → list_all (edge_fits vars (length grown)) later ≡ true →
     list_all (edge_fits vars (length (said.vertices_with form vertices grown))) (said.edges_with parse names vertices line form lines later) ≡ true
-with_edge parse names vertices vars line (form.Edge from to) lines later grown binds l all =
-    and_from (edge_fits vars (length grown) (said.edge_said parse names (vertices_behind (form.Edge from to) vertices) line from to lines)) (list_all (edge_fits vars (length grown)) later)
+with_edge parse names vertices vars line (form.edge from to) lines later grown binds l all =
+    and_from (edge_fits vars (length grown) (said.edge_said parse names (vertices_behind (form.edge from to) vertices) line from to lines)) (list_all (edge_fits vars (length grown)) later)
     (new_edge parse names vertices vars line from to lines (length grown) binds l) all
-with_edge parse names vertices vars line (form.Ste name reset) lines later grown binds l all = refl
-with_edge parse names vertices vars line (form.Gste name vertex reset) lines later grown binds l all = refl
-with_edge parse names vertices vars line (form.Vars others) lines later grown binds l all = all
-with_edge parse names vertices vars line (form.Clause clause) lines later grown binds l all = all
-with_edge parse names vertices vars line form.End lines later grown binds l all = all
-with_edge parse names vertices vars line form.Wrong lines later grown binds l all = all
+with_edge parse names vertices vars line (form.ste name reset) lines later grown binds l all = refl
+with_edge parse names vertices vars line (form.gste name vertex reset) lines later grown binds l all = refl
+with_edge parse names vertices vars line (form.vars others) lines later grown binds l all = all
+with_edge parse names vertices vars line (form.clause clause) lines later grown binds l all = all
+with_edge parse names vertices vars line form.ending lines later grown binds l all = all
+with_edge parse names vertices vars line form.wrong lines later grown binds l all = all
 
 pub edges_fit : (parse : Parse) (vars : ℕ) (earlier lines : List Entry) → first_fault parse earlier lines ≡ None → ((names : List (List ℕ)) (rest : List Entry) → length names ≤ length (said.vars_with names rest)) →
     length (said.vars_with (context_of earlier).vars lines) ≤ vars →

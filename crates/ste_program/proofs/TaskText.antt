@@ -3,13 +3,13 @@ use Rattle.std.proofs.Common.{◌≡◌, ℕ, List, [], map, Option, None, Some,
 use Rattle.std.specs.Prelude.{◌≢◌}
 use Rattle.blif_lines.specs.declared.lines.Line.{Line}
 use Rattle.blif_lines.specs.Lines.{lines_of}
+use Rattle.assert_syntax.specs.Forms.{Entry}
 use Rattle.assert_syntax.specs.Answer.{IsAnswer, entries_of}
 use Rattle.assert_syntax.specs.Parses.{IsParse, Parse}
 use Rattle.assert_syntax.specs.Places.{first_fault}
 use Rattle.assert_syntax.specs.Spelled.{task_tree}
 use Rattle.assert_syntax.specs.declared.fault.TaskFault.{TaskFault}
 use Rattle.assert_syntax.specs.declared.fault.TaskFault.TheVariants.{BadLine, TooDeep, DoubleName, UnknownVar, TooMany, NoTask, OutOfMemory}
-use Rattle.assert_syntax.specs.declared.form.Entry.{Entry}
 use Rattle.assert_syntax.specs.declared.form.LineFault.{LineFault}
 use Rattle.assert_syntax.specs.declared.form.LineFault.TheVariants.{Bad, Deep, Double, Unknown, Many}
 use Rattle.assert_syntax.specs.declared.tasks.RawTasks.{RawTasks}

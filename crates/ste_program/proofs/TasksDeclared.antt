@@ -7,12 +7,11 @@ use Rattle.std.proofs.lemmas.List.Elements.{All-cons}
 use Rattle.blif_syntax.specs.declared.models.Model.{Model}
 use Rattle.hierarchy.specs.Names.{net_named}
 use Rattle.hierarchy.specs.Nets.{nets}
+use Rattle.assert_syntax.specs.Forms.{Entry, Form}
+use Rattle.assert_syntax.specs.Forms as form
 use Rattle.assert_syntax.specs.Parses.{Parse}
 use Rattle.assert_syntax.specs.Places.{context_of, first_fault, line_fault, vars_behind}
 use Rattle.assert_syntax.specs.Spelled as said
-use Rattle.assert_syntax.specs.declared.form.Entry.{Entry}
-use Rattle.assert_syntax.specs.declared.form.Form.{Form}
-use Rattle.assert_syntax.specs.declared.form.Form.TheVariants as form
 use Rattle.assert_syntax.specs.declared.form.Side.{Side}
 use Rattle.assert_syntax.specs.declared.form.Side.TheVariants.{Antecedent, Consequent}
 use Rattle.assert_syntax.specs.declared.tasks.RawEdge.{RawEdge}
@@ -52,26 +51,26 @@ task_fits vars (said.graph line name reset vertices edges) = graph_fits vars ver
 
 with_task : (parse : Parse) (names : List (List ℕ)) (vars line : ℕ) (shape : Form) (lines : List Entry) (later : List said.TaskTree) →
     ((side : Side) → list_all (quint_reads vars) (said.quints_of parse side (vars_behind shape names) lines) ≡ true) →
-    ((name vertex : List ℕ) (reset : Bool) → shape ≡ form.Gste name vertex reset → graph_fits vars (said.vertices_of (vertex ∷ []) lines) (said.edges_of parse names (vertex ∷ []) lines) ≡ true) →
+    ((name vertex : List ℕ) (reset : Bool) → shape ≡ form.gste name vertex reset → graph_fits vars (said.vertices_of (vertex ∷ []) lines) (said.edges_of parse names (vertex ∷ []) lines) ≡ true) →
     list_all (task_fits vars) later ≡ true → list_all (task_fits vars) (said.tasks_with parse names line shape lines later) ≡ true
-with_task parse names vars line (form.Ste name reset) lines later quints graphs all =
+with_task parse names vars line (form.ste name reset) lines later quints graphs all =
     let ant = said.quints_of parse Antecedent names lines in
     let con = said.quints_of parse Consequent names lines in
     and_from (list_all (quint_reads vars) ant && list_all (quint_reads vars) con) (list_all (task_fits vars) later)
     (and_from (list_all (quint_reads vars) ant) (list_all (quint_reads vars) con) (quints Antecedent) (quints Consequent)) all
-with_task parse names vars line (form.Gste name vertex reset) lines later quints graphs all =
+with_task parse names vars line (form.gste name vertex reset) lines later quints graphs all =
     and_from (graph_fits vars (said.vertices_of (vertex ∷ []) lines) (said.edges_of parse names (vertex ∷ []) lines)) (list_all (task_fits vars) later) (graphs name vertex reset refl) all
-with_task parse names vars line (form.Vars others) lines later quints graphs all = all
-with_task parse names vars line (form.Edge from to) lines later quints graphs all = all
-with_task parse names vars line (form.Clause clause) lines later quints graphs all = all
-with_task parse names vars line form.End lines later quints graphs all = all
-with_task parse names vars line form.Wrong lines later quints graphs all = all
+with_task parse names vars line (form.vars others) lines later quints graphs all = all
+with_task parse names vars line (form.edge from to) lines later quints graphs all = all
+with_task parse names vars line (form.clause clause) lines later quints graphs all = all
+with_task parse names vars line form.ending lines later quints graphs all = all
+with_task parse names vars line form.wrong lines later quints graphs all = all
 
 -- the graph that a line starts
-started : (parse : Parse) (vars : ℕ) (earlier : List Entry) (line : Entry) (lines : List Entry) (name vertex : List ℕ) (reset : Bool) → line.form ≡ form.Gste name vertex reset → first_fault parse (line ∷ earlier) lines ≡ None →
+started : (parse : Parse) (vars : ℕ) (earlier : List Entry) (line : Entry) (lines : List Entry) (name vertex : List ℕ) (reset : Bool) → line.form ≡ form.gste name vertex reset → first_fault parse (line ∷ earlier) lines ≡ None →
     length (said.vars_with (vars_behind line.form (context_of earlier).vars) lines) ≤ vars → graph_fits vars (said.vertices_of (vertex ∷ []) lines) (said.edges_of parse (context_of earlier).vars (vertex ∷ []) lines) ≡ true
 started parse vars earlier line lines name vertex reset is fine l =
-    let entry : Entry = record { line = line.line; form = form.Gste name vertex reset } in
+    let entry : Entry = record { line = line.line; form = form.gste name vertex reset } in
     let same : line ≡ entry = ap (λ (f : Form). with_form f) is in
     let none : first_fault parse (entry ∷ earlier) lines ≡ None = subst (λ (e : Entry). first_fault parse (e ∷ earlier) lines ≡ None) same fine in
     let below : length (said.vars_with (context_of earlier).vars lines) ≤ vars = subst (λ (e : Entry). length (said.vars_with (vars_behind e.form (context_of earlier).vars) lines) ≤ vars) same l in

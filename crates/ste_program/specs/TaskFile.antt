@@ -1,11 +1,11 @@
 -- Meaning. What the text of a task file spells, and why it spells nothing. Source: this project's own choice.
 use Rattle.std.specs.Prelude.{◌≢◌, ℕ, List, Ok, Err}
 use Rattle.blif_lines.specs.Lines.{lines_of}
+use Rattle.assert_syntax.specs.Forms.{Entry}
 use Rattle.assert_syntax.specs.Answer.{IsAnswer, entries_of}
 use Rattle.assert_syntax.specs.Parses.{IsParse, Parse}
 use Rattle.assert_syntax.specs.declared.fault.TaskFault.{TaskFault}
 use Rattle.assert_syntax.specs.declared.fault.TaskFault.TheVariants.{OutOfMemory}
-use Rattle.assert_syntax.specs.declared.form.Entry.{Entry}
 use Rattle.assert_syntax.specs.declared.tasks.RawTasks.{RawTasks}
 
 -- the logical lines of a task file's text, with their forms

@@ -10,7 +10,6 @@ use Rattle.assert_syntax.specs.declared.draft.OpenTask.{OpenTask}
 use Rattle.assert_syntax.specs.declared.draft.OpenTask.TheVariants as task
 use Rattle.assert_syntax.specs.declared.fault.TaskFault.{TaskFault}
 use Rattle.assert_syntax.specs.declared.fault.TaskFault.TheVariants.{BadLine, TooDeep, DoubleName, UnknownVar, TooMany, NoTask, OutOfMemory}
-use Rattle.assert_syntax.specs.declared.form.Clause.{Clause}
 use Rattle.assert_syntax.specs.declared.form.LineFault.{LineFault}
 use Rattle.assert_syntax.specs.declared.form.LineFault.TheVariants.{Bad, Deep, Double, Unknown, Many}
 use Rattle.assert_syntax.specs.declared.form.Side.{Side}
@@ -23,6 +22,7 @@ use Rattle.assert_syntax.specs.declared.tasks.RawEdge.{RawEdge}
 use Rattle.assert_syntax.specs.declared.tasks.RawQuint.{RawQuint}
 use Rattle.assert_syntax.specs.declared.tasks.RawTask.{RawTask}
 use Rattle.assert_syntax.specs.declared.tasks.RawTask.TheVariants.{Ste, Gste}
+use Rattle.assert_syntax.specs.Forms.{Clause}
 use Rattle.assert_syntax.specs.Parses.{tree_over}
 use Rattle.assert_syntax.specs.Places.{Context, clause_fault}
 use Rattle.assert_syntax.specs.Spelled.{from_of, to_of}

@@ -4,9 +4,9 @@ use Rattle.assert_syntax.specs.declared.draft.Draft.{Draft}
 use Rattle.assert_syntax.specs.declared.draft.OpenTask.{OpenTask}
 use Rattle.assert_syntax.specs.declared.draft.OpenTask.TheVariants.{Closed, Ste, Gste}
 use Rattle.assert_syntax.specs.declared.fault.TaskFault.{TaskFault}
-use Rattle.assert_syntax.specs.declared.form.Entry.{Entry}
 use Rattle.assert_syntax.specs.declared.form.Side.TheVariants.{Antecedent, Consequent}
 use Rattle.assert_syntax.specs.declared.tasks.RawEdge.{RawEdge}
+use Rattle.assert_syntax.specs.Forms.{Entry}
 use Rattle.assert_syntax.specs.Parses.{Parse}
 use Rattle.assert_syntax.specs.Places.{Context, context_behind, form_fault}
 use Rattle.assert_syntax.specs.Spelled.{TaskTree, EdgeTree, assertion, graph, bind_tree, edge_tree, quint_tree, task_tree, binds_of, edges_of, quints_of, tasks_of, vertices_of}
