@@ -218,3 +218,7 @@ IsRefused-full nodes b l v i lo hi ne full absent = record {
   free = absent;
   full = length-refs_from b (length nodes - b) ∙ full;
 }
+
+-- nothing is refused where less is made than may be
+pub IsRefused-room : (nodes : List Node) (b l v i : ℕ) (lo hi : Ref) → length nodes - b ≢ l → IsRefused (grown_store nodes b l v) i lo hi → ⊥
+IsRefused-room nodes b l v i lo hi room refused = room (sym (length-refs_from b (length nodes - b)) ∙ refused.full)

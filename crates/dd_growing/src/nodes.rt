@@ -145,12 +145,39 @@ impl GrowingNodes {
 }
 
 impl Nodes for GrowingNodes {
-    ghost use Rattle.std.specs.Prelude.{◌-◌, length};
+    ghost use Rattle.std.specs.Prelude.{◌≡◌, ◌⊎◌, ◌↔◌, ◌+◌, ◌-◌, ◌<◌, ◌++◌, ◌∷◌, [], length, Err, IsOk, OnErr};
+    ghost use Rattle.dd_nodes.specs.declared.node.MkFault.TheVariants as MkFault;
+    ghost use Rattle.dd_nodes.specs.Diagram.{IsFrom};
+    ghost use Rattle.dd_nodes.specs.Stores.{Keeps, StandsFor, AddsOnly, IsThere, IsRefused};
     ghost use Rattle.dd_growing.specs.private.GrowingLaws.{growing_diagram, made_held_of, refs_from-distinct, within_of};
 
     ghost store = { λ s. grown_store s.nodes.items s.base s.limit s.vars };
 
-    fn mk(&mut self, var: u32, lo: Ref, hi: Ref) -> Result<Ref, MkFault> {
+    /// A node that is not held is made at every Ok, and counted. `StepsOut` comes exactly where the node would have to be
+    /// made and `limit` nodes are made. After an error all is unchanged.
+    fn mk(&mut self, var: u32, lo: Ref, hi: Ref) -> Result<Ref, MkFault>
+        requires var { var < (⟦<GrowingNodes as Nodes>⟧.store self.old).vars }
+        requires lo { IsFrom (⟦<GrowingNodes as Nodes>⟧.store self.old).held (var + 1) lo }
+        requires hi { IsFrom (⟦<GrowingNodes as Nodes>⟧.store self.old).held (var + 1) hi }
+        ensures keeps { Keeps (⟦<GrowingNodes as Nodes>⟧.store self.old)
+            (⟦<GrowingNodes as Nodes>⟧.store self.new) }
+        ensures limit { (⟦<GrowingNodes as Nodes>⟧.store self.new).limit
+            ≡ (⟦<GrowingNodes as Nodes>⟧.store self.old).limit }
+        ensures ok { IfOk result (λ r. StandsFor (⟦<GrowingNodes as Nodes>⟧.store self.new)
+            var lo hi r) }
+        ensures adds { IfOk result (λ r. AddsOnly
+            (⟦<GrowingNodes as Nodes>⟧.store self.old) (⟦<GrowingNodes as Nodes>⟧.store self.new) r) }
+        ensures there { IsThere (⟦<GrowingNodes as Nodes>⟧.store self.old) var lo hi
+            → IsOk result × (⟦<GrowingNodes as Nodes>⟧.store self.new
+            ≡ ⟦<GrowingNodes as Nodes>⟧.store self.old) }
+        ensures new { IfOk result (λ r. IsThere (⟦<GrowingNodes as Nodes>⟧.store self.old) var lo hi
+            ⊎ ((⟦<GrowingNodes as Nodes>⟧.store self.new).made
+            ≡ (⟦<GrowingNodes as Nodes>⟧.store self.old).made ++ r ∷ [])) }
+        ensures err { OnErr result (⟦<GrowingNodes as Nodes>⟧.store self.new
+            ≡ ⟦<GrowingNodes as Nodes>⟧.store self.old) }
+        ensures out { (result ≡ Err MkFault.StepsOut)
+            ↔ IsRefused (⟦<GrowingNodes as Nodes>⟧.store self.old) var lo hi }
+    {
         if lo == hi {
             return Ok(lo);
         }

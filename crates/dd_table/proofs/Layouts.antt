@@ -1,6 +1,6 @@
 -- The layout of a word: all lemmas that look into it.
 use Rattle.std.proofs.Common.{◌≡◌, ℕ, ◌+◌, ◌*◌, ◌/◌, ◌%◌, ◌^◌, ◌<◌, sym, ap, ap₂, ◌∙◌, arith, div-add-mod', mod-lt}
-use Rattle.std.proofs.Math.Nat.{div-div-eq-div-mul, mod-eq_of_lt, mul-lt-mul_of_pos_right}
+use Rattle.std.proofs.Math.Nat.{div-div-eq-div-mul, mod-eq_of_lt}
 use Rattle.std.proofs.lemmas.Nat.{div-mul-add, mod-mul-add}
 use Rattle.dd_nodes.specs.declared.node.Node.{Node}
 use Rattle.dd_table.specs.Codes.{ref}
@@ -40,23 +40,14 @@ node_in_made_word v l h small_l small_h =
     (ap (λ (y : ℕ). y % 134217728) upper ∙ mod-mul-add v 134217728 l small_l)
     (ap (λ (y : ℕ). y % 134217728) split ∙ mod-mul-add (v * 134217728 + l) 134217728 h small_h)
 
--- a fraction of the slots is less than all
-pub part_lt : (slots w : ℕ) → 0 < slots → w * 11400714819323198485 % 18446744073709551616 / 4294967296 * slots / 4294967296 < slots
-part_lt slots w h =
-    let x : ℕ = w * 11400714819323198485 % 18446744073709551616 / 4294967296 in
-    let bound : w * 11400714819323198485 % 18446744073709551616 < 18446744073709551616 = mod-lt _ (omega arith) in
-    below x slots (omega (arith, bound)) h
-  where
-    below : (x slots : ℕ) → x < 4294967296 → 0 < slots → x * slots / 4294967296 < slots
-    below x slots low h = let times : x * slots < 4294967296 * slots = mul-lt-mul_of_pos_right low h in omega (arith, times)
-
 pub home_lt : (slots w : ℕ) → 0 < slots → home_slot slots w < slots
 unfolding home_slot
-home_lt slots w h = part_lt slots w h
+home_lt slots w h = mod-lt _ h
 
 -- the home as the code computes it
-pub home_is : (slots w : ℕ) → 0 < slots → w * 11400714819323198485 % 18446744073709551616 / 4294967296 * slots / 4294967296 ≡ walk_slot slots w 0
+pub home_is : (slots w : ℕ) → 0 < slots → w * 11400714819323198485 % 18446744073709551616 / 4294967296 % slots ≡ walk_slot slots w 0
 unfolding walk_slot home_slot
 home_is slots w h =
-    let same : home_slot slots w ≡ home_slot slots w + 0 = omega arith in
-    sym (mod-eq_of_lt (home_lt slots w h)) ∙ ap (λ (y : ℕ). y % slots) same
+    let x : ℕ = w * 11400714819323198485 % 18446744073709551616 / 4294967296 in
+    let same : x % slots ≡ x % slots + 0 = omega arith in
+    sym (mod-eq_of_lt (mod-lt x h)) ∙ ap (λ (y : ℕ). y % slots) same

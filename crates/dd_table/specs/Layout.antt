@@ -16,10 +16,9 @@ most_slots = 32000000
 unfoldable pub node_in_word : ℕ → Node
 node_in_word w = record { var = w / 2 ^ 54; lo = ref (w / 2 ^ 27 % 2 ^ 27); hi = ref (w % 2 ^ 27) }
 
--- the slot where the search for a word begins: the upper half of a product modulo 2^64 (multiplicative hashing), as a fraction of
--- 2^32, times the number of slots
+-- the slot where the search for a word begins: the upper half of a product modulo 2^64 (multiplicative hashing)
 unfoldable pub home_slot : ℕ → ℕ → ℕ
-home_slot slots w = (w * 11400714819323198485 % 2 ^ 64) / 2 ^ 32 * slots / 2 ^ 32
+home_slot slots w = (w * 11400714819323198485 % 2 ^ 64) / 2 ^ 32 % slots
 
 -- the slot that the search for a word comes to after k others: from the home on, and from the last one to the first
 unfoldable pub walk_slot : ℕ → ℕ → ℕ → ℕ

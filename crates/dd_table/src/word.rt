@@ -33,5 +33,5 @@ pub(crate) fn home_of_word(word: u64, slots: u32) -> u32
     ensures { (result ≡ walk_slot slots word 0) × (result < slots) }
 {
     let mixed = word.wrapping_mul(11400714819323198485) >> 32;
-    ((mixed * slots as u64) >> 32) as u32
+    (mixed % slots as u64) as u32
 }

@@ -1,5 +1,6 @@
 //! Files and sinks of the host, of which nothing is told: `HostFiles` and `HostSink`.
-ghost use Rattle.std.specs.Prelude.{None};
+
+ghost use Rattle.std.specs.Prelude.{◌≡◌, None};
 
 use crate::files::{FetchFault, Files};
 use crate::sink::{Sink, SinkFailed};
@@ -16,8 +17,10 @@ pub struct HostFiles<'a, R> {
 }
 
 impl<'a, R: std::rt::Files> HostFiles<'a, R> {
-    /// The files that this runtime opens.
-    pub fn new(rt: &'a R) -> Self {
+    /// The files that this runtime opens, of which none has failed yet.
+    pub fn new(rt: &'a R) -> Self
+        ensures { (⟦<HostFiles<'a, R> as Files>⟧.state result).faults ≡ 0 }
+    {
         HostFiles { rt, faults: 0 }
     }
 }
@@ -54,8 +57,10 @@ pub struct HostSink<W> {
 }
 
 impl<W: Write + Drop> HostSink<W> {
-    /// The sink over a writer.
-    pub fn over(writer: W) -> Self {
+    /// The sink over a writer, where no write has failed yet.
+    pub fn over(writer: W) -> Self
+        ensures { (⟦<HostSink<W> as Sink>⟧.state result).faults ≡ 0 }
+    {
         HostSink { writer, faults: 0 }
     }
 }
