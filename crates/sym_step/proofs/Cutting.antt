@@ -1,5 +1,5 @@
 -- Cuts of one net, one after another.
-use Rattle.std.proofs.Common.{◌≡◌, ◌≢◌, ℕ, zero, suc, ◌+◌, ◌<◌, Bool, false, List, [], ◌∷◌, length, map, take, get_or, refl, sym, ◌∙◌, ap, subst, arith, Ok, Result, eq-eqb, ne_eqb, true, All}
+use Rattle.std.proofs.Common.{◌≡◌, ◌≢◌, ℕ, zero, suc, ◌+◌, ◌-◌, ◌≤◌, ◌<◌, Bool, false, List, [], ◌∷◌, length, map, take, get_or, refl, sym, ◌∙◌, ap, subst, arith, Ok, Result, eq-eqb, ne_eqb, true, All}
 use Rattle.std.specs.Prelude.{◌&&◌, not, if◌then◌else◌}
 use Rattle.std.specs.List.{AllZip}
 use Rattle.std.proofs.lemmas.Bool.{false≢true}
@@ -20,6 +20,7 @@ use Rattle.dual_rail.proofs.Works.{Within, Built-wider, last, So-start, Built-ma
 use Rattle.dd_nodes.proofs.Spending.{own}
 use Rattle.sym_step.specs.declared.cut.Cut.{Cut}
 use Rattle.sym_step.specs.Step.{IsCutBy}
+use Rattle.sym_step.specs.private.CutLists.{IsNearest, no_cut}
 use Rattle.sym_step.specs.private.Parts.{AreMarks}
 
 pub cut_here : (d : SymbolicCut) (sets : ℕ → SymbolicSet) (id : ℕ) (s t : Store) (result : Result FlaggedRails OpFault) → d.node ≡ id
@@ -132,6 +133,31 @@ cut_turn ds sets cuts s t u k c id left result gs gt gu lt is zip so means call 
     subst (λ (g : ℕ → SymbolicSet). Built work (HasFlagged (g id)) s u result) (sym (after_next ds sets k nothing inside))
     (last work (HasFlagged (after_cut d f id)) s t u result gt gu so
     (Built-wider work (cut_work (f d.node) d.guard d.value) (HasFlagged (after_cut d f id)) t u result (cuts_has ds sets k nothing inside) (call d f (SymbolicCut-keeps s t d c gs gt so.keeps asked) means)))
+
+-- a cut of another net changes nothing
+elsewhere : (d : SymbolicCut) (f : ℕ → SymbolicSet) (id : ℕ) → d.node ≢ id → after_cut d f id ≡ f id
+elsewhere d f id ne = ap (λ (x : Bool). if x then cut_set (f id) d.guard d.value else f id) (ne_eqb d.node id ne)
+
+-- so many cuts of other nets change nothing
+none_of : (ds : List SymbolicCut) (f : ℕ → SymbolicSet) (id a n : ℕ) → a + n ≤ length ds → ((j : ℕ) → a ≤ j → j < a + n → (get_or ds j nothing).node ≢ id)
+    → after_cuts (take (a + n) ds) f id ≡ after_cuts (take a ds) f id
+none_of ds f id a zero le none = ap (λ (k : ℕ). after_cuts (take k ds) f id) (let e : a + 0 ≡ a = omega arith in e)
+none_of ds f id a (suc n) le none =
+    ap (λ (k : ℕ). after_cuts (take k ds) f id) (let e : a + suc n ≡ a + n + 1 = omega arith in e)
+    ∙ ap (λ (g : ℕ → SymbolicSet). g id) (after_next ds f (a + n) nothing (omega (arith, le)))
+    ∙ elsewhere (get_or ds (a + n) nothing) (after_cuts (take (a + n) ds) f) id (none (a + n) (omega arith) (omega arith))
+    ∙ none_of ds f id a n (omega (arith, le)) (λ j least less. none j least (omega (arith, less)))
+
+-- the cuts up to the nearest one of a net change nothing of it
+pub skipped : (s : Store) (ds : List SymbolicCut) (cuts : List Cut) (f : ℕ → SymbolicSet) (id a m : ℕ) → AllZip (IsCutBy s) ds cuts → IsNearest cuts id a m → after_cuts (take m ds) f id ≡ after_cuts (take a ds) f id
+skipped s ds cuts f id a m zip near =
+    let from = near.from in
+    let within = near.within in
+    let n = demands_long s ds cuts zip in
+    let there : m ≡ a + (m - a) = omega (arith, from) in
+    ap (λ (k : ℕ). after_cuts (take k ds) f id) there
+    ∙ none_of ds f id a (m - a) (omega (arith, n, within, from)) (λ j least less same.
+    near.absent j least (omega (arith, less, from)) (sym (demand_at s ds cuts j nothing no_cut zip (omega (arith, less, from, within))).node ∙ same))
 
 -- no cut is of a net without a mark
 pub unmarked : (s : Store) (ds : List SymbolicCut) (cuts : List Cut) (marks : List Bool) (id : ℕ) (f : ℕ → SymbolicSet) → AllZip (IsCutBy s) ds cuts → AreMarks cuts marks → get_or marks id false ≡ false

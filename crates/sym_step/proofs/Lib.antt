@@ -1,3 +1,4 @@
+pub mod CutLists
 pub mod Cutting
 pub mod Placed
 pub mod Turning

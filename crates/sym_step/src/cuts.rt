@@ -1,6 +1,6 @@
 //! Cuts of one net; begin with `cut_net`.
 
-ghost use Rattle.std.specs.Prelude.{◌≡◌, ◌<◌, ◌∷◌, [], ℕ, List, All, IfOk, IsTrue, length};
+ghost use Rattle.std.specs.Prelude.{◌<◌, ◌∷◌, [], ℕ, List, All, IsTrue, length};
 ghost use Rattle.std.specs.List.{AllZip};
 ghost use Rattle.dd_nodes.specs.Stores.{IsRef, Means};
 ghost use Rattle.dd_nodes.specs.Diagram.{Function};
@@ -11,42 +11,12 @@ ghost use Rattle.sym_step.specs.private.NetSets.{AreFlagged, AreFlaggedRefs, Has
 ghost use Rattle.sym_step.specs.private.Parts.{AreMarks, IsEverywhere};
 
 use crate::cut::Cut;
+use crate::cut_list::CutList;
 use crate::flagged::{FlaggedRails, is_clear, is_constant, is_free};
 use crate::net_rails::NetRails;
 use dd_nodes::{Nodes, Ref};
 use dd_ops::{OpFault, Ops};
 use dual_rail::{Rails, cut, either, opposite};
-use std::alloc::{AllocError, Global};
-
-/// No mark for any of `nets` nets, in this memory where it is that of so many marks.
-fn no_marks(alloc: Global, used: Vec<bool>, nets: u32) -> Result<Vec<bool>, AllocError>
-    ensures { IfOk result (λ marks. length marks.items ≡ nets) }
-{
-    if used.len() != nets as usize {
-        return vec![in alloc; false; nets as usize];
-    }
-    let mut marks = used;
-    marks.fill(false);
-    Ok(marks)
-}
-
-/// A mark for each of `nets` nets of which there is a cut, in this memory where it is that of so many marks.
-pub fn marked(
-    alloc: Global,
-    used: Vec<bool>,
-    cuts: &[Cut],
-    nets: u32,
-) -> Result<Vec<bool>, AllocError>
-    requires { All (λ c. c.node.0 < nets) cuts.now }
-    ensures long { IfOk result (λ marks. length marks.items ≡ nets) }
-    ensures marks { IfOk result (λ marks. AreMarks cuts.now marks.items) }
-{
-    let mut marks = no_marks(alloc, used, nets)?;
-    for c in cuts {
-        marks[c.node.0 as usize] = true;
-    }
-    Ok(marks)
-}
 
 /// The set of the value alone, which is what a cut with the guard 1 leaves of an unknown.
 fn bound<N: Nodes>(ops: &Ops, nodes: &mut N, value: Ref) -> Result<FlaggedRails, OpFault>
@@ -111,11 +81,11 @@ fn cut_once<N: Nodes>(
     narrowed(ops, nodes, r.rails, c.guard, c.value)
 }
 
-/// The set of a net behind all cuts of it, in order.
+/// The set of a net behind all cuts of it, in order. Cuts of other nets are not looked at.
 fn cut_all<N: Nodes>(
     ops: &Ops,
     nodes: &mut N,
-    cuts: &[Cut],
+    cuts: &CutList,
     id: u32,
     r: FlaggedRails,
 ) -> Result<FlaggedRails, OpFault>
@@ -129,8 +99,10 @@ fn cut_all<N: Nodes>(
         (N.store nodes.old) (N.store nodes.new) result }
 {
     let mut left = r;
-    for c in cuts {
-        left = cut_once(ops, nodes, *c, id, left)?;
+    let mut at = cuts.first(id);
+    while at < cuts.len() {
+        left = cut_once(ops, nodes, cuts.at(at), id, left)?;
+        at = cuts.next(at);
     }
     Ok(left)
 }
@@ -139,7 +111,7 @@ fn cut_all<N: Nodes>(
 fn cut_marked<N: Nodes>(
     ops: &Ops,
     nodes: &mut N,
-    cuts: &[Cut],
+    cuts: &CutList,
     marks: &[bool],
     id: u32,
     r: FlaggedRails,
@@ -192,7 +164,7 @@ fn completed<N: Nodes>(ops: &Ops, nodes: &mut N, r: FlaggedRails) -> Result<NetR
 pub fn cut_net<N: Nodes>(
     ops: &Ops,
     nodes: &mut N,
-    cuts: &[Cut],
+    cuts: &CutList,
     marks: &[bool],
     id: u32,
     r: Rails,
@@ -220,7 +192,7 @@ pub fn cut_net<N: Nodes>(
 pub fn cut_full<N: Nodes>(
     ops: &Ops,
     nodes: &mut N,
-    cuts: &[Cut],
+    cuts: &CutList,
     marks: &[bool],
     id: u32,
     r: Rails,

@@ -6,6 +6,7 @@ mod board;
 mod by_halves;
 mod choices;
 pub mod cut;
+mod cut_list;
 mod cuts;
 mod flagged;
 pub mod frame;

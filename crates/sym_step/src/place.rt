@@ -19,7 +19,7 @@ ghost use Rattle.sym_step.specs.private.Refused.{is_rising};
 
 use crate::board::Board;
 use crate::choices::{CHOICES, choice_of};
-use crate::cut::Cut;
+use crate::cut_list::CutList;
 use crate::cuts::cut_full;
 use crate::gates::{Filling, filling_of, gate_at};
 use crate::net_rails::NetRails;
@@ -116,7 +116,7 @@ fn place<N: Nodes>(
     nodes: &mut N,
     net: &Net,
     rows: &GateRows,
-    cuts: &[Cut],
+    cuts: &CutList,
     marks: &[bool],
     products: &mut [Ref],
     nets: &[NetRails],
@@ -163,7 +163,7 @@ fn renew<N: Nodes>(
     nodes: &mut N,
     net: &Net,
     rows: &GateRows,
-    cuts: &[Cut],
+    cuts: &CutList,
     marks: &[bool],
     products: &mut [Ref],
     board: &mut Board,
@@ -227,7 +227,7 @@ pub fn place_gates<N: Nodes>(
     nodes: &mut N,
     net: &Net,
     rows: &GateRows,
-    cuts: &[Cut],
+    cuts: &CutList,
     marks: &[bool],
     products: &mut [Ref],
     board: &mut Board,

@@ -13,7 +13,7 @@ ghost use Rattle.sym_step.specs.private.NetSets.{AreNetRefs, HasNetSet};
 ghost use Rattle.sym_step.specs.private.Parts.{AreMarks, HaveSources, asks};
 
 use crate::board::Board;
-use crate::cut::Cut;
+use crate::cut_list::CutList;
 use crate::cuts::cut_net;
 use crate::latches::LatchSet;
 use crate::net_rails::NetRails;
@@ -28,7 +28,7 @@ use ste_base::NodeId;
 fn latch_source<N: Nodes>(
     ops: &Ops,
     nodes: &mut N,
-    cuts: &[Cut],
+    cuts: &CutList,
     marks: &[bool],
     id: u32,
     r: Rails,
@@ -59,7 +59,7 @@ fn latch_sources<N: Nodes>(
     nodes: &mut N,
     net: &Net,
     latches: &[LatchSet],
-    cuts: &[Cut],
+    cuts: &CutList,
     marks: &[bool],
     board: &mut Board,
 ) -> Result<(), OpFault>
@@ -103,7 +103,7 @@ fn open_source<N: Nodes>(
     ops: &Ops,
     nodes: &mut N,
     net: &Net,
-    cuts: &[Cut],
+    cuts: &CutList,
     marks: &[bool],
     id: u32,
     now: NetRails,
@@ -135,7 +135,7 @@ fn open_sources<N: Nodes>(
     ops: &Ops,
     nodes: &mut N,
     net: &Net,
-    cuts: &[Cut],
+    cuts: &CutList,
     marks: &[bool],
     ids: &[NodeId],
     board: &mut Board,
@@ -212,7 +212,7 @@ pub fn sources<N: Nodes>(
     nodes: &mut N,
     net: &Net,
     latches: &[LatchSet],
-    cuts: &[Cut],
+    cuts: &CutList,
     marks: &[bool],
     asked: &[NodeId],
     before: &[NodeId],

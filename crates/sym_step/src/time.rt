@@ -16,7 +16,7 @@ ghost use Rattle.sym_step.specs.private.Parts.{AreMarks, HaveNets};
 
 use crate::board::Board;
 use crate::cut::Cut;
-use crate::cuts::marked;
+use crate::cut_list::{CutLinks, CutList, linked};
 use crate::frame::{Frame, asked_nets, knows_full, make_due, own_sets};
 use crate::latches::{LatchSet, latch_sets};
 use crate::made::Step;
@@ -105,7 +105,7 @@ fn set_nets<N: Nodes>(
     net: &Net,
     rows: &GateRows,
     latches: &[LatchSet],
-    cuts: &[Cut],
+    cuts: &CutList,
     marks: &[bool],
     asked: &[NodeId],
     before: &[NodeId],
@@ -209,15 +209,17 @@ fn renew_with<N: Nodes>(
         → ArePossibleEach (N.store nodes.old).vars net.now.raw ls asked sets
         → HaveNets net.now.raw sets (N.store nodes.new) frame.new.board.nets.items) }
 {
-    let marks = marked(
-        alloc,
-        replace(&mut vectors.marks, Vec::new(alloc)),
-        cuts,
-        net.nets(),
-    )?;
+    let links = replace(&mut vectors.links, CutLinks::none(alloc));
+    let links = linked(alloc, links, cuts, net.nets())?;
     let asked = asked_nets(replace(&mut vectors.asked, Vec::new(alloc)), cuts)?;
     let used = replace(&mut vectors.sets, Vec::new(alloc));
-    let latches = begin_time(alloc, net, used, &marks, &asked, frame)?;
+    let latches = begin_time(alloc, net, used, &links.marks, &asked, frame)?;
+    let list = CutList {
+        cuts,
+        marks: &links.marks,
+        first: &links.first,
+        next: &links.next,
+    };
     set_nets(
         alloc,
         ops,
@@ -225,15 +227,15 @@ fn renew_with<N: Nodes>(
         net,
         rows,
         &latches,
-        cuts,
-        &marks,
+        &list,
+        &links.marks,
         &asked,
         &frame.asked,
         &mut frame.products,
         &mut frame.board,
     )?;
     frame.board.due.clear_gates();
-    vectors.marks = marks;
+    vectors.links = links;
     vectors.asked = replace(&mut frame.asked, Vec::new(alloc));
     frame.asked = asked;
     vectors.sets = latches;

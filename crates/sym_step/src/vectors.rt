@@ -1,14 +1,15 @@
 //! Vectors that each time uses; begin with `Vectors`.
 
+use crate::cut_list::CutLinks;
 use crate::latches::LatchSet;
 use std::alloc::Global;
 use ste_base::NodeId;
 
-/// Vectors that one time fills and the next one fills again, so that a time takes no memory: a mark for each net, nets, and
-/// sets of latches. What they hold between times says nothing.
+/// Vectors that one time fills and the next one fills again, so that a time takes no memory: where the cuts of each net stand,
+/// nets, and sets of latches. What they hold between times says nothing.
 #[derive(Debug, Drop)]
 pub struct Vectors {
-    pub marks: Vec<bool>,
+    pub links: CutLinks,
     pub asked: Vec<NodeId>,
     pub sets: Vec<LatchSet>,
 }
@@ -17,7 +18,7 @@ impl Vectors {
     /// Vectors without memory.
     pub fn none(alloc: Global) -> Vectors {
         Vectors {
-            marks: Vec::new(alloc),
+            links: CutLinks::none(alloc),
             asked: Vec::new(alloc),
             sets: Vec::new(alloc),
         }

@@ -11,7 +11,7 @@ use Rattle.net_core.specs.Flat.{IsSettledOrder}
 use Rattle.net_core.proofs.Ordered.{settled_by_order}
 use Rattle.ste_base.specs.declared.id.NodeId.{NodeId}
 use Rattle.dual_rail.specs.Rail.{Whatever}
-use Rattle.dual_rail.proofs.Works.{So-start, Built-made, first, pass, set_where}
+use Rattle.dual_rail.proofs.Works.{So-start, Built-made, first, lost, pass, set_where}
 use Rattle.dual_rail.proofs.Turns.{own_zip}
 use Rattle.sym_step.specs.declared.frame.Frame.{Frame}
 use Rattle.sym_step.specs.declared.net_rails.NetRails.{NetRails}
@@ -36,7 +36,7 @@ pub begin_time-requires-clause-marks : goal.begin_time-requires-clause-marks
 begin_time-requires-clause-marks g c =
     let cuts = c.args.cuts.now in
     subst (λ (ids : List NodeId). HaveMarks ids c.deref.result.now) (sym (c.deref-2.ensures.value ∙ c.in_ok-asked.ensures))
-    (have_marks cuts c.deref.result.now (subst (AreMarks cuts) (sym c.deref.ensures.value) c.in_ok-marks.ensures.marks))
+    (have_marks cuts c.deref.result.now (subst (AreMarks cuts) (sym c.deref.ensures.value) c.in_ok-links.ensures.marks))
 
 pub begin_time-requires-clause-frame : goal.begin_time-requires-clause-frame
 begin_time-requires-clause-frame g c = (g.N.Nodes.store c.args.nodes.now, c.requires.frame)
@@ -44,15 +44,15 @@ begin_time-requires-clause-frame g c = (g.N.Nodes.store c.args.nodes.now, c.requ
 pub set_nets-requires-clause-latches : goal.set_nets-requires-clause-latches
 set_nets-requires-clause-latches g c =
     let s : Store = g.N.Nodes.store c.args.nodes.now in
-    subst (All (IsLatchSet s c.args.net.now.raw)) (sym c.deref-3.ensures.value) (c.in_ok-latches.ensures.held s c.requires.frame)
+    subst (All (IsLatchSet s c.args.net.now.raw)) (sym c.deref-6.ensures.value) (c.in_ok-latches.ensures.held s c.requires.frame)
 
 pub set_nets-requires-clause-asked : goal.set_nets-requires-clause-asked
-set_nets-requires-clause-asked g c = c.deref-5.ensures.value ∙ c.in_ok-asked.ensures
+set_nets-requires-clause-asked g c = c.deref-8.ensures.value ∙ c.in_ok-asked.ensures
 
 pub set_nets-requires-clause-spared : goal.set_nets-requires-clause-spared
 set_nets-requires-clause-spared g c =
     let s : Store = g.N.Nodes.store c.args.nodes.now in
-    subst (λ (ids : List NodeId). AreSpared s c.args.net.now.raw ids c.begin_time.new.frame.board) (c.deref-2.ensures.value ∙ sym c.deref-5.ensures.value) (c.in_ok-latches.ensures.begins s c.requires.frame).spared
+    subst (λ (ids : List NodeId). AreSpared s c.args.net.now.raw ids c.begin_time.new.frame.board) (c.deref-2.ensures.value ∙ sym c.deref-8.ensures.value) (c.in_ok-latches.ensures.begins s c.requires.frame).spared
 
 pub set_nets-requires-clause-room : goal.set_nets-requires-clause-room
 set_nets-requires-clause-room g c =
@@ -72,19 +72,25 @@ set_nets-requires-clause-order g c = (c.in_ok-latches.ensures.begins (g.N.Nodes.
 
 pub set_nets-requires-clause-before : goal.set_nets-requires-clause-before
 set_nets-requires-clause-before g c =
-    subst (All (λ (node : NodeId). node.0 < c.args.net.now.raw.nets)) (sym c.deref-6.ensures.value) (c.in_ok-latches.ensures.begins (g.N.Nodes.store c.args.nodes.now) c.requires.frame).inside
+    subst (All (λ (node : NodeId). node.0 < c.args.net.now.raw.nets)) (sym c.deref-9.ensures.value) (c.in_ok-latches.ensures.begins (g.N.Nodes.store c.args.nodes.now) c.requires.frame).inside
 
 pub set_nets-requires-clause-undriven : goal.set_nets-requires-clause-undriven
 set_nets-requires-clause-undriven g c =
     let s : Store = g.N.Nodes.store c.args.nodes.now in
-    subst (λ (xs : List NodeId). AreOpen s c.args.net.now.raw xs c.begin_time.new.frame.board.nets.items) (sym c.deref-6.ensures.value) (c.in_ok-latches.ensures.begins s c.requires.frame).undriven
+    subst (λ (xs : List NodeId). AreOpen s c.args.net.now.raw xs c.begin_time.new.frame.board.nets.items) (sym c.deref-9.ensures.value) (c.in_ok-latches.ensures.begins s c.requires.frame).undriven
+
+pub returns-in_err-latches-clause-built : goal.returns-in_err-latches-clause-built
+returns-in_err-latches-clause-built g c = λ ls asked sets zip zipc family.
+    let s : Store = g.N.Nodes.store c.args.nodes.now in
+    let work : List Function = time_work c.args.net.now.raw ls asked sets in
+    lost work Whatever s s c.from_residual-in_err-latches.result (So-start work s) c.from_residual-in_err-latches.ensures.1
 
 pub returns-in_err-set_nets-clause-built : goal.returns-in_err-set_nets-clause-built
 returns-in_err-set_nets-clause-built g c = λ ls asked sets zip zipc family.
     let s : Store = g.N.Nodes.store c.args.nodes.now in
     let t : Store = g.N.Nodes.store c.set_nets.new.nodes in
     let work : List Function = time_work c.args.net.now.raw ls asked sets in
-    let given = subst (λ (xs : List LatchSet). AreGiven s c.args.net.now.raw ls sets xs c.begin_time.new.frame.board.nets.items) (sym c.deref-3.ensures.value)
+    let given = subst (λ (xs : List LatchSet). AreGiven s c.args.net.now.raw ls sets xs c.begin_time.new.frame.board.nets.items) (sym c.deref-6.ensures.value)
     (c.in_ok-latches.ensures.given s ls asked sets c.args.cuts.now c.requires.frame (c.deref-2.ensures.value ∙ c.in_ok-asked.ensures) zip zipc family) in
     pass work Whatever Whatever s s t c.in_err-set_nets.field-0.0 c.from_residual-in_err-set_nets.result (g.met.N.Nodes.diagram c.args.nodes.now) (g.met.N.Nodes.diagram c.set_nets.new.nodes) (So-start work s)
     (c.in_err-set_nets.ensures.built ls asked sets given zipc family) c.from_residual-in_err-set_nets.ensures.1
@@ -94,14 +100,14 @@ returns-clause-built g c = λ ls asked sets zip zipc family.
     let s : Store = g.N.Nodes.store c.args.nodes.now in
     let t : Store = g.N.Nodes.store c.set_nets.new.nodes in
     let work : List Function = time_work c.args.net.now.raw ls asked sets in
-    let given = subst (λ (xs : List LatchSet). AreGiven s c.args.net.now.raw ls sets xs c.begin_time.new.frame.board.nets.items) (sym c.deref-3.ensures.value)
+    let given = subst (λ (xs : List LatchSet). AreGiven s c.args.net.now.raw ls sets xs c.begin_time.new.frame.board.nets.items) (sym c.deref-6.ensures.value)
     (c.in_ok-latches.ensures.given s ls asked sets c.args.cuts.now c.requires.frame (c.deref-2.ensures.value ∙ c.in_ok-asked.ensures) zip zipc family) in
     Built-made work Whatever s t tt (first work Whatever s t (Ok c.in_ok-set_nets.field-0) (c.in_ok-set_nets.ensures.built ls asked sets given zipc family)) tt
 
 pub returns-clause-have : goal.returns-clause-have
 returns-clause-have g c = λ ls asked sets zip zipc family.
     let s : Store = g.N.Nodes.store c.args.nodes.now in
-    let given = subst (λ (xs : List LatchSet). AreGiven s c.args.net.now.raw ls sets xs c.begin_time.new.frame.board.nets.items) (sym c.deref-3.ensures.value)
+    let given = subst (λ (xs : List LatchSet). AreGiven s c.args.net.now.raw ls sets xs c.begin_time.new.frame.board.nets.items) (sym c.deref-6.ensures.value)
     (c.in_ok-latches.ensures.given s ls asked sets c.args.cuts.now c.requires.frame (c.deref-2.ensures.value ∙ c.in_ok-asked.ensures) zip zipc family) in
     c.in_ok-set_nets.ensures.have ls asked sets given zipc family
 
@@ -128,7 +134,7 @@ returns-clause-frame g c =
     let zip = own_zip s latches told.refs in
     let zipc = own_demands s cuts (λ k d l. (c.requires.cuts k d l).guard) (λ k d l. (c.requires.cuts k d l).value) in
     let ids : List NodeId = c.in_ok-asked.asked.items in
-    let given = subst (λ (xs : List LatchSet). AreGiven s net.raw ls exist.0 xs frame.board.nets.items) (sym c.deref-3.ensures.value)
+    let given = subst (λ (xs : List LatchSet). AreGiven s net.raw ls exist.0 xs frame.board.nets.items) (sym c.deref-6.ensures.value)
     (c.in_ok-latches.ensures.given s ls asked exist.0 cuts c.requires.frame (c.deref-2.ensures.value ∙ c.in_ok-asked.ensures) zip zipc exist.1) in
     let keeps = (q.built ls asked exist.0 given zipc exist.1).spends.keeps in
     let have : HaveNets net.raw exist.0 u nets = q.have ls asked exist.0 given zipc exist.1 in
