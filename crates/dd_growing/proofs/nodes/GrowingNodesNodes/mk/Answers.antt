@@ -18,11 +18,13 @@ returns-then-len-self-clause-out c =
     let s = c.args.self.now in
     let ok = s.nodes.ok.0 in
     let node : Node = node_of c.args.var c.args.lo c.args.hi in
-    let full : length s.nodes.items - s.base ≡ s.limit = omega (arith, c.len.ensures, c.if-len-self.true) in
-    (λ told. IsRefused-full s.nodes.items s.base s.limit s.vars c.args.var c.args.lo c.args.hi (apart c.args.lo c.args.hi _ c.eq.ensures c.if-eq.false) full
-    (absent_of s.nodes.items s.slots.items node s.indexed
-    (subst (λ (xs : List Node). (r : Ref) → IsOnWalk s.slots.items node (slot_of (mark_of node) r) → plain_held xs r ≡ Some node → ⊥) c.deref.ensures.value
-    (subst (λ (ys : List ℕ). (r : Ref) → IsOnWalk ys node (slot_of (mark_of node) r) → plain_held c.deref.result.now r ≡ Some node → ⊥) c.deref-2.ensures.value c.in_default.ensures.none))), λ refused. refl)
+    let full : length s.nodes.items - s.base ≡ s.limit = omega (arith, c.len.ensures, c.if-len-self.true) in (
+      λ told. IsRefused-full s.nodes.items s.base s.limit s.vars c.args.var c.args.lo c.args.hi (apart c.args.lo c.args.hi _ c.eq.ensures c.if-eq.false) full
+          (absent_of s.nodes.items s.slots.items node s.indexed
+          (subst (λ (xs : List Node). (r : Ref) → IsOnWalk s.slots.items node (slot_of (mark_of node) r) → plain_held xs r ≡ Some node → ⊥) c.deref.ensures.value
+          (subst (λ (ys : List ℕ). (r : Ref) → IsOnWalk ys node (slot_of (mark_of node) r) → plain_held c.deref.result.now r ≡ Some node → ⊥) c.deref-2.ensures.value c.in_default.ensures.none))),
+      λ refused. refl,
+    )
 
 pub returns-in-Ok-clause-keeps : goal.returns-in-Ok-clause-keeps
 returns-in-Ok-clause-keeps c =
