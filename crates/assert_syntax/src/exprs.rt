@@ -38,7 +38,8 @@ fn words_read(alloc: Global, words: &[Name], vars: &Variables) -> Result<Expr, E
 /// Reads a guard.
 fn guard_read(alloc: Global, guard: &Guard, vars: &Variables) -> Result<Expr, ExprFault>
     requires { length vars.now < 2 ^ 32 }
-    ensures { (parse : Parse) → IsParse parse → IsRead vars.now (parse (guard_held guard.now)) result }
+    ensures { (parse : Parse) → IsParse parse →
+        IsRead vars.now (parse (guard_held guard.now)) result }
 {
     match guard {
         Guard::Absent => text_read(alloc, b"1", vars),

@@ -4,8 +4,10 @@ ghost use Rattle.std.specs.Prelude.{◌≡◌, ◌<◌, All, IfOk, IfSome, Some,
 ghost use Rattle.dd_nodes.specs.Stores.{IsRef, function};
 ghost use Rattle.sym_step.specs.Step.{rows_of};
 ghost use Rattle.ste_model.specs.Assignments.{SomeAssignment, Tells};
-ghost use Rattle.ste_model.specs.Found.{IsFound, IsStrong, IsVerdictOf};
+ghost use Rattle.ste_model.specs.declared.verdict.Verdict.TheVariants.{Strong, Weak};
+ghost use Rattle.ste_model.specs.Found.{IsFound, IsStrong, IsVerdictOf, IsWeak};
 ghost use Rattle.ste_model.specs.Report.{IsFailingPlace, IsShown};
+ghost use Rattle.ste_engine.specs.declared.failing.Failure.TheVariants as Failure;
 ghost use Rattle.ste_engine.specs.private.Firsts.{AreFirsts, IsFirstPlace};
 ghost use Rattle.ste_engine.specs.private.Places.{FailsBy, IsFoundBy, MakesNothing};
 ghost use Rattle.ste_engine.specs.private.Reports.{IsFailureOf, IsRunDue, TellFindings};
@@ -136,6 +138,98 @@ fn run_due(
     Ok(Some(run))
 }
 
+/// What is shown of a failure, with the run that is told.
+fn with_run(first: LeastFailure, run: Option<Run>) -> Shown
+    ensures { result ≡ record {
+      least = Some first.bits;
+      fails = Some first.place;
+      run = run;
+    } }
+{
+    Shown {
+        least: Some(first.bits),
+        fails: Some(first.place),
+        run,
+    }
+}
+
+/// What a strong failure shows, with the run where one is due. `first` is the place of all assignments, where it is clear.
+fn strong_shown<N: Nodes>(
+    alloc: Global,
+    ops: &Ops,
+    nodes: &mut N,
+    net: &Net,
+    rows: &GateRows,
+    task: &Assertion,
+    strong: Ref,
+    first: Option<(NodeId, Time)>,
+) -> Result<Shown, AllocError>
+    requires rows { rows.now.covers ≡ map rows_of net.now.raw.covers }
+    requires ant { All (λ quint. quint.node.0 < net.now.raw.nets) task.now.ant }
+    requires con { All (λ quint. quint.node.0 < net.now.raw.nets) task.now.con }
+    requires held { IsRef (N.store nodes.old) strong }
+    requires first { IfSome first
+        (IsFirstPlace (N.store nodes.old).vars net.now.raw task.now Failure.Strong) }
+    requires told { Tells (N.store nodes.old).vars (function (N.store nodes.old) strong)
+        (IsStrong net.now.raw task.now) }
+    requires some { SomeAssignment (N.store nodes.old).vars (IsStrong net.now.raw task.now) }
+    ensures shown { IfOk result (λ shown. IsFailureOf net.now.raw (N.store nodes.old).vars task.now
+        Strong shown.least shown.fails shown.run) }
+    ensures same { MakesNothing (N.store nodes.old) (N.store nodes.new) }
+{
+    let least = least_failure(
+        alloc,
+        ops,
+        nodes,
+        net,
+        rows,
+        task,
+        strong,
+        Failure::Strong,
+        first,
+    )?;
+    let run = run_due(alloc, net, task, least.bits.as_slice())?;
+    Ok(with_run(least, run))
+}
+
+/// What a weak failure shows. `first` is the place of all assignments, where it is clear.
+fn weak_shown<N: Nodes>(
+    alloc: Global,
+    ops: &Ops,
+    nodes: &mut N,
+    net: &Net,
+    rows: &GateRows,
+    task: &Assertion,
+    weak: Ref,
+    first: Option<(NodeId, Time)>,
+) -> Result<Shown, AllocError>
+    requires rows { rows.now.covers ≡ map rows_of net.now.raw.covers }
+    requires ant { All (λ quint. quint.node.0 < net.now.raw.nets) task.now.ant }
+    requires con { All (λ quint. quint.node.0 < net.now.raw.nets) task.now.con }
+    requires held { IsRef (N.store nodes.old) weak }
+    requires first { IfSome first
+        (IsFirstPlace (N.store nodes.old).vars net.now.raw task.now Failure.Weak) }
+    requires told { Tells (N.store nodes.old).vars (function (N.store nodes.old) weak)
+        (IsWeak net.now.raw task.now) }
+    requires some { SomeAssignment (N.store nodes.old).vars (IsWeak net.now.raw task.now) }
+    ensures shown { IfOk result (λ shown. IsFailureOf net.now.raw (N.store nodes.old).vars task.now
+        Weak shown.least shown.fails shown.run) }
+    ensures same { MakesNothing (N.store nodes.old) (N.store nodes.new) }
+{
+    let least = least_failure(
+        alloc,
+        ops,
+        nodes,
+        net,
+        rows,
+        task,
+        weak,
+        Failure::Weak,
+        first,
+    )?;
+    Ok(with_run(least, None))
+}
+
 /// What a failure shows, from the verdict, the references that tell the findings, and the places that are clear.
 pub fn shown_of<N: Nodes>(
     alloc: Global,
@@ -160,42 +254,9 @@ pub fn shown_of<N: Nodes>(
 {
     match verdict {
         Verdict::Strong => {
-            let first = least_failure(
-                alloc,
-                ops,
-                nodes,
-                net,
-                rows,
-                task,
-                r.strong,
-                Failure::Strong,
-                firsts.strong,
-            )?;
-            let run = run_due(alloc, net, task, first.bits.as_slice())?;
-            Ok(Shown {
-                least: Some(first.bits),
-                fails: Some(first.place),
-                run,
-            })
+            strong_shown(alloc, ops, nodes, net, rows, task, r.strong, firsts.strong)
         }
-        Verdict::Weak => {
-            let first = least_failure(
-                alloc,
-                ops,
-                nodes,
-                net,
-                rows,
-                task,
-                r.weak,
-                Failure::Weak,
-                firsts.weak,
-            )?;
-            Ok(Shown {
-                least: Some(first.bits),
-                fails: Some(first.place),
-                run: None,
-            })
-        }
+        Verdict::Weak => weak_shown(alloc, ops, nodes, net, rows, task, r.weak, firsts.weak),
         _ => Ok(Shown {
             least: None,
             fails: None,
