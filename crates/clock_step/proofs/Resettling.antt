@@ -97,28 +97,6 @@ module _ (net : RawNet) (order : List ℕ) (is_order : IsSettledOrder net order)
 
   -- ---- gates
 
-  pub turns_begin : (begun due : List Bool) → length begun ≡ net.nets → length due ≡ length order → AreAtRest net order due begun → AreTurned net order 0 begun begun due
-  turns_begin begun due long dues rest = record {
-    long = long;
-    dues = dues;
-    past = λ k l. absurd (omega (arith, l));
-    rest = rest;
-    others = λ id none. refl;
-  }
-
-  -- a gate that is not due
-  pub turn_over : (n : ℕ) (begun bits due : List Bool) → bit_at due n ≡ false → AreTurned net order n begun bits due → AreTurned net order (n + 1) begun bits due
-  turn_over n begun bits due none before = record {
-    long = before.long;
-    dues = before.dues;
-    past = λ k l. elim (cases_lt k n) [
-      | inl early ↦ before.past k early
-      | inr late ↦ let same : k ≡ n = omega (arith, l, late) in ap (bit_at due) same ∙ none
-    ];
-    rest = before.rest;
-    others = before.others;
-  }
-
   -- gates of different numbers drive different nets
   outputs_differ : (one : HasOneDriver net) (i j : ℕ) (d : Gate) → i < length net.gates → j < length net.gates → i ≢ j → (get_or net.gates i d).output.0 ≢ (get_or net.gates j d).output.0
   outputs_differ one i j d l m other same = elim (cases_lt i j) [

@@ -11,9 +11,6 @@ use Rattle.counter_run.specs.private.Matrix.{IsMatrix, SameShape, cell}
 
 -- ---- the shape
 
-pub same_shape : (rows : List (List Bool)) → SameShape rows rows
-same_shape rows = record { tall = refl; wide = λ id. refl }
-
 pub shape_then : (one two three : List (List Bool)) → SameShape one two → SameShape two three → SameShape one three
 shape_then one two three a b = record { tall = b.tall ∙ a.tall; wide = λ id. b.wide id ∙ a.wide id }
 

@@ -45,23 +45,6 @@ covers_stay before after first model extends longer h = record {
   few = let f = h.few in omega (arith, f, longer);
 }
 
--- where the covers of a model are there
-pub covered_old : (models : List Model) (number : ℕ) (covers : List Cover) (seen : List (Option ℕ)) (first : ℕ) (d : Option ℕ) → number < length models → length seen ≡ length models → AreSeen models covers seen → get_or seen number d ≡ Some first → IsFilled models number covers covers seen first
-covered_old models number covers seen first d low long known e = record {
-  known = known;
-  long = long;
-  extends = λ k cover at. at;
-  longer = omega arith;
-  few = omega arith;
-  is = λ model at. known number first model (at_place seen number d (omega (arith, low, long)) ∙ ap Some e) at;
-  narrow = λ before lines. before;
-}
-  where
-    at_place : {X : Type 0} (xs : List X) (k : ℕ) (d : X) → k < length xs → slice_get xs k ≡ Some (get_or xs k d)
-    at_place [] k d h = absurd (omega arith)
-    at_place (x ∷ xs) zero d h = refl
-    at_place (x ∷ xs) (suc k) d h = at_place xs k d (omega arith)
-
 -- where they are added
 pub covered_new : (models : List Model) (number : ℕ) (covers after : List Cover) (seen later : List (Option ℕ)) (first : ℕ) (model : Model) → length seen ≡ length models → AreSeen models covers seen → slice_get models number ≡ Some model → first ≡ length covers → after ≡ covers ++ map (λ line. line.cover) (gate_lines model) → later ≡ set seen number (Some first) → IsFilled models number covers after later first
 covered_new models number covers after seen later first model long known at is add put =

@@ -23,7 +23,6 @@ use Rattle.gste_engine.specs.private.Rounds.{IsGivenFrom, edges_work}
 use Rattle.gste_engine.specs.private.Sums.{never_state, unreached}
 use Rattle.gste_engine.proofs.Arrivals.{never_is}
 use Rattle.gste_engine.proofs.Comings.{never_long}
-use Rattle.gste_engine.proofs.Lists.{zip_right}
 use Rattle.gste_engine.proofs.StateRefs.{State-keeps, own_is, own_long, own_state, state_refs}
 
 abbrev pub given_of : RawNet → (ℕ → SymbolicState) → (Edge → ℕ → SymbolicSet) → Edge → SymbolicState
@@ -31,10 +30,6 @@ given_of net states sets edge = given_by net (states edge.from) (sets edge)
 
 pub given_long : (net : RawNet) (states : ℕ → SymbolicState) (sets : Edge → ℕ → SymbolicSet) (edge : Edge) → length (given_of net states sets edge).latches ≡ length net.latches
 given_long net states sets edge = length-map net.latches (λ latch. gated_set (sets edge latch.input.0) (feasible_where net (states edge.from) (sets edge)))
-
--- each gives a set for each latch
-pub givens_refs : (net : RawNet) (states : ℕ → SymbolicState) (sets : Edge → ℕ → SymbolicSet) (t : Store) (edges : List Edge) (givens : List State) → AllZip (λ edge r. IsState t (given_of net states sets edge) r) edges givens → All (AreStateRefs t net) givens
-givens_refs net states sets t edges givens zip = zip_right (λ (edge : Edge) (r : State). IsState t (given_of net states sets edge) r) (AreStateRefs t net) edges givens (λ edge r h. state_refs t net (given_of net states sets edge) r (given_long net states sets edge) h) zip
 
 pub flat_has : {X : Type 0} (F : X → List Function) (xs : List X) (k : ℕ) (d : X) → k < length xs → Within (F (get_or xs k d)) (flat_map F xs)
 flat_has F [] k d lt f h = absurd (omega arith)

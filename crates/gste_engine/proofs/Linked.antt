@@ -2,22 +2,11 @@
 use Rattle.std.proofs.Common.{◌≡◌, ℕ, suc, ◌+◌, ◌<◌, ◌≤◌, List, length, get_or, set, sym, ◌∙◌, ap, subst, arith, inl, inr}
 use Rattle.std.proofs.Math.Decide.{ℕ_discrete}
 use Rattle.std.proofs.lemmas.Bool.{cases_lt}
-use Rattle.std.proofs.lemmas.List.{get_or-replicate, get_or-set_other, get_or-set_same, get_or_default, length-replicate, length-set}
+use Rattle.std.proofs.lemmas.List.{get_or-set_other, get_or-set_same, get_or_default, length-set}
 use Rattle.ste_model.specs.declared.task.Edge.{Edge}
 use Rattle.gste_engine.specs.declared.links.End.{End}
 use Rattle.gste_engine.specs.declared.links.Links.{Links}
-use Rattle.gste_engine.specs.private.Links.{AreLinksFrom, HasNone, IsNextAt, end_of}
-
--- behind the last edge there is none
-pub links_none : (at : End) (vertices : ℕ) (edges : List Edge) (r : Links) → HasNone vertices (length edges) r → AreLinksFrom at vertices edges (length edges) r
-links_none at vertices edges r h = record {
-  firsts = ap (λ (xs : List ℕ). length xs) h.first ∙ length-replicate vertices (length edges);
-  nexts = ap (λ (xs : List ℕ). length xs) h.next ∙ length-replicate (length edges) (length edges);
-  first = λ vertex lt.
-      subst (λ (n : ℕ). IsNextAt at edges vertex (length edges) n) (sym (ap (λ (xs : List ℕ). get_or xs vertex 0) h.first ∙ get_or-replicate vertices vertex (length edges) 0 lt))
-      (record { low = omega arith; most = omega arith; here = λ d l. absurd (omega (arith, l)); none = λ i d le l. absurd (omega (arith, le, l)) });
-  next = λ k d le lt. absurd (omega (arith, le, lt));
-}
+use Rattle.gste_engine.specs.private.Links.{AreLinksFrom, IsNextAt, end_of}
 
 -- one more edge, in front of those
 module _ (at : End) (vertices : ℕ) (edges : List Edge) (k vertex : ℕ) (edge : Edge) (old new : Links) (lt : k < length edges) (is : edge ≡ get_or edges k edge) (end : vertex ≡ end_of at edge) (inside : vertex < vertices)

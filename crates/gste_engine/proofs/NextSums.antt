@@ -230,10 +230,3 @@ module _ (net : RawNet) (bits : List Bool) where
           (λ h. absurd (cc h), subst (λ (xs : List BitSet). AllZip IsWithin xs (other vertex).latches) (sym (nevers_here net.latches)) (empties net.latches (other vertex).latches (takes.long vertex)))
           (coming_within other takes vertex);
     }
-
--- the sums have a set for each latch
-pub all_sums_long : (net : RawNet) (graph : Graph) (states : ℕ → SymbolicState) (sets : Edge → ℕ → SymbolicSet) (vertex : ℕ) → IsLong net (summed_at net graph.reset (λ (edge : Edge). given_by net (states edge.from) (sets edge)) graph.edges vertex)
-all_sums_long net graph states sets vertex =
-    let given : Edge → SymbolicState = λ edge. given_by net (states edge.from) (sets edge) in
-    with_states_long net (never_state net) (coming net graph.reset given graph.edges vertex) (never_long net)
-    (coming_long net graph.reset given vertex graph.edges (λ k d l. let edge = get_or graph.edges k d in length-map net.latches (λ latch. gated_set (sets edge latch.input.0) (feasible_where net (states edge.from) (sets edge)))))

@@ -1,6 +1,6 @@
 -- Before the first round; and how many rounds there are.
-use Rattle.std.proofs.Common.{◌≡◌, ℕ, ◌+◌, ◌-◌, ◌*◌, ◌<◌, ◌≤◌, Bool, false, List, [], ◌∷◌, length, map, replicate, refl, sym, ◌∙◌, ap, subst, arith, All}
-use Rattle.std.proofs.lemmas.List.{get_or-replicate, length-map, length-replicate}
+use Rattle.std.proofs.Common.{◌≡◌, ℕ, ◌+◌, ◌-◌, ◌*◌, ◌<◌, ◌≤◌, Bool, List, [], ◌∷◌, length, map, replicate, refl, sym, ◌∙◌, ap, subst, arith, All}
+use Rattle.std.proofs.lemmas.List.{get_or-replicate, length-replicate}
 use Rattle.std.proofs.lemmas.List.Elements.{All-head, All-tail}
 use Rattle.dd_nodes.specs.Stores.{Store}
 use Rattle.dd_nodes.proofs.Stores.{IsGood}
@@ -18,12 +18,11 @@ use Rattle.ste_model.specs.GraphWork.{SymbolicState, state_at}
 use Rattle.ste_model.proofs.GraphNeeds.{one_graph_need}
 use Rattle.ste_model.proofs.Rounds.{long}
 use Rattle.gste_engine.specs.declared.state.State.{State}
-use Rattle.gste_engine.specs.Tables.{AreStateRefs, HasStates, IsState}
+use Rattle.gste_engine.specs.Tables.{HasStates, IsState}
 use Rattle.gste_engine.specs.private.Sums.{never_state, unreached}
 use Rattle.gste_engine.proofs.Arrivals.{never_is}
 use Rattle.gste_engine.proofs.NextTables.{state_moves}
 use Rattle.gste_engine.proofs.Sets.{no_set}
-use Rattle.gste_engine.proofs.StateRefs.{states_refs}
 
 nones_are : (bits : List Bool) (latches : List Latch) (sets : List BitSet) → length sets ≡ length latches → All (λ set. set ≡ neither) sets → map (set_at bits) (map (λ latch. no_set) latches) ≡ sets
 nones_are bits [] [] e h = refl
@@ -52,15 +51,6 @@ module _ (net : RawNet) (graph : Graph) (s : Store) (tables : ℕ → ℕ → Sy
         subst (λ (r : State). IsState s (tables 0 v) r) (sym (get_or-replicate (length graph.vertices) v (unreached net) d inside))
         (state_moves s (never_state net) (tables 0 v) (unreached net) (λ bits l. never_here bits l v) (never_is s net gs));
   })
-
-  table_long : IsSettled net → (n v : ℕ) → length (tables n v).latches ≡ length net.latches
-  table_long settled n v =
-      let bits : List Bool = replicate s.vars false in
-      let l = length-replicate s.vars false in
-      sym (length-map (tables n v).latches (set_at bits)) ∙ long net graph bits settled (λ m u. state_at bits (tables m u)) (whole.rounds bits l) n v
-
-  pub tables_refs : IsSettled net → (t : Store) (n : ℕ) (rs : List State) → HasStates (tables n) (length graph.vertices) t rs → All (AreStateRefs t net) rs
-  tables_refs settled t n rs h = states_refs (tables n) (length graph.vertices) t net rs (table_long settled n) h
 
 -- there are tables and sets
 pub whole_exists : (net : RawNet) (vars : ℕ) (graph : Graph) → IsSettled net → (tables : ℕ → ℕ → SymbolicState) × (sets : ℕ → Edge → ℕ → SymbolicSet) × AreWholeRounds net vars graph tables sets

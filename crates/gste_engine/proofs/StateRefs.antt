@@ -42,6 +42,3 @@ state_long t net x r refs h = zip_long (AreRails t) x.latches r.latches h.latche
 -- a table keeps its functions
 pub States-keep : (table : ℕ → SymbolicState) (vertices : ℕ) (s t : Store) (rs : List State) → IsGood s → IsGood t → Keeps s t → HasStates table vertices s rs → HasStates table vertices t rs
 States-keep table vertices s t rs gs gt k h = record { long = h.long; each = λ v d lt. State-keeps s t (table v) (get_or rs v d) gs gt k (h.each v d lt) }
-
-pub states_refs : (table : ℕ → SymbolicState) (vertices : ℕ) (t : Store) (net : RawNet) (rs : List State) → ((v : ℕ) → length (table v).latches ≡ length net.latches) → HasStates table vertices t rs → All (AreStateRefs t net) rs
-states_refs table vertices t net rs long h = λ v d lt. state_refs t net (table v) (get_or rs v d) (long v) (h.each v d lt)

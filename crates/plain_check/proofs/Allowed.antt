@@ -20,10 +20,6 @@ pub in_both : (bit : Bool) → IsIn bit both
 in_both false = refl
 in_both true = refl
 
--- where nothing is asked each net is left both bits
-pub allows_all : (sets : List BitSet) → All (λ set. set ≡ both) sets → Allows [] sets
-allows_all sets all = λ id bit l. (λ h k d m. absurd (omega arith), λ h. subst (IsIn bit) (sym (all id both l)) (in_both bit))
-
 -- a cut that does not apply leaves the bits as they are
 pub allows_skipped : (cuts : List Cut) (cut : Cut) (allowed : List BitSet) → cut.on ≡ false → Allows cuts allowed → Allows (cuts ++ cut ∷ []) allowed
 allows_skipped cuts cut allowed off allows id bit l = (

@@ -196,16 +196,6 @@ one_more_best how hops n best route are here vertex l = elim (cases_lt vertex (l
     length_more [] x = refl
     length_more (y ∷ xs) x = let h = length_more xs x in omega arith
 
--- a vertex with a route is where the search ends
-pub stays_searched : (how : Failure) (hops : List Hop) (n m : ℕ) (best : List (List ℕ)) → 0 < length (get_or best 0 []) → IsSearched how hops n best → IsSearched how hops m best
-stays_searched how hops n m best some is = record {
-  count = is.count;
-  some = is.some;
-  are = is.are;
-  fewest = is.fewest;
-  all = λ none. absurd (let e = ap length none in omega (arith, some, e));
-}
-
 none_here : (how : Failure) (hops : List Hop) (n vertex : ℕ) (path other : List ℕ) → path ≡ [] → IsBest how hops n vertex path → IsRoute how hops vertex other → length other ≢ n
 none_here how hops n vertex [] other e best route = best other route
 none_here how hops n vertex (k ∷ path) other e best route = absurd (cc e)

@@ -16,7 +16,7 @@ use Rattle.ste_model.specs.Edges.{asked_on}
 use Rattle.ste_model.specs.GraphTable.{IsFeasible, IsNext, IsReachedWith, IsStateWithin, Takes, VertexState}
 use Rattle.ste_model.proofs.Unions.{empties, join_least, join_left, join_long, join_right, join_set, join_sets, next_grows, sets_trans}
 use Rattle.plain_check.specs.declared.rounds.State.{State}
-use Rattle.plain_check.specs.private.States.{joined, start, state_of, states_of, unreached, with_edges}
+use Rattle.plain_check.specs.private.States.{joined, start, state_of, states_of, with_edges}
 
 -- what the edges into a vertex have to find there
 abbrev Carries : RawNet → List Bool → (ℕ → VertexState) → (ℕ → VertexState) → Edge → Type 0
@@ -150,14 +150,6 @@ pub state_there : (net : RawNet) (states : List State) (k : ℕ) (state : State)
 state_there net [] k state l e = absurd (omega arith)
 state_there net (x ∷ states) zero state l e = ap (λ (s : State). state_of net (Some s)) (sym e)
 state_there net (x ∷ states) (suc k) state l e = state_there net states k state (omega arith) e
-
-pub all_unreached : (net : RawNet) (states : List State) → All (λ state. state ≡ unreached net) states → (vertex : ℕ) → states_of net states vertex ≡ state_of net None
-all_unreached net [] all vertex = refl
-all_unreached net (x ∷ states) all zero = ap (λ (state : State). state_of net (Some state)) (all 0 x (omega arith))
-all_unreached net (x ∷ states) all (suc vertex) = all_unreached net states (λ k d l. all (suc k) d (omega arith)) vertex
-
-pub all_long : (net : RawNet) (states : List State) → All (λ state. state ≡ unreached net) states → All (λ state. length state.latches ≡ length net.latches) states
-all_long net states all k d l = ap (λ (state : State). length state.latches) (all k d l) ∙ length-map net.latches (λ latch. neither)
 
 join_same : (net : RawNet) (old after : List BitSet) (sets : ℕ → BitSet) → length old ≡ length net.latches → after ≡ joined old (next_sets net sets) → after ≡ join_sets old (next_sets net sets)
 join_same net old after sets long e = e ∙ joined_is old (next_sets net sets) (long ∙ sym (length-map net.latches (λ latch. sets latch.input.0)))

@@ -18,7 +18,7 @@ use Rattle.ste_program.specs.declared.refusal.File.TheVariants as file
 use Rattle.ste_program.specs.declared.refusal.Refusal.{Refusal}
 use Rattle.ste_program.specs.declared.run.Status.{Status}
 use Rattle.ste_program.specs.declared.run.Status.TheVariants.{Passed, NotPassed, Refused, Faulted, NoMemory}
-use Rattle.ste_program.proofs.Fetched.{all_names, asked_none, first_names}
+use Rattle.ste_program.proofs.Fetched.{all_names, first_names}
 use Rattle.ste_program.proofs.Refusals.{one_refusal, reported_silent}
 use Rattle.ste_program.proofs.Stages.{none_first}
 
@@ -48,9 +48,6 @@ why_named command files files' found (inl unread) =
     (names.0, unread.failed.asking ∙ (ap (with_names files.asked) names.1 ∙ ap (λ (c : Option Command). with_names files.asked (take names.0 (files_of c))) (sym unread.is)))
 why_named command files files' found (inr (inl memory)) = some_named command files files' memory.1
 why_named command files files' found (inr (inr refused)) = some_named command files files' refused.asking
-
-pub none_named : (command : Option Command) (files : FilesState) → Names command files files
-none_named command files = (0, ap asked_of (asked_none files))
 
 -- a count that did not move did not fall
 same_count : (before after : ℕ) → after ≡ before → before ≤ after

@@ -4,12 +4,12 @@ use Rattle.std.specs.Prelude.{IsSomeAnd, option_to_list}
 use Rattle.std.specs.FinMap.{get}
 use Rattle.command_line.specs.Command.{Action, Command}
 use Rattle.ste_io.specs.Causes.{Rose}
-use Rattle.ste_io.specs.Outside.{FilesState, IsFetched, IsTooLarge, Store, asked_for, with_name, with_names}
+use Rattle.ste_io.specs.Outside.{FilesState, IsTooLarge, Store, asked_for, with_name, with_names}
 use Rattle.ste_program.specs.Answer.{AskedSome, WhyNoReport, status_of}
 use Rattle.ste_program.specs.Command.{file_of, files_of, files_up_to, net_file, second_file}
 use Rattle.ste_program.specs.Order.{AllSilent, IsFirst, is_large, is_missing, refusals, stages_before}
 use Rattle.ste_program.specs.Report.{IsRead, greatest, text_at}
-use Rattle.ste_program.specs.private.Texts.{AreTexts, FileFails, IsAtHand, WhyNoFile}
+use Rattle.ste_program.specs.private.Texts.{FileFails, IsAtHand, WhyNoFile}
 use Rattle.ste_program.specs.declared.refusal.File.{File}
 use Rattle.ste_program.specs.declared.refusal.File.TheVariants as file
 use Rattle.ste_program.specs.declared.refusal.Refusal.{Refusal}
@@ -37,28 +37,9 @@ with_asked before names = record before { asked = names }
 pub asked_none : (before : FilesState) → before ≡ asked before []
 asked_none before = ap (with_asked before) (with_none before.asked)
 
--- one name
-pub asked_one : (before : FilesState) (name : List ℕ) → asked_for before name ≡ asked before (name ∷ [])
-asked_one before name = ap (λ (s : FilesState). asked_for s name) (asked_none before) ∙ ap (with_asked before) (with_one_more before.asked [] name)
-
 -- one name more
 pub asked_more : (before : FilesState) (names : List (List ℕ)) (name : List ℕ) → asked_for (asked before names) name ≡ asked before (names ++ name ∷ [])
 asked_more before names name = ap (with_asked before) (with_one_more before.asked names name)
-
-asked_both : (before : FilesState) (some more : List (List ℕ)) → asked (asked before some) more ≡ asked before (some ++ more)
-asked_both before some more = ap (with_asked before) (with_more before.asked some more)
-
--- where there is no file, nothing is read
-pub nothing_read : (before : FilesState) → IsAtHand None before before []
-nothing_read before = record { read = told before.holds; small = omega arith; asking = asked_none before }
-  where
-    told : (holds : Option Store) → IsRead holds None []
-    told None = tt
-    told (Some store) = refl
-
--- what was fetched is at hand
-pub is_fetched : (before after : FilesState) (name bytes : List ℕ) → IsFetched before after name greatest bytes → IsAtHand (Some name) before after bytes
-is_fetched before after name bytes (stands, small, asking) = record { read = stands; small = small; asking = asking ∙ asked_one before name }
 
 -- the names of the first file are the first names, and so are those of both
 pub first_names : (one other : Option (List ℕ)) → (n : ℕ) × (option_to_list one ≡ take n (option_to_list one ++ option_to_list other))
@@ -176,15 +157,3 @@ second_fails command before between after text found net why =
       placed = λ store told found large not_missing.
           inr ((net_silent store told).0, inr ((net_silent store told).1, inr (not_missing, inl large)));
     }) why
-
--- both texts are at hand
-pub both_texts : (command : Command) (before between after : FilesState) (net_text second_text : List ℕ) → IsAtHand (net_file command.action) before between net_text → IsAtHand (second_file command.action) between after second_text →
-    AreTexts command before after net_text second_text
-both_texts command before between after net_text second_text net second = record {
-  net_read = net.read;
-  second_read = subst (λ (s : FilesState). IsRead s.holds (second_file command.action) second_text) net.asking second.read;
-  net_small = net.small;
-  second_small = second.small;
-  asking = second.asking ∙ (ap (λ (s : FilesState). asked s (option_to_list (second_file command.action))) net.asking
-      ∙ asked_both before (option_to_list (net_file command.action)) (option_to_list (second_file command.action)));
-}

@@ -13,7 +13,7 @@ use Rattle.ste_program.specs.private.Texts.{AreTexts, OrMemory}
 use Rattle.ste_program.specs.declared.refusal.File.TheVariants as file
 use Rattle.ste_program.specs.declared.refusal.Refusal.{Refusal}
 use Rattle.ste_program.specs.declared.refusal.Refusal.TheVariants as refusal
-use Rattle.ste_program.proofs.Fetched.{all_names, asked, asked_none, held_silent, of_held, of_text, read_told}
+use Rattle.ste_program.proofs.Fetched.{all_names, asked, held_silent, of_held, of_text, read_told}
 use Rattle.ste_program.proofs.Stages.{AllOnce, first_told, none_first, one_first}
 use Rattle.ste_program.proofs.TextStages.{text_once, text_silent, text_told}
 
@@ -110,15 +110,6 @@ made_or_not (Ok made) passes bytes given command before after net_text second_te
     subst (λ (c : Option Command). IsMade c before after (passes made) (bytes made)) (sym is) (made_of command before after net_text second_text (passes made) (bytes made) texts h)
 made_or_not (Err found) passes bytes given command before after net_text second_text is texts h =
     subst (λ (c : Option Command). WhyNoReport c before after found) (sym is) (unreported command before after net_text second_text found texts h)
-
--- the words are no command
-pub is_usage : (given : Option Command) (before : FilesState) → given ≡ None → WhyNoReport given before before refusal.Usage
-is_usage given before is = subst (λ (c : Option Command). WhyNoReport c before before refusal.Usage) (sym is)
-    (inr (inr (record { kind = refl; first = λ store told. inl refl; grounded = refl; asking = (0, asked_none before) })))
-
--- the texts cannot be had
-pub texts_fail : (given : Option Command) (command : Command) (before after : FilesState) (found : Refusal) → given ≡ Some command → WhyNoReport (Some command) before after found → WhyNoReport given before after found
-texts_fail given command before after found is why = subst (λ (c : Option Command). WhyNoReport c before after found) (sym is) why
 
 -- what is reported is not refused
 reported_silent_of : (command : Command) (files : FilesState) (store : Store) (passes : Bool) (bytes : List ℕ) → files.holds ≡ Some store → (report : IsReport (Some command) files passes bytes) → report.asked ≡ command → AllSilent (refusals (Some report.asked) store)

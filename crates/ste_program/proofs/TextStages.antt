@@ -230,14 +230,6 @@ behind_netlist net_text models net names stages found spelled n why =
     skip (is_faulty net_text) (has_faulty_hierarchy net_text ∷ has_loop net_text ∷ stages) found (faulty_silent net_text models spelled)
     (behind_net net_text models net stages found spelled n.sound n.flat n.settled why)
 
--- the first refusal of a netlist's text is the first of more stages behind it
-pub first_of_more : (net_text : List ℕ) (stages : List (Refusal → Type 0)) (found : Refusal) → OrMemory (IsFirst (info_stages net_text)) found → OrMemory (IsFirst (is_faulty net_text ∷ has_faulty_hierarchy net_text ∷ has_loop net_text ∷ stages)) found
-first_of_more net_text stages found (inl memory) = inl memory
-first_of_more net_text stages found (inr (inl h)) = inr (inl h)
-first_of_more net_text stages found (inr (inr (a, inl h))) = inr (inr (a, inl h))
-first_of_more net_text stages found (inr (inr (a, inr (b, inl h)))) = inr (inr (a, inr (b, inl h)))
-first_of_more net_text stages found (inr (inr (a, inr (b, inr (c, h))))) = absurd h
-
 -- the stages of a check behind both texts, and behind the netlist's
 abbrev bound_stages : Option ℕ → List ℕ → List ℕ → List (Refusal → Type 0)
 bound_stages steps net_text task_text = is_unbound net_text task_text ∷ HasTooManySteps steps task_text ∷ []

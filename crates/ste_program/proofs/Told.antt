@@ -7,14 +7,8 @@ use Rattle.blif_syntax.specs.Answer as blif_answer
 use Rattle.blif_syntax.specs.declared.fault.BlifFault.{BlifFault}
 use Rattle.blif_syntax.specs.declared.fault.BlifFault.TheVariants as blif
 use Rattle.blif_syntax.specs.declared.models.Model.{Model}
-use Rattle.assert_syntax.specs.Answer as task_answer
-use Rattle.assert_syntax.specs.Parses.{IsParse, Parse}
-use Rattle.assert_syntax.specs.declared.fault.TaskFault.{TaskFault}
 use Rattle.assert_syntax.specs.declared.fault.TaskFault.TheVariants as task
 use Rattle.assert_syntax.specs.declared.tasks.RawTasks.{RawTasks}
-use Rattle.clock_step.specs.Answer as input_answer
-use Rattle.clock_step.specs.declared.fault.InputFault.{InputFault}
-use Rattle.clock_step.specs.declared.fault.InputFault.TheVariants as input
 use Rattle.hierarchy.specs.Faults.{IsRefusal}
 use Rattle.hierarchy.specs.Names.{net_named}
 use Rattle.hierarchy.specs.Nets.{nets}
@@ -31,11 +25,9 @@ use Rattle.task_binding.specs.Answer.{IsAnswer}
 use Rattle.task_binding.specs.declared.fault.BindFault.{BindFault}
 use Rattle.task_binding.specs.declared.fault.BindFault.TheVariants as bind
 use Rattle.ste_program.specs.Netlist.{IsLoop, net_lines}
-use Rattle.ste_program.specs.Order.{has_faulty_tasks, is_faulty}
-use Rattle.ste_program.specs.Refused.{binding_refused, hierarchy_refused, inputs_refused, netlist_refused, tasks_refused}
-use Rattle.ste_program.specs.TaskFile.{task_lines}
+use Rattle.ste_program.specs.Order.{is_faulty}
+use Rattle.ste_program.specs.Refused.{binding_refused, hierarchy_refused, netlist_refused}
 use Rattle.ste_program.specs.private.Made.{HasNoNet, IsNetOf, IsNotBound}
-use Rattle.ste_program.specs.private.Simulated.{AreNotGiven}
 use Rattle.ste_program.specs.private.Texts.{OrMemory}
 use Rattle.ste_program.specs.declared.refusal.Refusal.{Refusal}
 
@@ -51,35 +43,6 @@ pub no_models : (text : List ℕ) (lines : List Line) (fault : BlifFault) (found
 no_models text lines fault found same h is =
     subst (λ (f : Refusal). OrMemory (is_faulty text) f) (sym is)
     (netlist_told text fault (subst (λ (ls : List Line). blif_answer.IsAnswer (blif_answer.entries_of ls) (Err fault)) same h))
-
--- a task file's text that is refused
-tasks_told : (text : List ℕ) (fault : TaskFault) → ((parse : Parse) → IsParse parse → task_answer.IsAnswer parse (task_lines text) (Err fault)) → OrMemory (has_faulty_tasks text) (tasks_refused fault)
-tasks_told text (task.BadLine line) h = inr (task.BadLine line, refl, ((λ e. absurd (cc e)), h))
-tasks_told text (task.TooDeep line) h = inr (task.TooDeep line, refl, ((λ e. absurd (cc e)), h))
-tasks_told text (task.DoubleName line name) h = inr (task.DoubleName line name, refl, ((λ e. absurd (cc e)), h))
-tasks_told text (task.UnknownVar line name) h = inr (task.UnknownVar line name, refl, ((λ e. absurd (cc e)), h))
-tasks_told text (task.TooMany line) h = inr (task.TooMany line, refl, ((λ e. absurd (cc e)), h))
-tasks_told text task.NoTask h = inr (task.NoTask, refl, ((λ e. absurd (cc e)), h))
-tasks_told text task.OutOfMemory h = inl refl
-
-pub no_raw : (text : List ℕ) (lines : List Line) (fault : TaskFault) (found : Refusal) → lines ≡ lines_of text → ((parse : Parse) → IsParse parse → task_answer.IsAnswer parse (task_answer.entries_of lines) (Err fault)) → found ≡ tasks_refused fault → OrMemory (has_faulty_tasks text) found
-no_raw text lines fault found same h is =
-    subst (λ (f : Refusal). OrMemory (has_faulty_tasks text) f) (sym is)
-    (tasks_told text fault (λ parse one. subst (λ (ls : List Line). task_answer.IsAnswer parse (task_answer.entries_of ls) (Err fault)) same (h parse one)))
-
--- an input file's text that is refused
-inputs_told : (raw : RawNet) (names : NetNames) (text : List ℕ) (fault : InputFault) → input_answer.IsAnswer (named_by names) raw (lines_of text) (Err fault) → OrMemory (AreNotGiven raw names text) (inputs_refused fault)
-inputs_told raw names text (input.BadLine line) h = inr (input.BadLine line, refl, (λ e. absurd (cc e)), h)
-inputs_told raw names text (input.DoubleName line name) h = inr (input.DoubleName line name, refl, (λ e. absurd (cc e)), h)
-inputs_told raw names text (input.UnknownNode line name) h = inr (input.UnknownNode line name, refl, (λ e. absurd (cc e)), h)
-inputs_told raw names text (input.NotAnInput line name) h = inr (input.NotAnInput line name, refl, (λ e. absurd (cc e)), h)
-inputs_told raw names text (input.TooMany line) h = inr (input.TooMany line, refl, (λ e. absurd (cc e)), h)
-inputs_told raw names text input.OutOfMemory h = inl refl
-
-pub no_inputs : (raw : RawNet) (names : NetNames) (text : List ℕ) (lines : List Line) (fault : InputFault) (found : Refusal) → lines ≡ lines_of text → input_answer.IsAnswer (named_by names) raw lines (Err fault) → found ≡ inputs_refused fault → OrMemory (AreNotGiven raw names text) found
-no_inputs raw names text lines fault found same h is =
-    subst (λ (f : Refusal). OrMemory (AreNotGiven raw names text) f) (sym is)
-    (inputs_told raw names text fault (subst (λ (ls : List Line). input_answer.IsAnswer (named_by names) raw ls (Err fault)) same h))
 
 -- a hierarchy that is refused
 hierarchy_told : (models : List Model) (fault : NetFault) → (fault ≡ net.OutOfMemory) ⊎ IsRefusal models fault → OrMemory (HasNoNet models) (hierarchy_refused fault)

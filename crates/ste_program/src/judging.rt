@@ -1,4 +1,5 @@
 //! What is told of the tasks of a file; begin with `reports_of`.
+
 ghost use Rattle.std.specs.Prelude.{◌≡◌, ◌*◌, ◌^◌, ◌<◌, ◌≤◌, ℕ, All, IfOk, IfSome, Option, is_some, length, map};
 ghost use Rattle.std.specs.List.{AllZip, list_any};
 ghost use Rattle.command_line.specs.Bounds.{IsBounded};
@@ -15,6 +16,27 @@ use std::thread::Threads;
 use ste_model::{Report, Tasks, Verdict};
 use sym_step::GateRows;
 use work_pool::{Gate, PoolAnswer, run_alone, run_some, run_tasks};
+
+/// The node steps for each net that are tried first.
+const FIRST_STEPS_A_NET: u32 = 12;
+
+/// The node steps that are tried first where there are few nets.
+const FIRST_STEPS_OF_FEW_NETS: u32 = 20480;
+
+/// From so many variables on, a task is one over many.
+const MANY_VARIABLES: u32 = 9;
+
+/// The most node steps that are tried first where there are few variables, over which few nodes are made.
+const FIRST_STEPS_OF_FEW_VARIABLES: u32 = 4096;
+
+/// The least node steps that are tried first, where so many are granted.
+const LEAST_FIRST_STEPS: u32 = 1024;
+
+/// The most node steps that are tried first for all tasks together: those of a table of 32 MB.
+const MOST_FIRST_STEPS: u32 = 2097152;
+
+/// How many times as many node steps are tried next.
+const GROWTH: u32 = 12;
 
 /// Whether the verdict is pass.
 pub fn is_pass(verdict: Verdict) -> bool
@@ -44,33 +66,41 @@ fn some_budget(reports: &[Report]) -> bool
     reports.iter().any(|report| is_budget(report.verdict))
 }
 
-/// The most node steps of a task over so many variables that are tried first: where these are few, nodes are few.
+/// The most node steps of a task over so many variables that are tried first.
 fn most_first_steps(vars: u32) -> u32
     ensures { result ≡ most_first_steps vars }
 {
-    if vars < 9 { 4096 } else { 2097152 }
+    if vars < MANY_VARIABLES {
+        FIRST_STEPS_OF_FEW_VARIABLES
+    } else {
+        MOST_FIRST_STEPS
+    }
 }
 
-/// The node steps of each of so many tasks that are tried first: twelve for each net, but at least 20,480, and for all tasks
-/// together at most 2,097,152, which is a table of 32 MB; at most 4,096 where there are up to eight variables, and at least
-/// 1,024.
+/// The node steps of each of so many tasks that are tried first, where so many are granted: by the number of nets, but no
+/// more than its share of the most for all tasks together, and no more than so many variables want.
 fn first_steps(nets: u32, tasks: u32, vars: u32, steps: u32) -> u32
     requires { (1 ≤ tasks) × (1 ≤ steps) }
     ensures exact { result ≡ first_steps nets tasks vars steps }
     ensures within { (1 ≤ result) × (result ≤ steps) }
 {
-    let each = nets.saturating_mul(12).max(20480);
-    let share = each.min(2097152 / tasks);
-    share.min(most_first_steps(vars)).max(1024).min(steps)
+    let each = nets
+        .saturating_mul(FIRST_STEPS_A_NET)
+        .max(FIRST_STEPS_OF_FEW_NETS);
+    let share = each.min(MOST_FIRST_STEPS / tasks);
+    share
+        .min(most_first_steps(vars))
+        .max(LEAST_FIRST_STEPS)
+        .min(steps)
 }
 
-/// The node steps of a task that are tried next: twelve times those that were tried.
+/// The node steps of a task that are tried next.
 fn next_steps(tried: u32, steps: u32) -> u32
     requires { 1 ≤ tried }
     ensures exact { result ≡ next_steps tried steps }
     ensures more { tried < steps → (tried < result) × (result ≤ steps) }
 {
-    tried.saturating_mul(12).min(steps)
+    tried.saturating_mul(GROWTH).min(steps)
 }
 
 /// Whether the report of this number says budget.

@@ -2,11 +2,10 @@
 use Rattle.std.proofs.Common.{ℕ, zero, suc, ◌+◌, ◌-◌, ◌*◌, ◌<◌, ◌≤◌, ◌≡◌, refl, sym, ap, ◌∙◌, List, length, get_or, take, add-one, min, Bool, true, false, nat_le, Some, arith}
 use Rattle.std.specs.Prelude.{sum_by}
 use Rattle.std.proofs.Math.Nat.{suc-mul, zero-mul}
-use Rattle.std.proofs.lemmas.List.{take_all}
 use Rattle.std.proofs.lemmas.List.Sums.{sum_by_more}
 use Rattle.std.proofs.lemmas.Option.{slice_get-get_or}
 use Rattle.assert_syntax.specs.declared.tasks.RawTask.{RawTask}
-use Rattle.task_binding.specs.Sizes.{cells, head_line, AllFit, IsFirstLarge}
+use Rattle.task_binding.specs.Sizes.{cells, head_line, IsFirstLarge}
 
 least_small : (s m : ℕ) → s ≤ m → min s m ≡ s
 least_small s m h = omega (arith, h)
@@ -29,13 +28,6 @@ short_by false (suc n) s m e =
 pub short_rows : (n s : ℕ) → min (n * min s 18446744073709551615) 18446744073709551615 ≡ min (n * s) 18446744073709551615
 short_rows n s = short_by (nat_le s 18446744073709551615) n s 18446744073709551615 refl
 
--- one task more, where all fit with it
-pub fit_turn : (nets : ℕ) (tasks : List RawTask) (i : ℕ) (task : RawTask) (size total : ℕ) → i < length tasks → task ≡ get_or tasks i task → size ≡ min (cells nets task) 18446744073709551615 → size ≤ 100000000 - total → total ≡ sum_by (cells nets) (take i tasks) → total ≤ 100000000 → (total + size ≡ sum_by (cells nets) (take (i + 1) tasks)) × (total + size ≤ 100000000)
-fit_turn nets tasks i task size total h g e fits so_far within =
-    let more = sum_by_more (cells nets) tasks i task h in
-    let same : cells nets (get_or tasks i task) ≡ cells nets task = ap (cells nets) (sym g) in
-    (omega (arith, more, same, e, fits, so_far, within), omega (arith, fits, within))
-
 -- one task more, which is too large
 pub large_turn : (nets : ℕ) (tasks : List RawTask) (i : ℕ) (task : RawTask) (line size total : ℕ) → i < length tasks → task ≡ get_or tasks i task → size ≡ min (cells nets task) 18446744073709551615 → 100000000 - total < size → total ≡ sum_by (cells nets) (take i tasks) → total ≤ 100000000 → line ≡ head_line task → IsFirstLarge nets tasks line
 large_turn nets tasks i task line size total h g e large so_far within l =
@@ -49,9 +41,3 @@ large_turn nets tasks i task line size total h g e large so_far within l =
       large = omega (arith, counted, more, same, e, large, so_far, within);
       before = omega (arith, so_far, within);
     }
-
--- all tasks are looked at
-pub fit_end : (nets : ℕ) (tasks : List RawTask) (i total : ℕ) → length tasks ≤ i → total ≡ sum_by (cells nets) (take i tasks) → total ≤ 100000000 → AllFit nets tasks
-fit_end nets tasks i total h so_far within =
-    let all : sum_by (cells nets) (take i tasks) ≡ sum_by (cells nets) tasks = ap (sum_by (cells nets)) (take_all i tasks h) in
-    omega (arith, all, so_far, within)
