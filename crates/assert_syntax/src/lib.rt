@@ -1,4 +1,5 @@
-//! The grammar of task files: from logical lines to tasks with the names of their nodes, or to the first faulty line.
+//! The grammar of task files: from logical lines to tasks with the names of their nodes, or to the first faulty line. Begin
+//! with `read_tasks`.
 #![tactic(auto)]
 
 mod clauses;
@@ -17,6 +18,3 @@ mod words;
 pub use fault::TaskFault;
 pub use read::read_tasks;
 pub use tasks::{RawBind, RawEdge, RawQuint, RawTask, RawTasks};
-
-#[cfg(test)]
-mod tests;

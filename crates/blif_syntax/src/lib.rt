@@ -1,4 +1,4 @@
-//! The grammar of BLIF netlists: from logical lines to models, or to the first faulty line.
+//! The grammar of BLIF netlists: from logical lines to models, or to the first faulty line. Begin with `read_models`.
 #![tactic(auto)]
 
 mod draft;
@@ -13,6 +13,3 @@ mod words;
 pub use fault::BlifFault;
 pub use models::{Item, LatchKind, Model, Models, What};
 pub use read::read_models;
-
-#[cfg(test)]
-mod tests;

@@ -1,5 +1,5 @@
 //! Plain simulation: the bits that an input file gives to nets, and the outputs of the one run on
-//! them.
+//! them. Begin with `read_inputs` and `simulate`.
 #![tactic(auto)]
 
 pub mod fault;
@@ -17,6 +17,3 @@ pub use fault::InputFault;
 pub use inputs::Inputs;
 pub use read::read_inputs;
 pub use simulation::simulate;
-
-#[cfg(test)]
-mod tests;

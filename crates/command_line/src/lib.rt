@@ -5,8 +5,6 @@ pub mod command;
 pub mod laws;
 pub mod number;
 mod reader;
-#[cfg(test)]
-mod tests;
 
 pub use command::{Action, Command};
 pub use reader::command_of;

@@ -2,18 +2,17 @@
 //! assertion graph. Begin with `two_valued`, `ste_run` and `graph_run`.
 #![tactic(auto)]
 
-mod along;
+// `along`, `printed` and `undriven` are public for the tests, which stand in another crate.
+pub mod along;
 mod asked;
 mod block;
 mod completion;
 pub mod laws;
 mod matrix;
-mod printed;
+pub mod printed;
 mod row;
 mod simple;
-#[cfg(test)]
-mod tests;
-mod undriven;
+pub mod undriven;
 
 pub use along::graph_run;
 pub use printed::ste_run;

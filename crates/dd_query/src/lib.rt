@@ -6,12 +6,6 @@
 mod evaluation;
 mod first;
 mod paths;
-#[cfg(test)]
-mod shown;
-#[cfg(test)]
-mod tables;
-#[cfg(test)]
-mod tests;
 
 pub use evaluation::eval;
 pub use first::least;

@@ -1,4 +1,5 @@
-//! What a store of nodes remembers of operations: results that were put in, some of which are found again. `Recent` has them.
+//! What a store of nodes remembers of operations: results that were put in, some of which are found again. Begin with
+//! `Recent`.
 #![tactic(auto)]
 
 pub mod recent;

@@ -1,5 +1,6 @@
-//! An append-only table of diagram nodes that any number of threads share without a lock. `SharedTable::open` makes
-//! one, with its first session; `TableNodes::on` puts a session on its table, and is a store of nodes that can be split.
+//! An append-only table of diagram nodes that any number of threads share without a lock. Begin with `SharedTable::open`,
+//! which makes one, with its first session; `TableNodes::on` puts a session on its table, and is a store of nodes that can be
+//! split.
 #![tactic(auto)]
 
 mod calls;
@@ -10,8 +11,6 @@ mod search;
 pub mod session;
 mod steps;
 pub mod table;
-#[cfg(test)]
-mod tests;
 mod views;
 mod word;
 

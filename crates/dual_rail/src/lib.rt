@@ -6,8 +6,6 @@ mod first;
 pub mod gates;
 pub mod rails;
 pub mod sets;
-#[cfg(test)]
-mod tests;
 
 pub use first::{are_constant, both, either, opposite};
 pub use gates::gate;

@@ -1,5 +1,5 @@
 //! The flat net of a netlist: its nets are numbered, and each gate and latch drives the nets of its
-//! signals.
+//! signals. Begin with `flatten`.
 #![tactic(auto)]
 
 mod clocks;

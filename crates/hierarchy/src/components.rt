@@ -1,6 +1,8 @@
 //! The strongly connected components of the uses of models, by a search that keeps to one path and joins what lies on a circle
 //! (Gabow, 2000); begin with `components`. What it finds is checked before it is used, so no clause says that it is right.
 
+ghost use Rattle.std.specs.Prelude.{◌≡◌, IfOk, length};
+
 use std::alloc::{AllocError, Global};
 use ste_base::Items;
 
@@ -35,7 +37,9 @@ struct Search {
 
 impl Search {
     /// Puts a new model at the end of the path, as a component of its own.
-    fn enter(&mut self, graph: &[Items<usize>], model: usize) -> Result<(), AllocError> {
+    fn enter(&mut self, graph: &[Items<usize>], model: usize) -> Result<(), AllocError>
+        ensures { length self.new.ranks.items ≡ length self.old.ranks.items }
+    {
         let place = self.path.len();
         if let Some(state) = self.states.get_mut(model) {
             *state = State::OnPath(place);
@@ -51,7 +55,9 @@ impl Search {
     }
 
     /// Joins the components of the path that start behind a place: they lie on a circle.
-    fn join(&mut self, place: usize) {
+    fn join(&mut self, place: usize)
+        ensures { length self.new.ranks.items ≡ length self.old.ranks.items }
+    {
         for _ in 0..self.starts.len() {
             match self.starts.last() {
                 Some(start) if *start > place => {
@@ -63,7 +69,9 @@ impl Search {
     }
 
     /// Follows a use to a model.
-    fn follow(&mut self, graph: &[Items<usize>], used: usize) -> Result<(), AllocError> {
+    fn follow(&mut self, graph: &[Items<usize>], used: usize) -> Result<(), AllocError>
+        ensures { length self.new.ranks.items ≡ length self.old.ranks.items }
+    {
         match self.states.get(used) {
             Some(State::New) => self.enter(graph, used),
             Some(State::OnPath(place)) => {
@@ -76,7 +84,9 @@ impl Search {
     }
 
     /// Takes the last component off the path, which starts at a place: it is complete.
-    fn leave(&mut self, start: usize) {
+    fn leave(&mut self, start: usize)
+        ensures { length self.new.ranks.items ≡ length self.old.ranks.items }
+    {
         for _ in start..self.path.len() {
             if let Some(model) = self.path.pop() {
                 if let Some(state) = self.states.get_mut(model) {
@@ -91,7 +101,9 @@ impl Search {
     }
 
     /// A use that is still to be followed of a model of the last component, which starts at a place.
-    fn next_use(&mut self, start: usize) -> Option<usize> {
+    fn next_use(&mut self, start: usize) -> Option<usize>
+        ensures { length self.new.ranks.items ≡ length self.old.ranks.items }
+    {
         match self.pending.last() {
             Some(next) if next.place >= start => self.pending.pop().map(|next| next.used),
             _ => None,
@@ -99,7 +111,9 @@ impl Search {
     }
 
     /// Searches from a model until the path is empty.
-    fn search(&mut self, graph: &[Items<usize>], root: usize) -> Result<(), AllocError> {
+    fn search(&mut self, graph: &[Items<usize>], root: usize) -> Result<(), AllocError>
+        ensures { length self.new.ranks.items ≡ length self.old.ranks.items }
+    {
         self.enter(graph, root)?;
         for _ in 0..u64::MAX {
             let Some(start) = self.starts.last().copied() else {
@@ -119,7 +133,9 @@ impl Search {
 
 /// By model: the number of its component, in the order in which they are complete, so that a component uses earlier ones alone.
 /// `graph` has for each model the numbers of those that it uses.
-pub(crate) fn components(alloc: Global, graph: &[Items<usize>]) -> Result<Vec<usize>, AllocError> {
+pub fn components(alloc: Global, graph: &[Items<usize>]) -> Result<Vec<usize>, AllocError>
+    ensures { IfOk result (λ ranks. length ranks.items ≡ length graph.now) }
+{
     let mut search = Search {
         states: vec![in alloc; State::New; graph.len()]?,
         ranks: vec![in alloc; 0; graph.len()]?,

@@ -1,10 +1,11 @@
 //! Hierarchies: what the lines of models say of their signals, the instances of models, and what a hierarchy is refused for
-//! before any instance is built.
+//! before any instance is built. Begin with `refuse`.
 #![tactic(auto)]
 
 mod checks;
 mod circles;
-mod components;
+// Public for its tests, which stand in another crate.
+pub mod components;
 mod counts;
 mod depth;
 pub mod fault;
@@ -13,8 +14,6 @@ mod gates;
 pub mod lines;
 mod ranks;
 mod reach;
-#[cfg(test)]
-mod refusal_tests;
 pub mod refusals;
 pub mod signals;
 mod unbound;

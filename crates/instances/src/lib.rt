@@ -1,4 +1,4 @@
-//! The instances of a hierarchy in preorder, and in each the numbers of its signals' nets.
+//! The instances of a hierarchy in preorder, and in each the numbers of its signals' nets. Begin with `instance_rows`.
 #![tactic(auto)]
 
 mod above;

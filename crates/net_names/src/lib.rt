@@ -1,4 +1,4 @@
-//! The names of a flat net: what its nets are called, and which net a text names.
+//! The names of a flat net: what its nets are called, and which net a text names. Begin with `NetNames`.
 #![tactic(auto)]
 
 pub mod laws;

@@ -1,4 +1,5 @@
-//! The plain checker: one assignment after another, and a gate's set over all choices of bits.
+//! The plain checker: one assignment after another, and a gate's set over all choices of bits. Begin with `verdict` and
+//! `check_graph`.
 #![tactic(auto)]
 
 pub mod checker;
@@ -15,6 +16,3 @@ mod table;
 pub use checker::verdict;
 pub use found::Outcome;
 pub use graph_checker::{GraphFound, Shown, check_graph};
-
-#[cfg(test)]
-mod tests;

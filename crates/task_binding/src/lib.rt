@@ -1,4 +1,4 @@
-//! Binding of tasks: from tasks with the names of their nodes to tasks over the nets of a netlist.
+//! Binding of tasks: from tasks with the names of their nodes to tasks over the nets of a netlist. Begin with `bind_tasks`.
 #![tactic(auto)]
 
 mod bind;
@@ -11,6 +11,3 @@ pub mod unknown;
 pub use fault::BindFault;
 pub use resolve::Resolve;
 pub use tasks::bind_tasks;
-
-#[cfg(test)]
-mod tests;

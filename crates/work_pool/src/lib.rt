@@ -6,8 +6,6 @@ pub mod gate;
 pub mod laws;
 mod pool;
 pub mod run;
-#[cfg(test)]
-mod tests;
 mod turns;
 
 pub use alone::run_alone;

@@ -1,5 +1,0 @@
-use Rattle.std.proofs.Common.{◌≡◌}
-use Rattle.dd_growing.proofs.tests.make_all.Given as goal
-
-abbrev pub invariant-loop-v : goal.invariant-loop-v
-invariant-loop-v g l = (g.N.Nodes.store l.nodes).vars ≡ l.vars

@@ -1,8 +1,0 @@
-use Rattle.std.proofs.Common.{◌≡◌}
-use Rattle.dd_table.proofs.tests.refusals.Given as goal
-
-abbrev pub invariant-loop-v : goal.invariant-loop-v
-invariant-loop-v g l = record {
-  vars : (g.N.Nodes.store l.nodes).vars ≡ l.vars;
-  table : (g.N.Nodes.store l.nodes).table ≡ (g.N.Nodes.store l.initial.nodes).table;
-}

@@ -1,0 +1,8 @@
+use Rattle.std.proofs.Common.{◌≡◌}
+use Rattle.diagram_tests.proofs.shared_table.refusals.Given as goal
+
+abbrev pub invariant-loop-v : goal.invariant-loop-v
+invariant-loop-v g l = record {
+  vars : (g.N.Nodes.store l.nodes).vars ≡ l.vars;
+  table : (g.N.Nodes.store l.nodes).table ≡ (g.N.Nodes.store l.initial.nodes).table;
+}

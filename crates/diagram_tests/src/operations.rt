@@ -1,0 +1,165 @@
+//! Tests of the operations over the plain store.
+
+ghost use Rattle.std.specs.Prelude.{◌<◌, ◌≤◌};
+
+use crate::shelf::{Act, Shelf};
+use dd_nodes::{Nodes, PlainNodes, Ref};
+use dd_ops::{OpFault, Ops};
+use std::test::Fail;
+
+/// The place of the function of three variables that is 0 everywhere. The one whose value at assignment k is bit k of
+/// t stands t places behind it.
+const ZERO: usize = 22;
+
+/// The place of the variable v or of its negation, as assignment k has it.
+fn literal(k: usize, v: usize) -> usize
+    requires { v < 3 }
+{
+    if (k >> v) % 2 == 1 { v } else { 3 + v }
+}
+
+/// Adds the functions that are 1 at assignment k, and are 0 at all later ones.
+fn shelve_functions_to<N: Nodes + Drop>(shelf: &mut Shelf<N>, k: usize) -> Result<(), Fail>
+    requires { k < 8 }
+{
+    for table in 0..1usize << k {
+        shelf.put(Act::Or, ZERO + table, 7 + 2 * k, 0)?;
+    }
+    Ok(())
+}
+
+/// Adds the variables, their negations, the product that is 1 at one assignment, for each, and all 256 functions.
+fn shelve_functions<N: Nodes + Drop>(shelf: &mut Shelf<N>) -> Result<(), Fail> {
+    for v in 0..3 {
+        shelf.put_var(v)?;
+    }
+    for v in 0..3 {
+        shelf.put(Act::Not, v, 0, 0)?;
+    }
+    for k in 0..8 {
+        let both = shelf.put(Act::And, literal(k, 2), literal(k, 1), 0)?;
+        shelf.put(Act::And, both, literal(k, 0), 0)?;
+    }
+    shelf.put(Act::And, 0, 3, 0)?;
+    for k in 0..8 {
+        shelve_functions_to(shelf, k)?;
+    }
+    Ok(())
+}
+
+/// Whether the act gives the function with this table.
+fn gives<N: Nodes + Drop>(
+    shelf: &mut Shelf<N>,
+    act: Act,
+    s: u8,
+    t: u8,
+    u: u8,
+    table: u8,
+) -> Result<bool, Fail> {
+    let first = ZERO + usize::from(s);
+    let second = ZERO + usize::from(t);
+    let third = ZERO + usize::from(u);
+    let made = shelf.put(act, first, second, third)?;
+    shelf.are_same(made, ZERO + usize::from(table))
+}
+
+#[test]
+fn operations_follow_truth_tables(rt: HostRuntime) -> Result<(), Fail> {
+    let nodes = PlainNodes::new(rt.alloc(), 3, 1000)?;
+    let mut shelf = Shelf::new(rt.alloc(), nodes);
+    shelve_functions(&mut shelf)?;
+    for pair in 0u32..65536 {
+        let s = (pair / 256) as u8;
+        let t = (pair % 256) as u8;
+        let u = (pair % 257 % 256) as u8;
+        assert!(rt; gives(&mut shelf, Act::Not, s, t, u, !s)?, "not {s}");
+        assert!(rt; gives(&mut shelf, Act::And, s, t, u, s & t)?, "and {s} {t}");
+        assert!(rt; gives(&mut shelf, Act::Or, s, t, u, s | t)?, "or {s} {t}");
+        assert!(rt; gives(&mut shelf, Act::Xor, s, t, u, s ^ t)?, "xor {s} {t}");
+        assert!(rt;
+            gives(&mut shelf, Act::Ite, s, t, u, (s & t) | (!s & u))?,
+            "ite {s} {t} {u}"
+        );
+    }
+    Ok(())
+}
+
+#[test]
+fn difference_by_xor_and_by_ite_is_one_reference(rt: HostRuntime) -> Result<(), Fail> {
+    let nodes = PlainNodes::new(rt.alloc(), 2, 10)?;
+    let mut shelf = Shelf::new(rt.alloc(), nodes);
+    let p = shelf.put_var(0)?;
+    let q = shelf.put_var(1)?;
+    let not_q = shelf.put(Act::Not, q, q, q)?;
+    let by_xor = shelf.put(Act::Xor, p, q, q)?;
+    let by_ite = shelf.put(Act::Ite, p, not_q, q)?;
+    assert!(rt; shelf.are_same(by_xor, by_ite)?);
+    Ok(())
+}
+
+#[test]
+fn one_step_makes_one_variable(rt: HostRuntime) -> Result<(), Fail> {
+    let mut nodes = PlainNodes::new(rt.alloc(), 2, 1)?;
+    let ops = Ops::new(rt.alloc());
+    let first = ops.var(&mut nodes, 0)?;
+    let second = ops.var(&mut nodes, 1);
+    let again = ops.var(&mut nodes, 0)?;
+    assert_eq!(rt; second, Err(OpFault::StepsOut));
+    assert_eq!(rt; again, first);
+    assert!(rt; !ops.is_false(&nodes, first) && !ops.is_true(&nodes, first));
+    assert!(rt; ops.is_false(&nodes, Ref::FALSE) && ops.is_true(&nodes, Ref::TRUE));
+    Ok(())
+}
+
+#[test]
+fn a_call_goes_4000_variables_deep(rt: HostRuntime) -> Result<(), Fail> {
+    let nodes = PlainNodes::new(rt.alloc(), 4000, 20000)?;
+    let mut shelf = Shelf::new(rt.alloc(), nodes);
+    let mut all = shelf.put_var(3999)?;
+    for v in 1..4000 {
+        let x = shelf.put_var(3999 - v)?;
+        all = shelf.put(Act::And, x, all, 0)?;
+    }
+    let none = shelf.put(Act::Not, all, 0, 0)?;
+    let back = shelf.put(Act::Not, none, 0, 0)?;
+    assert!(rt; shelf.are_same(all, back)?);
+    Ok(())
+}
+
+/// Adds the products of variable i and variable 8 + i to a sum, by `both` and `either`, or with negated variables the
+/// other way round.
+fn shelve_pairs<N: Nodes + Drop>(
+    shelf: &mut Shelf<N>,
+    first: usize,
+    both: Act,
+    either: Act,
+) -> Result<usize, Fail>
+    requires { first ≤ 16 }
+{
+    let mut all = shelf.put(both, first, first + 8, 0)?;
+    for i in 1..8 {
+        let pair = shelf.put(both, first + i, first + 8 + i, 0)?;
+        all = shelf.put(either, all, pair, 0)?;
+    }
+    Ok(all)
+}
+
+#[test]
+fn a_memo_grows_within_a_call(rt: HostRuntime) -> Result<(), Fail> {
+    let nodes = PlainNodes::new(rt.alloc(), 16, 10000)?;
+    let mut shelf = Shelf::new(rt.alloc(), nodes);
+    for v in 0..16 {
+        shelf.put_var(v)?;
+    }
+    for v in 0..16 {
+        shelf.put(Act::Not, v, 0, 0)?;
+    }
+    let sum = shelve_pairs(&mut shelf, 0, Act::And, Act::Or)?;
+    let dual = shelve_pairs(&mut shelf, 16, Act::Or, Act::And)?;
+    let negated = shelf.put(Act::Not, sum, 0, 0)?;
+    let differ = shelf.put(Act::Xor, sum, dual, 0)?;
+    let always = shelf.put(Act::Ite, differ, differ, negated)?;
+    assert!(rt; shelf.are_same(negated, dual)?);
+    assert!(rt; shelf.are_same(always, differ)?);
+    Ok(())
+}

@@ -1,5 +1,0 @@
-use Rattle.dd_nodes.proofs.Walks.{from_constant}
-use Rattle.dual_rail.proofs.tests.constant_set.Goals as goal
-
-pub returns : goal.returns
-returns c = λ s. record { zero = from_constant s.held 0 c.constant.result c.constant.ensures; one = from_constant s.held 0 c.constant-2.result c.constant-2.ensures }

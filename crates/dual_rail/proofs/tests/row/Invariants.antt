@@ -1,6 +1,0 @@
-use Rattle.std.proofs.Common.{◌≡◌, length}
-use Rattle.dual_rail.proofs.tests.row.Given as goal
-
--- a literal for each turn
-abbrev pub invariant-loop : goal.invariant-loop
-invariant-loop l = length l.row ≡ l.counter
