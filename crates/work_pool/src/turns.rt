@@ -1,6 +1,6 @@
 //! In which order the jobs are shared out; begin with `turns_of`.
 
-ghost use Rattle.std.specs.Prelude.{◌<◌, All, length};
+ghost use Rattle.std.specs.Prelude.{◌<◌, ◌≤◌, All, length};
 
 use std::alloc::{AllocError, Global};
 use ste_model::{Task, depth};
@@ -31,13 +31,41 @@ fn ranked_tasks(
     Ok(ranked)
 }
 
+/// 2^32 over the golden ratio.
+const GOLDEN: u64 = 0x9E37_79B9;
+
+/// Which of so many runs comes first in a round. Over rounds at equal distances each run is first about as often as any
+/// other.
+fn first_run(round: usize, runs: usize) -> usize
+    ensures { result ≤ runs }
+{
+    let fraction = (round as u64).wrapping_mul(GOLDEN) % (1 << 32);
+    let share = fraction.wrapping_mul(runs as u64) >> 32;
+    (share as usize).min(runs)
+}
+
+/// The places below `count` of a round: the one of this number in each run of so many.
+fn places_of_round(
+    alloc: Global,
+    count: usize,
+    run: usize,
+    round: usize,
+) -> Result<Vec<usize>, AllocError>
+    requires { 0 < run }
+{
+    let mut places: Vec<usize> = (round..count).step_by(run).collect(alloc)?;
+    let first = first_run(round, places.len());
+    places.rotate_left(first);
+    Ok(places)
+}
+
 /// The places below `count`: the first of each run of so many, then the second of each, and so on.
 fn places_in_turn(alloc: Global, count: usize, run: usize) -> Result<Vec<usize>, AllocError>
     requires { 0 < run }
 {
     let mut places = Vec::new(alloc);
-    for first in 0..run {
-        for place in (first..count).step_by(run) {
+    for round in 0..run {
+        for place in places_of_round(alloc, count, run, round)? {
             places.push(place)?;
         }
     }
@@ -45,7 +73,8 @@ fn places_in_turn(alloc: Global, count: usize, run: usize) -> Result<Vec<usize>,
 }
 
 /// The turn of each task of these numbers. In the order of turns, each worker's run begins with one of the longest tasks,
-/// and goes on with shorter ones.
+/// and goes on with shorter ones. Tasks of one size that stand at equal distances in the file come to all workers, since in
+/// each round another one is first: it is often they that fail, and take longer.
 pub(crate) fn turns_of(
     alloc: Global,
     tasks: &[Task],
