@@ -224,19 +224,30 @@ fn chain(alloc: Global, vertices: u32) -> Result<Vec<EdgeCase>, AllocError> {
     Ok(cases)
 }
 
+/// The report of a chain of so many vertices, with so many steps, and the steps that were used.
+fn chain_report(alloc: Global, vertices: u32, steps: u32) -> Result<(Report, u32), Fail>
+    requires { steps ≤ 1000 }
+{
+    let ready = lat(alloc)?;
+    let cases = chain(alloc, vertices)?;
+    let graph = graph_of(alloc, &ready, false, vertices, &cases)?;
+    Ok(report_of(alloc, &ready, &graph, steps)?)
+}
+
+/// Whether a report tells of a failure for both bits of p on the last edge of a chain of a thousand vertices.
+fn fails_at_the_end(report: &Report) -> bool {
+    let path = report.path.as_slice();
+    report.verdict == Verdict::Strong
+        && path.len() == 999
+        && path.iter().zip(0u32..999).all(|(number, k)| *number == k)
+        && report.fails == Some((NodeId(Q), 998))
+        && has_cubes(&report.guards.strong, true, true)
+}
+
 #[test]
 fn a_chain_of_a_thousand_vertices(rt: HostRuntime) -> Result<(), Fail> {
-    let alloc = rt.alloc();
-    let ready = lat(alloc)?;
-    let cases = chain(alloc, 1000)?;
-    let graph = graph_of(alloc, &ready, false, 1000, &cases)?;
-    let (report, _) = report_of(alloc, &ready, &graph, 1000)?;
-    assert_eq!(rt; report.verdict, Verdict::Strong);
-    assert_eq!(rt; report.path.len(), 999);
-    let path = report.path.as_slice();
-    assert!(rt; path.iter().zip(0u32..999).all(|(number, k)| *number == k));
-    assert!(rt; report.fails == Some((NodeId(Q), 998)));
-    assert!(rt; has_cubes(&report.guards.strong, true, true));
+    let (report, _) = chain_report(rt.alloc(), 1000, 1000)?;
+    assert!(rt; fails_at_the_end(&report), "{report:?}");
     Ok(())
 }
 
@@ -268,43 +279,51 @@ fn is_path(path: &[u32], first: u32, second: u32) -> bool {
     }
 }
 
-#[test]
-fn ten_thousand_parallel_edges(rt: HostRuntime) -> Result<(), Fail> {
-    let alloc = rt.alloc();
+/// The report of so many parallel edges.
+fn parallel_report(alloc: Global, edges: u32) -> Result<Report, Fail> {
     let ready = lat(alloc)?;
-    let count = many();
-    let cases = parallel(alloc, count)?;
+    let cases = parallel(alloc, edges)?;
     let graph = graph_of(alloc, &ready, false, 3, &cases)?;
     let (report, _) = report_of(alloc, &ready, &graph, 1000)?;
-    assert_eq!(rt; report.verdict, Verdict::Weak);
-    assert!(rt; is_path(report.path.as_slice(), 0, count));
-    assert!(rt; report.fails == Some((NodeId(Q), 1)));
-    assert!(rt; has_cubes(&report.guards.weak, true, true));
+    Ok(report)
+}
+
+#[test]
+fn ten_thousand_parallel_edges(rt: HostRuntime) -> Result<(), Fail> {
+    let count = many();
+    let report = parallel_report(rt.alloc(), count)?;
+    let told = report.verdict == Verdict::Weak
+        && is_path(report.path.as_slice(), 0, count)
+        && report.fails == Some((NodeId(Q), 1))
+        && has_cubes(&report.guards.weak, true, true);
+    assert!(rt; told, "{report:?}");
     Ok(())
 }
 
 /// How many steps the chain of three vertices needs: one for p and one for its opposite.
 const NEED: u32 = 2;
 
-/// With as many steps as are needed, and with more, a graph has its verdict; with fewer it has its verdict, or it has used
-/// all of them.
+/// Whether the report of the chain of three vertices with so many steps is as it should be: with as many as it needs, and
+/// with more, it has its verdict; with fewer, but not without any, it may have it too, or it says budget and has used all.
+fn is_right(report: &Report, used: u32, steps: u32) -> bool {
+    match report.verdict {
+        Verdict::Budget => {
+            steps < NEED
+                && used == steps
+                && report.least.is_none()
+                && report.path.len() == 0
+                && report.run.is_none()
+        }
+        Verdict::Strong => steps > 0,
+        _ => false,
+    }
+}
+
 #[test]
 fn steps_at_the_need_suffice(rt: HostRuntime) -> Result<(), Fail> {
-    let alloc = rt.alloc();
-    let ready = lat(alloc)?;
-    let cases = chain(alloc, 3)?;
-    let graph = graph_of(alloc, &ready, false, 3, &cases)?;
-    let (none, _) = report_of(alloc, &ready, &graph, 0)?;
-    assert_eq!(rt; none.verdict, Verdict::Budget);
     for steps in 0..10 {
-        let (report, used) = report_of(alloc, &ready, &graph, steps)?;
-        if report.verdict == Verdict::Budget {
-            assert!(rt; steps < NEED);
-            assert_eq!(rt; used, steps);
-            assert!(rt; report.least.is_none() && report.path.len() == 0 && report.run.is_none());
-        } else {
-            assert_eq!(rt; report.verdict, Verdict::Strong);
-        }
+        let (report, used) = chain_report(rt.alloc(), 3, steps)?;
+        assert!(rt; is_right(&report, used, steps), "{steps}: {report:?}");
     }
     Ok(())
 }

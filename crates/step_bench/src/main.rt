@@ -7,6 +7,7 @@
 mod nets;
 
 ghost use Rattle.std.specs.Prelude.{◌≡◌, ◌≤◌, [], ℕ, length, map, All, IfOk};
+ghost use Rattle.step_bench.specs.Made.{covers_of};
 ghost use Rattle.sym_step.specs.Step.{IsCutOf, rows_of};
 
 use crate::nets::{Mix, net};
@@ -106,7 +107,90 @@ fn nanos(rt: &HostRuntime, start: Instant) -> io::Result<u64> {
     Ok(u64::try_from(start.elapsed(rt)?.as_nanos()).unwrap_or(u64::MAX))
 }
 
-/// Steps of a net; none where memory or nodes were wanting.
+/// What is measured with these cuts; none where memory or nodes were wanting.
+fn timed<N: Nodes>(
+    rt: &HostRuntime,
+    alloc: Global,
+    ops: &Ops,
+    nodes: &mut N,
+    net: &Net,
+    rows: &GateRows,
+    cuts: &[Cut],
+    count: u32,
+) -> io::Result<Option<Figures>>
+    requires rows { rows.now.covers ≡ map rows_of net.now.raw.covers }
+    requires latches { net.now.raw.latches ≡ [] }
+    requires cuts { All (IsCutOf (N.store nodes.old) net.now.raw) cuts.now }
+{
+    let start = Instant::now(rt)?;
+    if steps(alloc, ops, nodes, net, rows, cuts, 1).is_err() {
+        return Ok(None);
+    }
+    let first = nanos(rt, start)?;
+    let start = Instant::now(rt)?;
+    if steps(alloc, ops, nodes, net, rows, cuts, count).is_err() {
+        return Ok(None);
+    }
+    let others = nanos(rt, start)?;
+    let start = Instant::now(rt)?;
+    if kept_steps(alloc, ops, nodes, net, rows, cuts, count).is_err() {
+        return Ok(None);
+    }
+    let kept = nanos(rt, start)?;
+    Ok(Some(Figures {
+        used: nodes.used(),
+        first,
+        others,
+        kept,
+    }))
+}
+
+/// What is measured over a store; none where memory or nodes were wanting.
+fn figures_over<N: Nodes>(
+    rt: &HostRuntime,
+    alloc: Global,
+    nodes: &mut N,
+    net: &Net,
+    rows: &GateRows,
+    vars: u32,
+    count: u32,
+) -> io::Result<Option<Figures>>
+    requires inside { 8 ≤ net.now.raw.nets }
+    requires vars { vars ≤ 8 }
+    requires store { 8 ≤ (N.store nodes.old).vars }
+    requires rows { rows.now.covers ≡ map rows_of net.now.raw.covers }
+    requires latches { net.now.raw.latches ≡ [] }
+{
+    let ops = Ops::new(alloc);
+    let Ok(cuts) = cuts(alloc, &ops, nodes, net, vars) else {
+        return Ok(None);
+    };
+    timed(rt, alloc, &ops, nodes, net, rows, &cuts, count)
+}
+
+/// What is measured of a net; none where memory or nodes were wanting.
+fn measure_net(
+    rt: &HostRuntime,
+    alloc: Global,
+    net: &Net,
+    vars: u32,
+    count: u32,
+) -> io::Result<Option<Figures>>
+    requires inside { 8 ≤ net.now.raw.nets }
+    requires latches { net.now.raw.latches ≡ [] }
+    requires covers { net.now.raw.covers ≡ covers_of }
+    requires vars { vars ≤ 8 }
+{
+    let Ok(rows) = GateRows::of(alloc, net) else {
+        return Ok(None);
+    };
+    let Ok(mut nodes) = PlainNodes::new(alloc, 8, 32000000) else {
+        return Ok(None);
+    };
+    figures_over(rt, alloc, &mut nodes, net, &rows, vars, count)
+}
+
+/// What is measured of a net of so many gates; none where memory or nodes were wanting.
 fn measure(
     rt: &HostRuntime,
     alloc: Global,
@@ -121,37 +205,7 @@ fn measure(
     let Ok(net) = net(alloc, gates, mix) else {
         return Ok(None);
     };
-    let Ok(rows) = GateRows::of(alloc, &net) else {
-        return Ok(None);
-    };
-    let ops = Ops::new(alloc);
-    let Ok(mut nodes) = PlainNodes::new(alloc, 8, 32000000) else {
-        return Ok(None);
-    };
-    let Ok(cuts) = cuts(alloc, &ops, &mut nodes, &net, vars) else {
-        return Ok(None);
-    };
-    let start = Instant::now(rt)?;
-    if steps(alloc, &ops, &mut nodes, &net, &rows, &cuts, 1).is_err() {
-        return Ok(None);
-    }
-    let first = nanos(rt, start)?;
-    let start = Instant::now(rt)?;
-    if steps(alloc, &ops, &mut nodes, &net, &rows, &cuts, count).is_err() {
-        return Ok(None);
-    }
-    let others = nanos(rt, start)?;
-    let start = Instant::now(rt)?;
-    if kept_steps(alloc, &ops, &mut nodes, &net, &rows, &cuts, count).is_err() {
-        return Ok(None);
-    }
-    let kept = nanos(rt, start)?;
-    Ok(Some(Figures {
-        used: nodes.used(),
-        first,
-        others,
-        kept,
-    }))
+    measure_net(rt, alloc, &net, vars, count)
 }
 
 fn number(word: &str, greatest: u32) -> u32
