@@ -77,6 +77,18 @@ fn rows_of(alloc: Global, texts: &[&[u8]]) -> Result<Vec<Items<bool>>, AllocErro
     Ok(rows)
 }
 
+/// The rows of the run of the sample with the bits of these texts.
+fn rows_given(alloc: Global, times: Time, texts: &[&[u8]]) -> Result<Vec<u8>, Fail> {
+    let net = net_of(alloc, SAMPLE)?;
+    run_of_texts(alloc, &net, times, texts)
+}
+
+/// The rows of the run with the bits of these texts.
+fn run_of_texts(alloc: Global, net: &Net, times: Time, texts: &[&[u8]]) -> Result<Vec<u8>, Fail> {
+    let rows = rows_of(alloc, texts)?;
+    run_with(alloc, net, times, &rows, &[false, true, false])
+}
+
 /// Numbers of times, the bits of d, f and z at each, and the rows of the run.
 const GIVEN: &[(Time, &[&[u8]], &[u8])] = &[
     (
@@ -89,11 +101,8 @@ const GIVEN: &[(Time, &[&[u8]], &[u8])] = &[
 
 #[test]
 fn rows_of_given_bits(rt: HostRuntime) -> Result<(), Fail> {
-    let alloc = rt.alloc();
-    let net = net_of(alloc, SAMPLE)?;
     for (times, texts, want) in GIVEN {
-        let rows = rows_of(alloc, texts)?;
-        let got = run_with(alloc, &net, *times, &rows, &[false, true, false])?;
+        let got = rows_given(rt.alloc(), *times, texts)?;
         assert_eq!(rt; got.as_slice(), *want, "at {times}");
     }
     Ok(())
@@ -110,29 +119,62 @@ fn rows_at(alloc: Global, rows: &[Items<bool>], t: usize) -> Result<Vec<Items<bo
     Ok(found)
 }
 
-/// Whether a run of 67 times has at each of them the bits of a run of one time, from what the latches hold by then.
+/// Whether a run of 67 times has at this one the bits of a run of one time, from what the latches hold by then; and what
+/// they hold next.
+fn agrees_at(
+    alloc: Global,
+    net: &Net,
+    inputs: &[Items<bool>],
+    long: &[u8],
+    held: &mut Vec<bool>,
+    t: usize,
+) -> Result<bool, Fail>
+    requires { t < 67 }
+{
+    let rows = rows_at(alloc, inputs, t)?;
+    let one = run_with(alloc, net, 1, rows.as_slice(), held.as_slice())?;
+    for id in 0..net.nets() as usize {
+        if one.get(2 * id + 1).copied() != long.get(68 * id + t + 1).copied() {
+            return Ok(false);
+        }
+    }
+    held.clear();
+    for latch in net.latches() {
+        held.push(one.get(2 * latch.input.0 as usize + 1).copied() == Some(b'1'))?;
+    }
+    Ok(true)
+}
+
+/// Whether a run of 67 times has at each of them the bits of a run of one time.
 fn is_step_by_step(
     alloc: Global,
     net: &Net,
     inputs: &[Items<bool>],
-    first: &[bool],
+    long: &[u8],
 ) -> Result<bool, Fail> {
-    let long = run_with(alloc, net, 67, inputs, first)?;
-    let mut held: Vec<bool> = first.iter().copied().collect(alloc)?;
+    let mut held = Vec::new(alloc);
+    for bit in [false, true, false] {
+        held.push(bit)?;
+    }
     for t in 0..67 {
-        let rows = rows_at(alloc, inputs, t)?;
-        let one = run_with(alloc, net, 1, rows.as_slice(), held.as_slice())?;
-        for id in 0..net.nets() as usize {
-            if one.get(2 * id + 1).copied() != long.get(68 * id + t + 1).copied() {
-                return Ok(false);
-            }
-        }
-        held.clear();
-        for latch in net.latches() {
-            held.push(one.get(2 * latch.input.0 as usize + 1).copied() == Some(b'1'))?;
+        if !agrees_at(alloc, net, inputs, long, &mut held, t)? {
+            return Ok(false);
         }
     }
     Ok(true)
+}
+
+/// Whether the run of a net over 67 times with the bits of these texts is step by step.
+fn long_agrees(alloc: Global, net: &Net, texts: &[&[u8]]) -> Result<bool, Fail> {
+    let inputs = rows_of(alloc, texts)?;
+    let long = run_with(alloc, net, 67, &inputs, &[false, true, false])?;
+    is_step_by_step(alloc, net, &inputs, &long)
+}
+
+/// The same of the sample.
+fn sample_agrees(alloc: Global, texts: &[&[u8]]) -> Result<bool, Fail> {
+    let net = net_of(alloc, SAMPLE)?;
+    long_agrees(alloc, &net, texts)
 }
 
 /// The bits of d, f and z at 67 times.
@@ -144,14 +186,9 @@ const LONG: &[&[u8]] = &[
 
 #[test]
 fn a_long_run_is_step_by_step(rt: HostRuntime) -> Result<(), Fail> {
-    let alloc = rt.alloc();
-    let net = net_of(alloc, SAMPLE)?;
-    let rows = rows_of(alloc, LONG)?;
-    if is_step_by_step(alloc, &net, &rows, &[false, true, false])? {
-        Ok(())
-    } else {
-        Err("a long run and its times, one by one, differ".into())
-    }
+    let same = sample_agrees(rt.alloc(), LONG)?;
+    assert!(rt; same);
+    Ok(())
 }
 
 /// The value of the variable, or 1.
@@ -212,6 +249,12 @@ fn printed(alloc: Global, net: &Net, reset: bool, latch: bool, bit: bool) -> Res
     Ok(text)
 }
 
+/// The rows of the printed run of such a task on the sample.
+fn sample_printed(alloc: Global, reset: bool, latch: bool, bit: bool) -> Result<Vec<u8>, Fail> {
+    let net = net_of(alloc, SAMPLE)?;
+    printed(alloc, &net, reset, latch, bit)
+}
+
 /// Whether a task has reset, whether it gives q a bit, the variable's bit, and the rows of the printed run.
 const PRINTED: &[(bool, bool, bool, &[u8])] = &[
     (false, true, true, b" 110 111 010 001 001 010 011 000"),
@@ -222,10 +265,8 @@ const PRINTED: &[(bool, bool, bool, &[u8])] = &[
 
 #[test]
 fn printed_runs_have_what_is_asked_and_0_elsewhere(rt: HostRuntime) -> Result<(), Fail> {
-    let alloc = rt.alloc();
-    let net = net_of(alloc, SAMPLE)?;
     for (reset, latch, bit, want) in PRINTED {
-        let got = printed(alloc, &net, *reset, *latch, *bit)?;
+        let got = sample_printed(rt.alloc(), *reset, *latch, *bit)?;
         assert_eq!(rt; got.as_slice(), *want, "at {reset}, {latch} and {bit}");
     }
     Ok(())
@@ -288,17 +329,28 @@ fn are_numbers(path: &[u32], edges: &[Edge]) -> bool
     path.iter().all(|number| (*number as usize) < count)
 }
 
+/// The rows of the printed run of a net along a path of the graph.
+fn run_on_path(
+    alloc: Global,
+    net: &Net,
+    graph: &Graph,
+    path: &[u32],
+    bit: bool,
+) -> Result<Vec<u8>, Fail> {
+    let edges = graph.edges.as_slice();
+    if !edges_bind_nets(net, edges) || !are_numbers(path, edges) || path.len() > 9 {
+        return Err("a short path of edges over the nets".into());
+    }
+    let run = run_along(alloc, net, graph, path, &[bit])?;
+    let text = text_of(alloc, run.rows.as_slice())?;
+    Ok(text)
+}
+
 /// The rows of the printed run of the latch along a path.
 fn along(alloc: Global, reset: bool, path: &[u32], bit: bool) -> Result<Vec<u8>, Fail> {
     let net = net_of(alloc, LATCH)?;
     let graph = graph(alloc, reset)?;
-    let edges = graph.edges.as_slice();
-    if !edges_bind_nets(&net, edges) || !are_numbers(path, edges) || path.len() > 9 {
-        return Err("a short path of edges over the nets".into());
-    }
-    let run = run_along(alloc, &net, &graph, path, &[bit])?;
-    let text = text_of(alloc, run.rows.as_slice())?;
-    Ok(text)
+    run_on_path(alloc, &net, &graph, path, bit)
 }
 
 /// Whether a graph has reset, the edges of a path, the variable's bit, and the rows of the printed run.
