@@ -4,5 +4,5 @@ pub mod Ranks
 pub mod Agreeing
 pub mod Shared
 pub mod Numbers
-pub mod Runs
+pub mod Portions
 pub mod Frames

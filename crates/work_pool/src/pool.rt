@@ -177,7 +177,7 @@ fn work_at<N: Nodes, G: Gate>(
 
 /// Each of these jobs is done once, one after another. What the store of one remembers goes over to that of the next, and so
 /// does the last frame.
-fn work_run<N: Nodes, G: Gate>(
+fn work_portion<N: Nodes, G: Gate>(
     alloc: Global,
     net: &Net,
     rows: &GateRows,
@@ -210,7 +210,7 @@ fn work_run<N: Nodes, G: Gate>(
     }
 }
 
-/// Each job is done once, by so many workers, each of which has a run of neighbouring jobs.
+/// Each job is done once, by so many workers, each of which has a portion of neighbouring jobs.
 fn work_all<N: Nodes + Send, R: Threads + Sync, G: Gate + Sync>(
     rt: &R,
     alloc: Global,
@@ -238,14 +238,15 @@ fn work_all<N: Nodes + Send, R: Threads + Sync, G: Gate + Sync>(
         rt,
         jobs,
         size,
-        &|_: usize, run: &mut [Job<N>]|
+        &|_: usize, portion: &mut [Job<N>]|
             requires rows { rows.now.covers ≡ map rows_of net.now.raw.covers }
             requires jobs { AreJobs (λ job. N.store job.nodes) (λ job. job.place)
-                net.now.raw tasks.now numbers.now run.old }
+                net.now.raw tasks.now numbers.now portion.old }
             ensures { AreDone (λ job. N.store job.nodes) (λ job. job.place) (λ job. job.outcome)
-                net.entry.now.raw cubes tasks.entry.now numbers.entry.now run.old run.new }
+                net.entry.now.raw cubes tasks.entry.now numbers.entry.now
+                portion.old portion.new }
         {
-            work_run(alloc, net, rows, tasks, numbers, cubes, run, gate);
+            work_portion(alloc, net, rows, tasks, numbers, cubes, portion, gate);
         },
     );
 }

@@ -34,47 +34,47 @@ fn ranked_tasks(
 /// 2^32 over the golden ratio.
 const GOLDEN: u64 = 0x9E37_79B9;
 
-/// Which of so many runs comes first in a round. Over rounds at equal distances each run is first about as often as any
-/// other.
-fn first_run(round: usize, runs: usize) -> usize
-    ensures { result ≤ runs }
+/// Which of so many portions is first to get its nth task. Over numbers at equal distances each portion is first about as
+/// often as any other.
+fn first_portion(nth: usize, portions: usize) -> usize
+    ensures { result ≤ portions }
 {
-    let fraction = (round as u64).wrapping_mul(GOLDEN) % (1 << 32);
-    let share = fraction.wrapping_mul(runs as u64) >> 32;
-    (share as usize).min(runs)
+    let fraction = (nth as u64).wrapping_mul(GOLDEN) % (1 << 32);
+    let place = fraction.wrapping_mul(portions as u64) >> 32;
+    (place as usize).min(portions)
 }
 
-/// The places below `count` of a round: the one of this number in each run of so many.
-fn places_of_round(
+/// The nth places of the portions, of so many places each, below `count`.
+fn nth_places(
     alloc: Global,
     count: usize,
-    run: usize,
-    round: usize,
+    portion: usize,
+    nth: usize,
 ) -> Result<Vec<usize>, AllocError>
-    requires { 0 < run }
+    requires { 0 < portion }
 {
-    let mut places: Vec<usize> = (round..count).step_by(run).collect(alloc)?;
-    let first = first_run(round, places.len());
+    let mut places: Vec<usize> = (nth..count).step_by(portion).collect(alloc)?;
+    let first = first_portion(nth, places.len());
     places.rotate_left(first);
     Ok(places)
 }
 
-/// The places below `count`: the first of each run of so many, then the second of each, and so on.
-fn places_in_turn(alloc: Global, count: usize, run: usize) -> Result<Vec<usize>, AllocError>
-    requires { 0 < run }
+/// The places below `count`: the first of each portion of so many, then the second of each, and so on.
+fn places_in_turn(alloc: Global, count: usize, portion: usize) -> Result<Vec<usize>, AllocError>
+    requires { 0 < portion }
 {
     let mut places = Vec::new(alloc);
-    for round in 0..run {
-        for place in places_of_round(alloc, count, run, round)? {
+    for nth in 0..portion {
+        for place in nth_places(alloc, count, portion, nth)? {
             places.push(place)?;
         }
     }
     Ok(places)
 }
 
-/// The turn of each task of these numbers. In the order of turns, each worker's run begins with one of the longest tasks,
-/// and goes on with shorter ones. Tasks of one size that stand at equal distances in the file come to all workers, since in
-/// each round another one is first: it is often they that fail, and take longer.
+/// The turn of each task of these numbers. In the order of turns, each worker's portion begins with one of the longest
+/// tasks, and goes on with shorter ones. Tasks of one size that stand at equal distances in the file come to all workers,
+/// since it is now one worker and now another that gets its nth task first: it is often they that fail, and take longer.
 pub(crate) fn turns_of(
     alloc: Global,
     tasks: &[Task],
@@ -85,9 +85,9 @@ pub(crate) fn turns_of(
     requires workers { 0 < workers }
 {
     let count = numbers.len();
-    let run = count.div_ceil(workers as usize).max(1);
+    let portion = count.div_ceil(workers as usize).max(1);
     let ranked = ranked_tasks(alloc, tasks, numbers)?;
-    let places = places_in_turn(alloc, count, run)?;
+    let places = places_in_turn(alloc, count, portion)?;
     let mut turns = Vec::from_elem(alloc, 0, count)?;
     for (entry, place) in ranked.iter().zip(places.iter()) {
         if let Some(turn) = turns.get_mut(entry.1) {

@@ -1,7 +1,7 @@
 use Rattle.std.proofs.Common.{◌∙◌, sym, ap, subst, arith}
 use Rattle.dd_nodes.specs.Stores.{Keeps}
 use Rattle.work_pool.specs.private.Jobs.{IsLike}
-use Rattle.work_pool.proofs.Runs.{HandsOn-parts, over_parts}
+use Rattle.work_pool.proofs.Portions.{HandsOn-parts, over_parts}
 use Rattle.work_pool.proofs.pool.hand_over.Goals as goal
 
 pub returns-clause-hands : goal.returns-clause-hands

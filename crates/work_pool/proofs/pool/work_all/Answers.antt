@@ -1,4 +1,4 @@
-use Rattle.work_pool.proofs.Runs.{AreDone-whole, AreJobs-part}
+use Rattle.work_pool.proofs.Portions.{AreDone-whole, AreJobs-part}
 use Rattle.work_pool.proofs.pool.work_all.Goals as goal
 
 pub for_each_chunk_mut-requires-clause-accepts : goal.for_each_chunk_mut-requires-clause-accepts

@@ -3,7 +3,7 @@ use Rattle.std.specs.Prelude.{IfSome}
 use Rattle.ste_model.specs.declared.task.Task.{Task}
 use Rattle.sym_step.specs.private.Frames.{IsFrame}
 use Rattle.work_pool.specs.private.Jobs.{IsDone, IsLike}
-use Rattle.work_pool.proofs.pool.work_run.Given as goal
+use Rattle.work_pool.proofs.pool.work_portion.Given as goal
 
 -- the jobs before the i-th are done, and the others have stores like the first ones; the last frame is one in the store of the i-th
 abbrev pub invariant-loop-i : goal.invariant-loop-i
