@@ -54,20 +54,29 @@ fn run_all(shelf: &mut Shelf<GrowingNodes>, acts: &[Act]) -> bool {
     true
 }
 
-/// The nodes made and the nanoseconds of one run; none where it could not be done.
-fn run_once(rt: &HostRuntime, alloc: Global, trace: &Trace) -> io::Result<Option<(u32, u64)>> {
-    let Ok(nodes) = GrowingNodes::new(alloc, trace.vars, 32000000) else {
-        return Ok(None);
-    };
-    let mut shelf = Shelf::new(alloc, nodes);
+/// The nodes made and the nanoseconds of the operations on a shelf; none where they could not be done.
+fn timed(
+    rt: &HostRuntime,
+    shelf: &mut Shelf<GrowingNodes>,
+    acts: &[Act],
+) -> io::Result<Option<(u32, u64)>> {
     let start = Instant::now(rt)?;
-    let done = shelf.put_constants() && run_all(&mut shelf, trace.acts.as_slice());
+    let done = shelf.put_constants() && run_all(shelf, acts);
     let took = u64::try_from(start.elapsed(rt)?.as_nanos()).unwrap_or(u64::MAX);
     Ok(if done {
         Some((shelf.used(), took))
     } else {
         None
     })
+}
+
+/// The same of one run in a store of its own.
+fn run_once(rt: &HostRuntime, trace: &Trace) -> io::Result<Option<(u32, u64)>> {
+    let Ok(nodes) = GrowingNodes::new(rt.alloc(), trace.vars, 32000000) else {
+        return Ok(None);
+    };
+    let mut shelf = Shelf::new(rt.alloc(), nodes);
+    timed(rt, &mut shelf, trace.acts.as_slice())
 }
 
 /// How many a second.
@@ -78,39 +87,54 @@ fn rate(count: u64, nanos: u64) -> u64 {
     }
 }
 
-/// Runs a workload so often, and prints what was found.
-fn measure(rt: &HostRuntime, name: &str, trace: &Trace, runs: u32) -> io::Result<()> {
+/// The nodes made and the least nanoseconds of so many runs; none where one could not be done.
+fn best_of(rt: &HostRuntime, trace: &Trace, runs: u32) -> io::Result<Option<(u32, u64)>> {
     let mut least = u64::MAX;
     let mut used = 0u32;
     for _ in 0..runs {
-        let Some((made, took)) = run_once(rt, rt.alloc(), trace)? else {
-            return Ok(());
+        let Some((made, took)) = run_once(rt, trace)? else {
+            return Ok(None);
         };
         used = made;
         least = least.min(took);
     }
-    let acts = trace.acts.len();
+    Ok(Some((used, least)))
+}
+
+/// Prints what was measured.
+fn tell(rt: &HostRuntime, name: &str, acts: u64, used: u32, least: u64) -> io::Result<()> {
     println!(rt; "{name}: {acts} operations, {used} nodes")?;
     let nodes = rate(used as u64, least);
-    let operations = rate(acts as u64, least);
-    eprintln!(rt; "{name}: {least} ns, {nodes} nodes a second, {operations} operations a second")?;
-    Ok(())
+    let operations = rate(acts, least);
+    eprintln!(rt; "{name}: {least} ns, {nodes} nodes a second, {operations} operations a second")
+}
+
+/// Runs a workload so often, and prints what was found.
+fn measure(rt: &HostRuntime, name: &str, trace: &Trace, runs: u32) -> io::Result<()> {
+    match best_of(rt, trace, runs)? {
+        Some((used, least)) => tell(rt, name, trace.acts.len() as u64, used, least),
+        None => Ok(()),
+    }
+}
+
+/// An operation as it is printed: its kind and three operands, 0 for those that it lacks.
+fn numbers_of(act: &Act) -> (u32, u32, u32, u32) {
+    match act {
+        Act::Var(v) => (0, *v, 0, 0),
+        Act::Not(a) => (1, *a, 0, 0),
+        Act::And(a, b) => (2, *a, *b, 0),
+        Act::Or(a, b) => (3, *a, *b, 0),
+        Act::Xor(a, b) => (4, *a, *b, 0),
+        Act::Ite(c, a, b) => (5, *c, *a, *b),
+    }
 }
 
 /// Prints the operations: the number of variables and of operations, and a line for each.
 fn print(rt: &HostRuntime, trace: &Trace) -> io::Result<()> {
-    let vars = trace.vars;
-    let acts = trace.acts.len();
-    println!(rt; "{vars} {acts}")?;
+    println!(rt; "{} {}", trace.vars, trace.acts.len())?;
     for act in &trace.acts {
-        match act {
-            Act::Var(v) => println!(rt; "0 {v} 0 0")?,
-            Act::Not(a) => println!(rt; "1 {a} 0 0")?,
-            Act::And(a, b) => println!(rt; "2 {a} {b} 0")?,
-            Act::Or(a, b) => println!(rt; "3 {a} {b} 0")?,
-            Act::Xor(a, b) => println!(rt; "4 {a} {b} 0")?,
-            Act::Ite(c, a, b) => println!(rt; "5 {c} {a} {b}")?,
-        }
+        let (kind, a, b, c) = numbers_of(act);
+        println!(rt; "{kind} {a} {b} {c}")?;
     }
     Ok(())
 }
@@ -122,21 +146,23 @@ fn number(word: &str) -> u32 {
     }
 }
 
-fn main(rt: HostRuntime) -> io::Result<()> {
-    let alloc = rt.alloc();
-    let words = env::args(&rt)?.skip(1).collect::<Vec<String>>(alloc)?;
-    match words.as_slice() {
+/// Does what the words behind the program's name ask for.
+fn answer(rt: &HostRuntime, words: &[String]) -> io::Result<()> {
+    match words {
         [first, name, size] if first.as_str() == "print" => {
-            print(&rt, &workload(alloc, name, number(size))?)
+            print(rt, &workload(rt.alloc(), name, number(size))?)
         }
-        [name, size, runs] => {
-            measure(
-                &rt,
-                name,
-                &workload(alloc, name, number(size))?,
-                number(runs),
-            )
-        }
+        [name, size, runs] => measure(
+            rt,
+            name,
+            &workload(rt.alloc(), name, number(size))?,
+            number(runs),
+        ),
         _ => println!(rt; "dd_bench [print] WORKLOAD SIZE [RUNS]"),
     }
+}
+
+fn main(rt: HostRuntime) -> io::Result<()> {
+    let words = env::args(&rt)?.skip(1).collect::<Vec<String>>(rt.alloc())?;
+    answer(&rt, words.as_slice())
 }
