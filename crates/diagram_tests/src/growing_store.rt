@@ -1,58 +1,51 @@
 //! Tests of the store that grows.
 
-ghost use Rattle.std.specs.Prelude.{◌≡◌, ◌<◌, IfOk, Some};
-ghost use Rattle.dd_nodes.specs.Stores.{Keeps, node_of};
+ghost use Rattle.std.specs.Prelude.{◌≡◌};
 
+use crate::made_once::{is_made_once, variable};
 use dd_growing::GrowingNodes;
-use dd_nodes::{MkFault, Node, Nodes, Operator, Ref};
+use dd_nodes::{MkFault, Nodes, Operator, Ref};
+use std::alloc::Global;
 use std::test::Fail;
-
-fn variable<N: Nodes>(nodes: &mut N, var: u32) -> Result<Ref, MkFault>
-    requires { var < (N.store nodes.old).vars }
-    ensures keeps { Keeps (N.store nodes.old) (N.store nodes.new) }
-    ensures ok { IfOk result (λ r.
-        (N.store nodes.new).held r ≡ Some (node_of var Ref.FALSE Ref.TRUE)) }
-{
-    nodes.mk(var, Ref::FALSE, Ref::TRUE)
-}
 
 #[test]
 fn makes_a_node_once_and_no_more_than_the_limit(rt: HostRuntime) -> Result<(), Fail> {
     let mut nodes = GrowingNodes::new(rt.alloc(), 2, 1)?;
-    let first = variable(&mut nodes, 0)?;
-    let again = variable(&mut nodes, 0)?;
-    let second = variable(&mut nodes, 1);
-    let held = nodes.node(first);
-    assert_eq!(rt; again, first);
-    assert_eq!(rt; second, Err(MkFault::StepsOut));
-    assert_eq!(rt;
-        held,
-        Node {
-            var: 0,
-            lo: Ref::FALSE,
-            hi: Ref::TRUE
-        }
-    );
-    assert_eq!(rt; (nodes.used(), nodes.limit(), nodes.vars()), (1, 1, 2));
+    assert!(rt; is_made_once(&mut nodes));
     Ok(())
+}
+
+/// Whether an empty store of three variables that may make one node finds, begun anew, the node that it holds, and makes
+/// one more; and so once more.
+fn begins_again(nodes: &mut GrowingNodes) -> bool
+    requires { (⟦<GrowingNodes as Nodes>⟧.store nodes.old).vars ≡ 3 }
+{
+    let first = variable(nodes, 0);
+    nodes.begin(1);
+    let begun = (nodes.used(), nodes.limit()) == (0, 1);
+    let again = variable(nodes, 0);
+    let held = nodes.used() == 0;
+    let second = variable(nodes, 1);
+    let made = nodes.used() == 1;
+    let refused = variable(nodes, 2);
+    nodes.begin(1);
+    let third = variable(nodes, 2);
+    begun
+        && first.is_ok()
+        && again == first
+        && held
+        && second.is_ok()
+        && second != first
+        && made
+        && refused == Err(MkFault::StepsOut)
+        && third.is_ok()
+        && third != second
 }
 
 #[test]
 fn begins_again_with_the_nodes_that_it_holds(rt: HostRuntime) -> Result<(), Fail> {
     let mut nodes = GrowingNodes::new(rt.alloc(), 3, 1)?;
-    let first = variable(&mut nodes, 0)?;
-    nodes.begin(1);
-    assert_eq!(rt; (nodes.used(), nodes.limit()), (0, 1));
-    let again = variable(&mut nodes, 0)?;
-    assert_eq!(rt; again, first);
-    assert_eq!(rt; nodes.used(), 0);
-    let second = variable(&mut nodes, 1)?;
-    assert_eq!(rt; second == first, false);
-    assert_eq!(rt; nodes.used(), 1);
-    assert_eq!(rt; variable(&mut nodes, 2), Err(MkFault::StepsOut));
-    nodes.begin(1);
-    let third = variable(&mut nodes, 2)?;
-    assert_eq!(rt; third == second, false);
+    assert!(rt; begins_again(&mut nodes));
     Ok(())
 }
 
@@ -78,12 +71,21 @@ fn finds_each_node_in_a_table_that_has_grown(rt: HostRuntime) -> Result<(), Fail
     Ok(())
 }
 
+/// Whether a store recalls what it remembers of an operator, and of no other.
+fn recalls<N: Nodes>(alloc: Global, nodes: &mut N) -> bool
+    requires { (N.store nodes.old).vars ≡ 2 }
+{
+    let Ok(p) = variable(nodes, 0) else {
+        return false;
+    };
+    nodes.remember(alloc, Operator::And, p, p, Ref::FALSE, p);
+    nodes.recall(Operator::And, p, p, Ref::FALSE) == Some(p)
+        && nodes.recall(Operator::Or, p, p, Ref::FALSE).is_none()
+}
+
 #[test]
 fn what_was_remembered_is_recalled(rt: HostRuntime) -> Result<(), Fail> {
     let mut nodes = GrowingNodes::new(rt.alloc(), 2, 2)?;
-    let p = variable(&mut nodes, 0)?;
-    nodes.remember(rt.alloc(), Operator::And, p, p, Ref::FALSE, p);
-    assert_eq!(rt; nodes.recall(Operator::And, p, p, Ref::FALSE), Some(p));
-    assert_eq!(rt; nodes.recall(Operator::Or, p, p, Ref::FALSE), None);
+    assert!(rt; recalls(rt.alloc(), &mut nodes));
     Ok(())
 }

@@ -7,6 +7,8 @@ mod bound;
 #[cfg(test)]
 mod growing_store;
 #[cfg(test)]
+mod made_once;
+#[cfg(test)]
 mod operations;
 #[cfg(test)]
 mod plain_store;

@@ -1,10 +1,11 @@
 //! Tests of the operations over the plain store.
 
-ghost use Rattle.std.specs.Prelude.{◌<◌, ◌≤◌};
+ghost use Rattle.std.specs.Prelude.{◌≡◌, ◌<◌, ◌≤◌};
 
 use crate::shelf::{Act, Shelf};
 use dd_nodes::{Nodes, PlainNodes, Ref};
 use dd_ops::{OpFault, Ops};
+use std::process::Abort;
 use std::test::Fail;
 
 /// The place of the function of three variables that is 0 everywhere. The one whose value at assignment k is bit k of
@@ -63,58 +64,81 @@ fn gives<N: Nodes + Drop>(
     shelf.are_same(made, ZERO + usize::from(table))
 }
 
+/// Whether each act gives on these functions what it gives on their tables.
+fn follow_tables<N: Nodes + Drop>(shelf: &mut Shelf<N>, s: u8, t: u8, u: u8) -> Result<bool, Fail> {
+    Ok(
+        gives(shelf, Act::Not, s, t, u, !s)?
+            && gives(shelf, Act::And, s, t, u, s & t)?
+            && gives(shelf, Act::Or, s, t, u, s | t)?
+            && gives(shelf, Act::Xor, s, t, u, s ^ t)?
+            && gives(shelf, Act::Ite, s, t, u, (s & t) | (!s & u))?,
+    )
+}
+
+/// Compares what each act gives on pairs of all functions with their tables.
+fn compare_tables<N: Nodes + Drop>(rt: &impl Abort, shelf: &mut Shelf<N>) -> Result<(), Fail> {
+    for pair in 0u32..65536 {
+        let s = (pair / 256) as u8;
+        let t = (pair % 256) as u8;
+        let u = (pair % 257 % 256) as u8;
+        assert!(rt; follow_tables(shelf, s, t, u)?, "{s} {t} {u}");
+    }
+    Ok(())
+}
+
 #[test]
 fn operations_follow_truth_tables(rt: HostRuntime) -> Result<(), Fail> {
     let nodes = PlainNodes::new(rt.alloc(), 3, 1000)?;
     let mut shelf = Shelf::new(rt.alloc(), nodes);
     shelve_functions(&mut shelf)?;
-    for pair in 0u32..65536 {
-        let s = (pair / 256) as u8;
-        let t = (pair % 256) as u8;
-        let u = (pair % 257 % 256) as u8;
-        assert!(rt; gives(&mut shelf, Act::Not, s, t, u, !s)?, "not {s}");
-        assert!(rt; gives(&mut shelf, Act::And, s, t, u, s & t)?, "and {s} {t}");
-        assert!(rt; gives(&mut shelf, Act::Or, s, t, u, s | t)?, "or {s} {t}");
-        assert!(rt; gives(&mut shelf, Act::Xor, s, t, u, s ^ t)?, "xor {s} {t}");
-        assert!(rt;
-            gives(&mut shelf, Act::Ite, s, t, u, (s & t) | (!s & u))?,
-            "ite {s} {t} {u}"
-        );
-    }
-    Ok(())
+    compare_tables(&rt, &mut shelf)
+}
+
+/// Whether the difference of two variables is one diagram, by `xor` and by `ite`.
+fn is_one_difference<N: Nodes + Drop>(shelf: &mut Shelf<N>) -> Result<bool, Fail> {
+    let p = shelf.put_var(0)?;
+    let q = shelf.put_var(1)?;
+    let not_q = shelf.put(Act::Not, q, q, q)?;
+    let by_xor = shelf.put(Act::Xor, p, q, q)?;
+    let by_ite = shelf.put(Act::Ite, p, not_q, q)?;
+    shelf.are_same(by_xor, by_ite)
 }
 
 #[test]
 fn difference_by_xor_and_by_ite_is_one_reference(rt: HostRuntime) -> Result<(), Fail> {
     let nodes = PlainNodes::new(rt.alloc(), 2, 10)?;
     let mut shelf = Shelf::new(rt.alloc(), nodes);
-    let p = shelf.put_var(0)?;
-    let q = shelf.put_var(1)?;
-    let not_q = shelf.put(Act::Not, q, q, q)?;
-    let by_xor = shelf.put(Act::Xor, p, q, q)?;
-    let by_ite = shelf.put(Act::Ite, p, not_q, q)?;
-    assert!(rt; shelf.are_same(by_xor, by_ite)?);
+    assert!(rt; is_one_difference(&mut shelf)?);
     Ok(())
+}
+
+/// Whether one step makes one variable, which is found again, and none of which is a constant.
+fn is_one_variable<N: Nodes>(ops: &Ops, nodes: &mut N) -> bool
+    requires { (N.store nodes.old).vars ≡ 2 }
+{
+    let first = ops.var(nodes, 0);
+    let second = ops.var(nodes, 1);
+    let Ok(again) = ops.var(nodes, 0) else {
+        return false;
+    };
+    first == Ok(again)
+        && second == Err(OpFault::StepsOut)
+        && !ops.is_false(nodes, again)
+        && !ops.is_true(nodes, again)
+        && ops.is_false(nodes, Ref::FALSE)
+        && ops.is_true(nodes, Ref::TRUE)
 }
 
 #[test]
 fn one_step_makes_one_variable(rt: HostRuntime) -> Result<(), Fail> {
     let mut nodes = PlainNodes::new(rt.alloc(), 2, 1)?;
     let ops = Ops::new(rt.alloc());
-    let first = ops.var(&mut nodes, 0)?;
-    let second = ops.var(&mut nodes, 1);
-    let again = ops.var(&mut nodes, 0)?;
-    assert_eq!(rt; second, Err(OpFault::StepsOut));
-    assert_eq!(rt; again, first);
-    assert!(rt; !ops.is_false(&nodes, first) && !ops.is_true(&nodes, first));
-    assert!(rt; ops.is_false(&nodes, Ref::FALSE) && ops.is_true(&nodes, Ref::TRUE));
+    assert!(rt; is_one_variable(&ops, &mut nodes));
     Ok(())
 }
 
-#[test]
-fn a_call_goes_4000_variables_deep(rt: HostRuntime) -> Result<(), Fail> {
-    let nodes = PlainNodes::new(rt.alloc(), 4000, 20000)?;
-    let mut shelf = Shelf::new(rt.alloc(), nodes);
+/// Whether the product of 4,000 variables is the negation of its negation.
+fn is_one_product<N: Nodes + Drop>(shelf: &mut Shelf<N>) -> Result<bool, Fail> {
     let mut all = shelf.put_var(3999)?;
     for v in 1..4000 {
         let x = shelf.put_var(3999 - v)?;
@@ -122,7 +146,14 @@ fn a_call_goes_4000_variables_deep(rt: HostRuntime) -> Result<(), Fail> {
     }
     let none = shelf.put(Act::Not, all, 0, 0)?;
     let back = shelf.put(Act::Not, none, 0, 0)?;
-    assert!(rt; shelf.are_same(all, back)?);
+    shelf.are_same(all, back)
+}
+
+#[test]
+fn a_call_goes_4000_variables_deep(rt: HostRuntime) -> Result<(), Fail> {
+    let nodes = PlainNodes::new(rt.alloc(), 4000, 20000)?;
+    let mut shelf = Shelf::new(rt.alloc(), nodes);
+    assert!(rt; is_one_product(&mut shelf)?);
     Ok(())
 }
 
@@ -144,22 +175,26 @@ fn shelve_pairs<N: Nodes + Drop>(
     Ok(all)
 }
 
-#[test]
-fn a_memo_grows_within_a_call(rt: HostRuntime) -> Result<(), Fail> {
-    let nodes = PlainNodes::new(rt.alloc(), 16, 10000)?;
-    let mut shelf = Shelf::new(rt.alloc(), nodes);
+/// Whether a sum of products of sixteen variables is, negated, the product of the sums of their negations.
+fn is_dual<N: Nodes + Drop>(shelf: &mut Shelf<N>) -> Result<bool, Fail> {
     for v in 0..16 {
         shelf.put_var(v)?;
     }
     for v in 0..16 {
         shelf.put(Act::Not, v, 0, 0)?;
     }
-    let sum = shelve_pairs(&mut shelf, 0, Act::And, Act::Or)?;
-    let dual = shelve_pairs(&mut shelf, 16, Act::Or, Act::And)?;
+    let sum = shelve_pairs(shelf, 0, Act::And, Act::Or)?;
+    let dual = shelve_pairs(shelf, 16, Act::Or, Act::And)?;
     let negated = shelf.put(Act::Not, sum, 0, 0)?;
     let differ = shelf.put(Act::Xor, sum, dual, 0)?;
     let always = shelf.put(Act::Ite, differ, differ, negated)?;
-    assert!(rt; shelf.are_same(negated, dual)?);
-    assert!(rt; shelf.are_same(always, differ)?);
+    Ok(shelf.are_same(negated, dual)? && shelf.are_same(always, differ)?)
+}
+
+#[test]
+fn a_memo_grows_within_a_call(rt: HostRuntime) -> Result<(), Fail> {
+    let nodes = PlainNodes::new(rt.alloc(), 16, 10000)?;
+    let mut shelf = Shelf::new(rt.alloc(), nodes);
+    assert!(rt; is_dual(&mut shelf)?);
     Ok(())
 }

@@ -1,62 +1,55 @@
 //! Tests over real tables: the plain store's own, sessions that are split and joined, operations, threads, a full table.
 
-ghost use Rattle.std.specs.Prelude.{◌≡◌, ◌<◌, [], IfOk, Some};
-ghost use Rattle.dd_nodes.specs.Stores.{Keeps, IsRef, node_of};
+ghost use Rattle.std.specs.Prelude.{◌≡◌, [], IfOk};
+ghost use Rattle.dd_nodes.specs.Stores.{IsRef};
 
-use dd_nodes::{MkFault, Node, Nodes, Operator, Ref, Split};
+use crate::made_once::{is_made_once, variable};
+use dd_nodes::{Nodes, Operator, Ref, Split};
 use dd_ops::{OpFault, Ops};
 use dd_table::{SharedTable, TableNodes};
 use std::test::Fail;
 use std::thread::{Threads, join_mut};
 
-fn variable<N: Nodes>(nodes: &mut N, var: u32) -> Result<Ref, MkFault>
-    requires { var < (N.store nodes.old).vars }
-    ensures keeps { Keeps (N.store nodes.old) (N.store nodes.new) }
-    ensures limit { (N.store nodes.new).limit ≡ (N.store nodes.old).limit }
-    ensures ok { IfOk result
-        (λ r. (N.store nodes.new).held r ≡ Some (node_of var Ref.FALSE Ref.TRUE)) }
-{
-    nodes.mk(var, Ref::FALSE, Ref::TRUE)
-}
-
 #[test]
 fn makes_a_node_once_and_no_more_than_the_limit(rt: HostRuntime) -> Result<(), Fail> {
     let (table, session) = SharedTable::open(rt.alloc(), 2, 2)?;
     let mut nodes = TableNodes::on(&table, session);
-    let first = variable(&mut nodes, 0)?;
-    let again = variable(&mut nodes, 0)?;
-    let second = variable(&mut nodes, 1);
-    let held = nodes.node(first);
-    assert_eq!(rt; again, first);
-    assert_eq!(rt; second, Err(MkFault::StepsOut));
-    assert_eq!(rt;
-        held,
-        Node {
-            var: 0,
-            lo: Ref::FALSE,
-            hi: Ref::TRUE
-        }
-    );
-    assert_eq!(rt; (nodes.used(), nodes.limit(), nodes.vars()), (1, 1, 2));
+    assert!(rt; is_made_once(&mut nodes));
     let session = nodes.into_session();
     assert_eq!(rt; table.close(session), 1);
     Ok(())
+}
+
+/// Whether a store that is cut from another finds what that one made, and hands on what it makes itself.
+fn finds_and_hands_on<N: Split>(nodes: &mut N) -> bool
+    requires vars { (N.store nodes.old).vars ≡ 3 }
+    requires made { (N.store nodes.old).made ≡ [] }
+    requires limit { (N.store nodes.old).limit ≡ 4 }
+    ensures { (N.store nodes.new).table ≡ (N.store nodes.old).table }
+{
+    let mut other = nodes.fork(2);
+    let made = variable(nodes, 0);
+    let found = variable(&mut other, 0);
+    let own = variable(&mut other, 1);
+    let one = (nodes.used(), nodes.limit()) == (1, 2);
+    let two = (other.used(), other.limit()) == (1, 2);
+    nodes.merge(other);
+    let Ok(own) = own else {
+        return false;
+    };
+    made.is_ok()
+        && found == made
+        && one
+        && two
+        && nodes.node(own).var == 1
+        && (nodes.used(), nodes.limit()) == (2, 4)
 }
 
 #[test]
 fn sessions_find_what_others_made(rt: HostRuntime) -> Result<(), Fail> {
     let (table, session) = SharedTable::open(rt.alloc(), 3, 9)?;
     let mut nodes = TableNodes::on(&table, session);
-    let mut other = nodes.fork(2);
-    let made = variable(&mut nodes, 0)?;
-    let found = variable(&mut other, 0)?;
-    let own = variable(&mut other, 1)?;
-    assert_eq!(rt; found, made);
-    assert_eq!(rt; (nodes.used(), nodes.limit()), (1, 2));
-    assert_eq!(rt; (other.used(), other.limit()), (1, 2));
-    nodes.merge(other);
-    assert_eq!(rt; nodes.node(own).var, 1);
-    assert_eq!(rt; (nodes.used(), nodes.limit()), (2, 4));
+    assert!(rt; finds_and_hands_on(&mut nodes));
     let session = nodes.into_session();
     assert_eq!(rt; table.close(session), 2);
     Ok(())
@@ -77,19 +70,31 @@ fn recalled<N: Nodes>(
     Ok((p, q, both, product, sum))
 }
 
+/// Whether a store recalls a result, and one that is cut from it does so once it has learned.
+fn remembers_and_hands_on<N: Split>(ops: &Ops, nodes: &mut N) -> Result<bool, OpFault>
+    requires { (N.store nodes.old).vars ≡ 2 }
+{
+    let (p, q, both, product, sum) = recalled(ops, nodes)?;
+    let mut other = nodes.fork(0);
+    let before = other.recall(Operator::And, p, q, Ref::FALSE);
+    other.learn(nodes);
+    let behind = other.recall(Operator::And, p, q, Ref::FALSE);
+    let left = nodes.recall(Operator::And, p, q, Ref::FALSE);
+    Ok(
+        product == Some(both)
+            && sum.is_none()
+            && before.is_none()
+            && behind == Some(both)
+            && left.is_none(),
+    )
+}
+
 #[test]
 fn results_are_remembered_and_handed_on(rt: HostRuntime) -> Result<(), Fail> {
     let (table, session) = SharedTable::open(rt.alloc(), 2, 16)?;
     let ops = Ops::new(rt.alloc());
     let mut nodes = TableNodes::on(&table, session);
-    let (p, q, both, product, sum) = recalled(&ops, &mut nodes)?;
-    assert_eq!(rt; product, Some(both));
-    assert_eq!(rt; sum, None);
-    let mut other = nodes.fork(0);
-    assert_eq!(rt; other.recall(Operator::And, p, q, Ref::FALSE), None);
-    other.learn(&mut nodes);
-    assert_eq!(rt; other.recall(Operator::And, p, q, Ref::FALSE), Some(both));
-    assert_eq!(rt; nodes.recall(Operator::And, p, q, Ref::FALSE), None);
+    assert!(rt; remembers_and_hands_on(&ops, &mut nodes) == Ok(true));
     Ok(())
 }
 
@@ -144,19 +149,25 @@ fn two_functions<N: Nodes>(ops: &Ops, nodes: &mut N) -> Result<(Ref, Ref), OpFau
     Ok((first, second))
 }
 
+/// Whether laws of boolean functions hold of two functions of three variables.
+fn laws_hold<N: Nodes>(ops: &Ops, nodes: &mut N) -> Result<bool, OpFault>
+    requires { (N.store nodes.old).vars ≡ 3 }
+{
+    let (f, g) = two_functions(ops, nodes)?;
+    let morgan = de_morgan(ops, nodes, f, g)?;
+    let (f, g) = two_functions(ops, nodes)?;
+    let differ = difference(ops, nodes, f, g)?;
+    let (f, g) = two_functions(ops, nodes)?;
+    let excluded = excluded_middle(ops, nodes, g)?;
+    Ok(f != g && morgan && differ && excluded)
+}
+
 #[test]
 fn operations_follow_the_laws_of_boolean_functions(rt: HostRuntime) -> Result<(), Fail> {
     let (table, session) = SharedTable::open(rt.alloc(), 3, 100)?;
     let mut nodes = TableNodes::on(&table, session);
     let ops = Ops::new(rt.alloc());
-    let (f, g) = two_functions(&ops, &mut nodes)?;
-    assert!(rt; f != g);
-    let (f, g) = two_functions(&ops, &mut nodes)?;
-    assert!(rt; de_morgan(&ops, &mut nodes, f, g)?);
-    let (f, g) = two_functions(&ops, &mut nodes)?;
-    assert!(rt; difference(&ops, &mut nodes, f, g)?);
-    let (_, g) = two_functions(&ops, &mut nodes)?;
-    assert!(rt; excluded_middle(&ops, &mut nodes, g)?);
+    assert!(rt; laws_hold(&ops, &mut nodes) == Ok(true));
     Ok(())
 }
 

@@ -1,18 +1,20 @@
-//! Netlists with their flat nets, or with what they are refused for, in one table; begin with
+//! Netlists with their flat nets, or with what they are refused for, in tables; begin with
 //! `flat_nets`.
 
 ghost use Rattle.std.specs.Prelude.{◌≤◌, length};
 
+use crate::names::BOUND;
 use crate::shown::{refused, shown};
 use blif_lines::logical_lines;
 use blif_syntax::read_models;
 use flat_net::flatten;
 use std::alloc::{AllocError, Global};
+use std::process::Abort;
 use std::test::Fail;
 
-/// Netlists, and what is made of each: the names of the nets, the inputs, the outputs, the gates
-/// with their covers, and the latches; or the kind of the fault with its line and name.
-const TABLE: &[(&[u8], &[u8])] = &[
+/// Netlists of one model, and what is made of each: the names of the nets, the inputs, the outputs, the gates with their
+/// covers, and the latches.
+const LINES: &[(&[u8], &[u8])] = &[
     // Each kind of line alone.
     (b".model m\n", b"||||"),
     (b".model m\n.inputs a b\n", b" a b| 0 1|||"),
@@ -85,6 +87,10 @@ const TABLE: &[(&[u8], &[u8])] = &[
         b".model m\n.names q y\n1 1\n.latch y q 0\n",
         b" q y||| (0 > 1 c0 1 1)| (1 > 0 0)",
     ),
+];
+
+/// Netlists of one model, and the kind of the fault of each, with its line and name; or what is made of it.
+const REFUSED: &[(&[u8], &[u8])] = &[
     // A signal that is driven twice: the second driver, or the first one of an input.
     (
         b".model m\n.names a y\n1 1\n.names b y\n1 1\n",
@@ -141,6 +147,10 @@ const TABLE: &[(&[u8], &[u8])] = &[
         b".model m\n.latch d q re NIL 0\n.latch d r re m 0\n.latch d s re k 0\n",
         b"mixed clocks 4 s",
     ),
+];
+
+/// Netlists with instances, and what is made of each, or its fault.
+const INSTANCES: &[(&[u8], &[u8])] = &[
     // Two instances of one model, whose gates share a cover.
     (
         b".model top\n.inputs a\n.outputs y\n.subckt inv i=a o=m\n.subckt inv i=m o=y\n.end\n\
@@ -207,6 +217,11 @@ const TABLE: &[(&[u8], &[u8])] = &[
         b".model m\n.names q\n.names q\n.subckt m\n",
         b"recursive 4 m",
     ),
+    // Instances below instances, with formals that are bound twice over, and names with slashes in them.
+    (
+        BOUND,
+        b" a 0/b 0/0/q 7/x y m 0/s/t 0/b 0/0/x 0/0/q 0/1/x 0/1/q 1/s/t 1/b 1/0/x 1/0/q 1/1/x 1/1/q| 0 1 2 3| 4| (0 > 8 c0 1 1) (8 > 9 c1 1 1) (9 > 7 c2 1 1) (7 > 10 c0 1 1) (10 > 11 c1 1 1) (11 > 5 c2 1 1) (5 > 14 c0 1 1) (14 > 15 c1 1 1) (15 > 13 c2 1 1) (13 > 16 c0 1 1) (16 > 17 c1 1 1) (17 > 4 c2 1 1)|",
+    ),
 ];
 
 /// What is made of a text.
@@ -224,12 +239,30 @@ fn made(alloc: Global, text: &[u8]) -> Result<Vec<u8>, AllocError>
     }
 }
 
-#[test]
-fn flat_nets(rt: HostRuntime) -> Result<(), Fail> {
-    for (text, want) in TABLE {
+/// Compares what is made of netlists.
+fn compare(rt: &impl Abort, alloc: Global, table: &[(&[u8], &[u8])]) -> Result<(), AllocError> {
+    for (text, want) in table {
         assert!(rt; text.len() <= 67_108_864);
-        let got = made(rt.alloc(), text)?;
+        let got = made(alloc, *text)?;
         assert_eq!(rt; got.as_slice(), *want, "at {text:?}");
     }
+    Ok(())
+}
+
+#[test]
+fn flat_nets(rt: HostRuntime) -> Result<(), Fail> {
+    compare(&rt, rt.alloc(), LINES)?;
+    Ok(())
+}
+
+#[test]
+fn models_that_are_refused(rt: HostRuntime) -> Result<(), Fail> {
+    compare(&rt, rt.alloc(), REFUSED)?;
+    Ok(())
+}
+
+#[test]
+fn flat_nets_of_instances(rt: HostRuntime) -> Result<(), Fail> {
+    compare(&rt, rt.alloc(), INSTANCES)?;
     Ok(())
 }

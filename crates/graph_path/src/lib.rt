@@ -7,6 +7,3 @@ pub mod route;
 
 pub use hop::Hop;
 pub use route::path_of;
-
-#[cfg(test)]
-mod tests;

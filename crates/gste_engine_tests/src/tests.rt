@@ -10,6 +10,7 @@ use gste_engine::check_graph;
 use net_core::Net;
 use plain_check::{GraphFound, Outcome, Shown, check_graph as check_plainly};
 use std::alloc::{AllocError, Global};
+use std::process::Abort;
 use std::test::Fail;
 use ste_base::{NodeId, VarId};
 use ste_model::{CubeList, Graph, Report, Verdict, are_edges_free};
@@ -192,22 +193,77 @@ fn place_of(verdict: Verdict) -> usize
     }
 }
 
-#[test]
-fn graphs_of_four_edges(rt: HostRuntime) -> Result<(), Fail> {
-    let alloc = rt.alloc();
-    let ready = lat(alloc)?;
+/// The verdict of a graph, whose report has to be that of what is found with p = 0 and with p = 1.
+fn verdict_if_alike(
+    rt: &impl Abort,
+    alloc: Global,
+    ready: &Ready,
+    graph: &Graph,
+) -> Result<Verdict, AllocError>
+    requires { IsCase ready.now.net.raw graph.now }
+{
+    let (report, alike) = compared(alloc, ready, graph)?;
+    assert!(rt; alike, "{graph:?}: {report:?}");
+    Ok(report.verdict)
+}
+
+/// The same of the graph of a choice.
+fn verdict_by(
+    rt: &impl Abort,
+    alloc: Global,
+    ready: &Ready,
+    ends: u32,
+    turn: u32,
+) -> Result<Verdict, Fail> {
+    let graph = graph_by(alloc, ready, ends, turn)?;
+    Ok(verdict_if_alike(rt, alloc, ready, &graph)?)
+}
+
+/// How often each verdict is met.
+fn verdicts_met(rt: &impl Abort, alloc: Global, ready: &Ready) -> Result<[u32; 4], Fail> {
     let mut met = [0u32; 4];
     for turn in 0..TURNS {
         for ends in 0..ENDS {
-            let graph = graph_by(alloc, &ready, ends, turn)?;
-            let (report, alike) = compared(alloc, &ready, &graph)?;
-            assert!(rt; alike, "{graph:?}: {report:?}");
-            let place = place_of(report.verdict);
+            let place = place_of(verdict_by(rt, alloc, ready, ends, turn)?);
             met[place] = met[place].saturating_add(1);
         }
     }
+    Ok(met)
+}
+
+#[test]
+fn graphs_of_four_edges(rt: HostRuntime) -> Result<(), Fail> {
+    let ready = lat(rt.alloc())?;
+    let met = verdicts_met(&rt, rt.alloc(), &ready)?;
     assert!(rt; met.iter().all(|count| *count >= 100), "{met:?}");
     Ok(())
+}
+
+/// The report of the graph of these edges, with so many steps, and the steps that were used.
+fn report_of_edges(
+    alloc: Global,
+    ready: &Ready,
+    vertices: u32,
+    cases: &[EdgeCase],
+    steps: u32,
+) -> Result<(Report, u32), Fail>
+    requires { steps ≤ 1000 }
+{
+    let graph = graph_of(alloc, ready, false, vertices, cases)?;
+    Ok(report_of(alloc, ready, &graph, steps)?)
+}
+
+/// The same over the net of a latch.
+fn report_over_latch(
+    alloc: Global,
+    vertices: u32,
+    cases: &[EdgeCase],
+    steps: u32,
+) -> Result<(Report, u32), Fail>
+    requires { steps ≤ 1000 }
+{
+    let ready = lat(alloc)?;
+    report_of_edges(alloc, &ready, vertices, cases, steps)
 }
 
 /// A chain of so many vertices: d has p on each edge, and on the last one q has to be the opposite.
@@ -228,10 +284,8 @@ fn chain(alloc: Global, vertices: u32) -> Result<Vec<EdgeCase>, AllocError> {
 fn chain_report(alloc: Global, vertices: u32, steps: u32) -> Result<(Report, u32), Fail>
     requires { steps ≤ 1000 }
 {
-    let ready = lat(alloc)?;
     let cases = chain(alloc, vertices)?;
-    let graph = graph_of(alloc, &ready, false, vertices, &cases)?;
-    Ok(report_of(alloc, &ready, &graph, steps)?)
+    report_over_latch(alloc, vertices, &cases, steps)
 }
 
 /// Whether a report tells of a failure for both bits of p on the last edge of a chain of a thousand vertices.
@@ -281,10 +335,8 @@ fn is_path(path: &[u32], first: u32, second: u32) -> bool {
 
 /// The report of so many parallel edges.
 fn parallel_report(alloc: Global, edges: u32) -> Result<Report, Fail> {
-    let ready = lat(alloc)?;
     let cases = parallel(alloc, edges)?;
-    let graph = graph_of(alloc, &ready, false, 3, &cases)?;
-    let (report, _) = report_of(alloc, &ready, &graph, 1000)?;
+    let (report, _) = report_over_latch(alloc, 3, &cases, 1000)?;
     Ok(report)
 }
 

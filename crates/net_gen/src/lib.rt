@@ -7,8 +7,3 @@ mod task;
 pub mod texts;
 
 pub use texts::pipeline;
-
-#[cfg(test)]
-mod tests;
-#[cfg(test)]
-mod written;

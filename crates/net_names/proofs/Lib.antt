@@ -2,4 +2,3 @@ pub mod Numbers
 pub mod Links
 pub mod Named
 pub mod Parts
-pub mod Tested

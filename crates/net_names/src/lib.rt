@@ -4,8 +4,6 @@
 pub mod laws;
 pub mod names;
 mod number;
-#[cfg(test)]
-mod tests;
 mod text;
 
 pub use names::NetNames;

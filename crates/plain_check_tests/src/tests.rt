@@ -6,7 +6,7 @@ ghost use Rattle.plain_check.specs.private.States.{IsGraphOver};
 
 use bool_expr::Expr;
 use net_core::{Init, Latch, Net, RawNet, order};
-use plain_check::{Outcome, check_graph, verdict};
+use plain_check::{GraphFound, Outcome, check_graph, verdict};
 use std::alloc::{AllocError, Global};
 use std::test::Fail;
 use ste_base::{Items, Name, NodeId, VarId};
@@ -61,16 +61,34 @@ fn starts_with_one(alloc: Global, reset: bool) -> Result<Assertion, AllocError>
     })
 }
 
+/// The net whose latch has this initial value, in order.
+fn net_of(alloc: Global, init: Init) -> Result<Net, Fail>
+    ensures { IfOk result (λ net. net.raw.gates ≡ []) }
+{
+    match order(alloc, latch_net(alloc, init)?) {
+        Ok(net) => Ok(net),
+        Err(_) => Err("no order".into()),
+    }
+}
+
+/// The verdict on the claim that q starts with 1.
+fn verdict_on(alloc: Global, net: &Net, reset: bool) -> Result<Verdict, AllocError>
+    requires { net.now.raw.gates ≡ [] }
+{
+    let task = starts_with_one(alloc, reset)?;
+    verdict(alloc, net, 0, &task)
+}
+
+/// The same on the net whose latch has this initial value.
+fn first_verdict(alloc: Global, init: Init, reset: bool) -> Result<Verdict, Fail> {
+    let net = net_of(alloc, init)?;
+    Ok(verdict_on(alloc, &net, reset)?)
+}
+
 #[test]
 fn first_values(rt: HostRuntime) -> Result<(), Fail> {
-    let alloc = rt.alloc();
     for (init, reset, want) in STARTS {
-        let net = match order(alloc, latch_net(alloc, *init)?) {
-            Ok(net) => net,
-            Err(_) => panic!(rt; "no order"),
-        };
-        let task = starts_with_one(alloc, *reset)?;
-        let got = verdict(alloc, &net, 0, &task)?;
+        let got = first_verdict(rt.alloc(), *init, *reset)?;
         assert!(rt; got == *want, "at {init:?} with {reset}: {got:?}");
     }
     Ok(())
@@ -305,29 +323,52 @@ fn graph_of(
     })
 }
 
-#[test]
-fn graphs(rt: HostRuntime) -> Result<(), Fail> {
-    let alloc = rt.alloc();
-    for (reset, vertices, edges, bits, want, path, time, consequent) in GRAPHS {
-        let net = match order(alloc, latch_net(alloc, Init::One)?) {
-            Ok(net) => net,
-            Err(_) => panic!(rt; "no order"),
-        };
-        let graph = graph_of(alloc, &net, *reset, *vertices, edges)?;
-        let found = check_graph(alloc, &net, &graph, bits)?;
-        assert!(rt;
-            found.outcome == *want,
-            "{edges:?} under {bits:?}: {found:?}"
-        );
-        let shown = match &found.shown {
+/// Whether this is what is to be found.
+fn is_found(found: &GraphFound, case: &GraphCase) -> bool {
+    let (_, _, _, _, want, path, time, consequent) = case;
+    found.outcome == *want
+        && match &found.shown {
             Some(shown) => {
                 shown.path.as_slice() == *path
                     && shown.time == *time
                     && shown.consequent == *consequent
             }
             None => path.is_empty(),
-        };
-        assert!(rt; shown, "{edges:?} under {bits:?}: {found:?}");
+        }
+}
+
+/// Whether of a graph is found what is to be found.
+fn graph_is_found(
+    alloc: Global,
+    net: &Net,
+    graph: &Graph,
+    case: &GraphCase,
+) -> Result<bool, AllocError>
+    requires gates { net.now.raw.gates ≡ [] }
+    requires graph { IsGraphOver net.now.raw graph.now }
+{
+    let found = check_graph(alloc, net, graph, case.3)?;
+    Ok(is_found(&found, case))
+}
+
+/// The same of the graph of a case.
+fn case_is_found(alloc: Global, net: &Net, case: &GraphCase) -> Result<bool, Fail>
+    requires { net.now.raw.gates ≡ [] }
+{
+    let graph = graph_of(alloc, net, case.0, case.1, case.2)?;
+    Ok(graph_is_found(alloc, net, &graph, case)?)
+}
+
+/// The same over the net of a latch.
+fn is_found_of_latch(alloc: Global, case: &GraphCase) -> Result<bool, Fail> {
+    let net = net_of(alloc, Init::One)?;
+    case_is_found(alloc, &net, case)
+}
+
+#[test]
+fn graphs(rt: HostRuntime) -> Result<(), Fail> {
+    for (number, case) in GRAPHS.iter().enumerate() {
+        assert!(rt; is_found_of_latch(rt.alloc(), case)?, "graph {number}");
     }
     Ok(())
 }

@@ -1,15 +1,16 @@
-//! Texts with their trees and faults, in one table; begin with `trees_of_texts`.
+//! Texts with their trees and faults, in tables; begin with `trees_of_texts`.
 
 use bool_expr::{Expr, ExprFault, Variables, copy_expr, read_expr, read_expr_over, value};
 use std::alloc::{AllocError, Global};
+use std::process::Abort;
 use std::test::Fail;
 use ste_base::Name;
 
 /// The declared variables, by their numbers from 0. The last is declared a second time.
 const VARS: &[&[u8]] = &[b"a", b"b", b"c", b"_", b"p0", b"when1", b"to_", b"a"];
 
-/// Texts, and what is read from each.
-const TABLE: &[(&[u8], &[u8])] = &[
+/// Texts by the rules, and what is read from each.
+const TREES: &[(&[u8], &[u8])] = &[
     // Each rule alone.
     (b"0", b"0"),
     (b"1", b"1"),
@@ -50,6 +51,10 @@ const TABLE: &[(&[u8], &[u8])] = &[
     (b"!(a)&(!b)", b"(& !v0 !v1)"),
     (b"(0)^((1))", b"(^ 0 1)"),
     (b"a|b&c^!(a|1)", b"(| v0 (^ (& v1 v2) !(| v0 1)))"),
+];
+
+/// Texts with names, constants and blanks, and what is read from each.
+const NAMES_AND_BLANKS: &[(&[u8], &[u8])] = &[
     // Names and constants.
     (b"_", b"v3"),
     (b"p0", b"v4"),
@@ -79,6 +84,10 @@ const TABLE: &[(&[u8], &[u8])] = &[
     (b"a\x0b|b", b"bad"),
     (b"", b"bad"),
     (b" \t", b"bad"),
+];
+
+/// Texts that are no expressions, or have an unknown variable, and what is read from each.
+const NO_EXPRESSIONS: &[(&[u8], &[u8])] = &[
     // What is no expression.
     (b"(", b"bad"),
     (b")", b"bad"),
@@ -209,12 +218,30 @@ fn add(out: &mut Vec<u8>, text: &[u8], count: usize) -> Result<(), AllocError> {
     Ok(())
 }
 
-#[test]
-fn trees_of_texts(rt: HostRuntime) -> Result<(), Fail> {
-    for (text, want) in TABLE {
-        let out = shown(rt.alloc(), text)?;
+/// Compares what is read from texts.
+fn compare(rt: &impl Abort, alloc: Global, table: &[(&[u8], &[u8])]) -> Result<(), AllocError> {
+    for (text, want) in table {
+        let out = shown(alloc, *text)?;
         assert_eq!(rt; out.as_slice(), *want, "at {text:?}");
     }
+    Ok(())
+}
+
+#[test]
+fn trees_of_texts(rt: HostRuntime) -> Result<(), Fail> {
+    compare(&rt, rt.alloc(), TREES)?;
+    Ok(())
+}
+
+#[test]
+fn names_and_blanks(rt: HostRuntime) -> Result<(), Fail> {
+    compare(&rt, rt.alloc(), NAMES_AND_BLANKS)?;
+    Ok(())
+}
+
+#[test]
+fn texts_that_are_no_expressions(rt: HostRuntime) -> Result<(), Fail> {
+    compare(&rt, rt.alloc(), NO_EXPRESSIONS)?;
     Ok(())
 }
 
@@ -228,25 +255,43 @@ fn fronts_of_a_text(rt: HostRuntime) -> Result<(), Fail> {
     Ok(())
 }
 
+/// What is read from a text in three parts, the first and the last of which stand so often.
+fn shown_deep(
+    alloc: Global,
+    front: (&[u8], usize),
+    middle: &[u8],
+    back: (&[u8], usize),
+) -> Result<Vec<u8>, AllocError> {
+    let mut text = Vec::new(alloc);
+    add(&mut text, front.0, front.1)?;
+    text.extend_from_slice(middle)?;
+    add(&mut text, back.0, back.1)?;
+    shown(alloc, &text)
+}
+
 #[test]
 fn deep_texts(rt: HostRuntime) -> Result<(), Fail> {
     for (front, fronts, middle, back, backs, want) in DEEP {
-        let mut text = Vec::new(rt.alloc());
-        add(&mut text, front, *fronts)?;
-        text.extend_from_slice(middle)?;
-        add(&mut text, back, *backs)?;
-        let out = shown(rt.alloc(), &text)?;
-        assert!(rt; out.starts_with(want), "at {text:?}");
+        let out = shown_deep(rt.alloc(), (front, *fronts), middle, (back, *backs))?;
+        assert!(rt;
+            out.starts_with(want),
+            "at {front:?} {fronts} {middle:?} {backs}"
+        );
     }
     Ok(())
 }
 
-#[test]
-fn values_of_a_text(rt: HostRuntime) -> Result<(), Fail> {
-    let alloc = rt.alloc();
+/// The expression of a text over the variables.
+fn expr_of(alloc: Global, text: &[u8]) -> Result<Expr, Fail> {
     let vars = vars(alloc)?;
-    assert!(rt; vars.len() < 100);
-    let expr = read_expr(alloc, b"a ^ b ^ c & !_ | a & b & c", &vars)?;
+    if vars.len() > 100 {
+        return Err("too many variables".into());
+    }
+    Ok(read_expr(alloc, text, &vars)?)
+}
+
+/// Compares an expression's values with those that were worked out by hand.
+fn compare_values(rt: &impl Abort, expr: &Expr) {
     let rows: &[(&[bool], bool)] = &[
         (&[false, false, false, false], false),
         (&[true, false, false, false], true),
@@ -257,20 +302,50 @@ fn values_of_a_text(rt: HostRuntime) -> Result<(), Fail> {
         (&[], false),
     ];
     for (bits, want) in rows {
-        assert_eq!(rt; value(&expr, bits), *want, "at {bits:?}");
+        assert_eq!(rt; value(expr, bits), *want, "at {bits:?}");
     }
-    Ok(())
 }
 
 #[test]
-fn variables_one_by_one(rt: HostRuntime) -> Result<(), Fail> {
-    let alloc = rt.alloc();
+fn values_of_a_text(rt: HostRuntime) -> Result<(), Fail> {
+    let expr = expr_of(rt.alloc(), b"a ^ b ^ c & !_ | a & b & c")?;
+    compare_values(&rt, &expr);
+    Ok(())
+}
+
+/// The variables, put one by one.
+fn variables(alloc: Global) -> Result<Variables, AllocError> {
     let mut variables = Variables::new(alloc);
-    let expr = read_expr_over(alloc, b"0 & a", &variables);
-    assert!(rt; matches!(expr, Err(ExprFault::UnknownVar { .. })));
     for name in VARS {
         variables.push(&Name::from_bytes(alloc, name)?)?;
     }
+    Ok(variables)
+}
+
+/// Whether a name is that of one of the variables.
+fn contains(alloc: Global, variables: &Variables, name: &[u8]) -> Result<bool, AllocError> {
+    let name = Name::from_bytes(alloc, name)?;
+    Ok(variables.contains(&name))
+}
+
+/// What is read from a text over the variables, as the table writes it; nothing where it is no expression.
+fn shown_over(alloc: Global, variables: &Variables, text: &[u8]) -> Result<Vec<u8>, AllocError> {
+    let mut out = Vec::new(alloc);
+    if variables.names().len() > 100 {
+        return Ok(out);
+    }
+    if let Ok(expr) = read_expr_over(alloc, text, variables) {
+        write_expr(&mut out, alloc, &expr)?;
+    }
+    Ok(out)
+}
+
+/// Compares what is told of the variables.
+fn compare_variables(
+    rt: &impl Abort,
+    alloc: Global,
+    variables: &Variables,
+) -> Result<(), AllocError> {
     let names = variables.names();
     assert_eq!(rt; names.len(), VARS.len());
     assert!(rt;
@@ -279,14 +354,23 @@ fn variables_one_by_one(rt: HostRuntime) -> Result<(), Fail> {
             .zip(VARS)
             .all(|(name, want)| name.bytes() == *want)
     );
-    assert!(rt; variables.contains(&Name::from_bytes(alloc, b"to_")?));
-    assert!(rt; !variables.contains(&Name::from_bytes(alloc, b"to")?));
-    let mut out = Vec::new(alloc);
-    write_expr(
-        &mut out,
-        alloc,
-        &read_expr_over(alloc, b"to_ & a", &variables)?,
-    )?;
+    assert!(rt; contains(alloc, variables, b"to_")?);
+    assert!(rt; !contains(alloc, variables, b"to")?);
+    let out = shown_over(alloc, variables, b"to_ & a")?;
     assert_eq!(rt; out.as_slice(), b"(& v6 v0)".as_slice());
     Ok(())
+}
+
+#[test]
+fn variables_one_by_one(rt: HostRuntime) -> Result<(), Fail> {
+    let variables = variables(rt.alloc())?;
+    compare_variables(&rt, rt.alloc(), &variables)?;
+    Ok(())
+}
+
+#[test]
+fn no_variables(rt: HostRuntime) {
+    let none = Variables::new(rt.alloc());
+    let expr = read_expr_over(rt.alloc(), b"0 & a", &none);
+    assert!(rt; matches!(expr, Err(ExprFault::UnknownVar { .. })));
 }

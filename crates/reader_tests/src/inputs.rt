@@ -1,20 +1,21 @@
-//! Input files with what they are answered with, in one table; begin with `answers_of_texts`.
+//! Input files with what they are answered with, in two tables; begin with `answers_of_texts`.
 
 ghost use Rattle.std.specs.Prelude.{◌≡◌, ◌≤◌, ◌∷◌, [], IfOk, Some, None, length, if◌then◌else◌, bytes_eq, codes, option_map};
 ghost use Rattle.net_core.specs.Cover.{IsCover};
 ghost use Rattle.net_core.specs.Flat.{HasOneDriver, IsInRange};
 
+use crate::words::add_word;
 use blif_lines::logical_lines;
 use clock_step::{InputFault, read_inputs, simulate};
 use net_core::{Cover, Gate, Init, Latch, Lit, Net, RawNet, order};
 use std::alloc::{AllocError, Global};
+use std::process::Abort;
 use std::test::Fail;
 use ste_base::{Items, Name, NodeId};
 use task_binding::Resolve;
 
-/// Texts, and what they are answered with: the bits of q, w, r and q again at each time, or the
-/// fault.
-const TABLE: &[(&[u8], &[u8])] = &[
+/// Texts, and what they are answered with: the bits of q, w, r and q again at each time, or the fault.
+const ROWS: &[(&[u8], &[u8])] = &[
     // The worked rows: no lines, a name twice, no name, a latch, a bad row, and no names.
     (b"", b""),
     (b".order d d", b"1: double d"),
@@ -33,6 +34,10 @@ const TABLE: &[(&[u8], &[u8])] = &[
     (b".order f\n1\n0\n1", b" 1001 0010 0000"),
     // Names are cut at blanks, and comments and continued lines are read as in netlists.
     (b" .order \\\n f\td # two\n11 # ones", b" 1101"),
+];
+
+/// The same of texts with a fault.
+const FAULTS: &[(&[u8], &[u8])] = &[
     // The first line has another form.
     (b"11", b"1: bad"),
     (b"order d", b"1: bad"),
@@ -208,11 +213,9 @@ fn shown_line(
     kind: &str,
     name: Option<&Name>,
 ) -> Result<Vec<u8>, AllocError> {
-    let mut out = Vec::new(alloc);
-    out.extend_from_slice(format!(in alloc; "{line}: {kind}")?.as_bytes())?;
+    let mut out = format!(in alloc; "{line}: {kind}")?.into_bytes();
     if let Some(name) = name {
-        out.push(b' ')?;
-        out.extend_from_slice(name.bytes())?;
+        add_word(&mut out, name.bytes())?;
     }
     Ok(out)
 }
@@ -231,6 +234,11 @@ fn shown_fault(alloc: Global, fault: &InputFault) -> Result<Vec<u8>, AllocError>
     }
 }
 
+/// A number of rows, as the table writes it.
+fn shown_count(alloc: Global, rows: usize) -> Result<Vec<u8>, AllocError> {
+    Ok(format!(in alloc; "{rows} rows")?.into_bytes())
+}
+
 /// The outputs on the inputs of a text, or its fault.
 fn answer(alloc: Global, net: &Net, text: &[u8]) -> Result<Vec<u8>, AllocError>
     requires { length text.now ≤ 1000 }
@@ -242,53 +250,87 @@ fn answer(alloc: Global, net: &Net, text: &[u8]) -> Result<Vec<u8>, AllocError>
     }
 }
 
-/// The number of rows of a text with so many of them, or its fault.
-fn answer_of_size(alloc: Global, net: &Net, rows: usize) -> Result<Vec<u8>, AllocError> {
-    let mut text = Vec::new(alloc);
-    text.extend_from_slice(b".order d\n")?;
+/// A text with so many rows.
+fn rows_text(alloc: Global, rows: usize) -> Result<Vec<u8>, AllocError> {
+    let mut text = b".order d\n".as_slice().to_vec(alloc)?;
     for _ in 0..rows {
         text.extend_from_slice(b"0\n")?;
     }
-    if text.len() > 1_000_000 {
-        return Ok(text);
-    }
-    let lines = logical_lines(alloc, text.as_slice())?;
+    Ok(text)
+}
+
+/// The number of rows of a text, or its fault.
+fn rows_or_fault(alloc: Global, net: &Net, text: &[u8]) -> Result<Vec<u8>, AllocError>
+    requires { length text.now ≤ 1000000 }
+{
+    let lines = logical_lines(alloc, text)?;
     match read_inputs(alloc, lines.as_slice(), net, &Names { first: 0 }) {
-        Ok(inputs) => {
-            let rows = inputs.rows.len();
-            let mut out = Vec::new(alloc);
-            out.extend_from_slice(format!(in alloc; "{rows} rows")?.as_bytes())?;
-            Ok(out)
-        }
+        Ok(inputs) => shown_count(alloc, inputs.rows.len()),
         Err(fault) => shown_fault(alloc, &fault),
     }
 }
 
-#[test]
-fn answers_of_texts(rt: HostRuntime) -> Result<(), Fail> {
-    let alloc = rt.alloc();
-    let net = match order(alloc, sample(alloc, 7)?) {
-        Ok(net) => net,
-        Err(_) => panic!(rt; "no order"),
-    };
-    for (text, want) in TABLE {
+/// The sample with so many nets, in order.
+fn net_of(alloc: Global, nets: u32) -> Result<Net, Fail>
+    requires { 7 ≤ nets }
+{
+    match order(alloc, sample(alloc, nets)?) {
+        Ok(net) => Ok(net),
+        Err(_) => Err("no order".into()),
+    }
+}
+
+/// Compares what texts are answered with.
+fn compare(
+    rt: &impl Abort,
+    alloc: Global,
+    net: &Net,
+    table: &[(&[u8], &[u8])],
+) -> Result<(), AllocError> {
+    for (text, want) in table {
         assert!(rt; text.len() < 1000);
-        let out = answer(alloc, &net, text)?;
+        let out = answer(alloc, net, *text)?;
         assert_eq!(rt; out.as_slice(), *want, "at {text:?}");
     }
     Ok(())
 }
 
 #[test]
+fn answers_of_texts(rt: HostRuntime) -> Result<(), Fail> {
+    let net = net_of(rt.alloc(), 7)?;
+    compare(&rt, rt.alloc(), &net, ROWS)?;
+    Ok(())
+}
+
+#[test]
+fn faults_of_texts(rt: HostRuntime) -> Result<(), Fail> {
+    let net = net_of(rt.alloc(), 7)?;
+    compare(&rt, rt.alloc(), &net, FAULTS)?;
+    Ok(())
+}
+
+/// The number of rows of a text with so many of them, or its fault.
+fn answer_of_size(alloc: Global, net: &Net, rows: usize) -> Result<Vec<u8>, AllocError> {
+    let text = rows_text(alloc, rows)?;
+    if text.len() > 1_000_000 {
+        return Ok(text);
+    }
+    rows_or_fault(alloc, net, &text)
+}
+
+/// The answer to a text with so many rows over so many nets.
+fn answer_of(alloc: Global, nets: u32, rows: usize) -> Result<Vec<u8>, Fail>
+    requires { 7 ≤ nets }
+{
+    let net = net_of(alloc, nets)?;
+    Ok(answer_of_size(alloc, &net, rows)?)
+}
+
+#[test]
 fn answers_of_sizes(rt: HostRuntime) -> Result<(), Fail> {
-    let alloc = rt.alloc();
     for (nets, rows, want) in SIZES {
         assert!(rt; *nets >= 7);
-        let net = match order(alloc, sample(alloc, *nets)?) {
-            Ok(net) => net,
-            Err(_) => panic!(rt; "no order"),
-        };
-        let out = answer_of_size(alloc, &net, *rows)?;
+        let out = answer_of(rt.alloc(), *nets, *rows)?;
         assert_eq!(rt; out.as_slice(), *want, "at {nets} and {rows}");
     }
     Ok(())

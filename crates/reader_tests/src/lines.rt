@@ -1,11 +1,12 @@
-//! Texts and their logical lines, in one table; begin with `lines_of_texts`.
+//! Texts and their logical lines, in two tables; begin with `lines_of_texts`.
 
 use blif_lines::{Line, logical_lines};
 use std::alloc::{AllocError, Global};
+use std::process::Abort;
 use std::test::Fail;
 
 /// Texts, and the lines that are read from each: one a row, as its number and its words.
-const TABLE: &[(&[u8], &[u8])] = &[
+const LINES: &[(&[u8], &[u8])] = &[
     // Physical lines.
     (b"", b""),
     (b"\n", b""),
@@ -27,6 +28,10 @@ const TABLE: &[(&[u8], &[u8])] = &[
     (b"a#b\r\n", b"1: a\n"),
     (b"a ## b # c\nd", b"1: a\n2: d\n"),
     (b"#a\n b", b"2: b\n"),
+];
+
+/// The same of continued lines.
+const CONTINUED: &[(&[u8], &[u8])] = &[
     // Continuation.
     (b"a \\\nb", b"1: a b\n"),
     (b"a\\\nb", b"1: a b\n"),
@@ -79,13 +84,25 @@ fn shown(alloc: Global, lines: &[Line]) -> Result<Vec<u8>, AllocError> {
     Ok(out)
 }
 
-#[test]
-fn lines_of_texts(rt: HostRuntime) -> Result<(), Fail> {
-    for (text, want) in TABLE {
+/// Compares the lines of texts.
+fn compare(rt: &impl Abort, alloc: Global, table: &[(&[u8], &[u8])]) -> Result<(), AllocError> {
+    for (text, want) in table {
         assert!(rt; text.len() < 100);
-        let lines = logical_lines(rt.alloc(), text)?;
-        let out = shown(rt.alloc(), lines.as_slice())?;
+        let lines = logical_lines(alloc, *text)?;
+        let out = shown(alloc, lines.as_slice())?;
         assert_eq!(rt; out.as_slice(), *want, "at {text:?}");
     }
+    Ok(())
+}
+
+#[test]
+fn lines_of_texts(rt: HostRuntime) -> Result<(), Fail> {
+    compare(&rt, rt.alloc(), LINES)?;
+    Ok(())
+}
+
+#[test]
+fn continued_lines_of_texts(rt: HostRuntime) -> Result<(), Fail> {
+    compare(&rt, rt.alloc(), CONTINUED)?;
     Ok(())
 }

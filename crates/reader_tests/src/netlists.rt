@@ -1,4 +1,4 @@
-//! Texts with their models and faults, in two tables; begin with `models_of_texts`.
+//! Texts with their models and faults, in tables; begin with `models_of_texts`.
 
 ghost use Rattle.std.specs.Prelude.{◌≤◌, length};
 
@@ -7,11 +7,12 @@ use blif_lines::logical_lines;
 use blif_syntax::{BlifFault, Item, LatchKind, Model, Models, What, read_models};
 use net_core::{Cover, Init, Lit};
 use std::alloc::{AllocError, Global};
+use std::process::Abort;
 use std::test::Fail;
 use ste_base::{Items, Name};
 
-/// Texts, and the fault of each.
-const FAULTS: &[(&[u8], &[u8])] = &[
+/// Texts without a model, with lines outside a model, and with words that are not known or left out; and the fault of each.
+const FAULTS_OF_WORDS: &[(&[u8], &[u8])] = &[
     // No model.
     (b"", b"no model"),
     (b"# .model m\n\n", b"no model"),
@@ -54,6 +55,10 @@ const FAULTS: &[(&[u8], &[u8])] = &[
     (b".model a b", b"1: bad"),
     (b".model m\n.end x", b"2: bad"),
     (b".model m\na b c", b"2: bad"),
+];
+
+/// Texts with gates, and the fault of each.
+const FAULTS_OF_GATES: &[(&[u8], &[u8])] = &[
     // Gates.
     (b".model m\n.names", b"2: bad"),
     (b".model m\n.names a b y\n1 1", b"3: bad"),
@@ -77,6 +82,10 @@ const FAULTS: &[(&[u8], &[u8])] = &[
     (b".model m\n.names a y\n1 1\n.latch a b\n0 1", b"5: bad"),
     (b".model m\n.names a y\n.inputs a\n0 1", b"4: bad"),
     (b".model m\n.names a y\n.model n\n0 1", b"4: bad"),
+];
+
+/// Texts with latches and with uses of models, and the fault of each.
+const FAULTS_OF_LATCHES: &[(&[u8], &[u8])] = &[
     // Latches.
     (b".model m\n.latch", b"2: bad"),
     (b".model m\n.latch a", b"2: bad"),
@@ -191,52 +200,80 @@ fn add_cover(alloc: Global, out: &mut Vec<u8>, cover: &Cover) -> Result<(), Allo
     Ok(())
 }
 
-/// Adds a latch.
+/// Adds a gate.
+fn add_gate(
+    alloc: Global,
+    out: &mut Vec<u8>,
+    inputs: &Items<Name>,
+    output: &Name,
+    cover: &Cover,
+) -> Result<(), AllocError> {
+    add_names(out, b"names", inputs)?;
+    add_word(out, b"->")?;
+    add_word(out, output.bytes())?;
+    add_cover(alloc, out, cover)
+}
+
+/// A latch's kind as the tables write it.
+fn kind_word(kind: LatchKind) -> &'static [u8] {
+    match kind {
+        LatchKind::Plain => b"plain",
+        LatchKind::Rising => b"rising",
+        LatchKind::Falling => b"falling",
+    }
+}
+
+/// A latch's initial value as the tables write it.
+fn init_word(init: Init) -> &'static [u8] {
+    match init {
+        Init::Zero => b"0",
+        Init::One => b"1",
+        Init::Free => b"free",
+    }
+}
+
+/// Adds a latch's kind, control and initial value.
 fn add_latch(
     out: &mut Vec<u8>,
     kind: LatchKind,
     control: &Option<Name>,
     init: Init,
 ) -> Result<(), AllocError> {
-    add_word(
-        out,
-        match kind {
-            LatchKind::Plain => b"plain",
-            LatchKind::Rising => b"rising",
-            LatchKind::Falling => b"falling",
-        },
-    )?;
+    add_word(out, kind_word(kind))?;
     match control {
         Some(control) => add_word(out, control.bytes())?,
         None => add_word(out, b"none")?,
     }
-    add_word(
-        out,
-        match init {
-            Init::Zero => b"0",
-            Init::One => b"1",
-            Init::Free => b"free",
-        },
-    )
+    add_word(out, init_word(init))
 }
 
-/// Adds what a line says.
-fn add_item(alloc: Global, out: &mut Vec<u8>, item: &Item) -> Result<(), AllocError> {
-    out.extend_from_slice(format!(in alloc; "{}:", item.line)?.as_bytes())?;
-    match &item.what {
-        What::Inputs(names) => add_names(out, b"inputs", names)?,
-        What::Outputs(names) => add_names(out, b"outputs", names)?,
-        What::Clock(names) => add_names(out, b"clock", names)?,
+/// Adds a use of a model.
+fn add_use(
+    out: &mut Vec<u8>,
+    model: &Name,
+    formals: &Items<(Name, Name)>,
+) -> Result<(), AllocError> {
+    add_word(out, b"subckt")?;
+    add_word(out, model.bytes())?;
+    for binding in formals.as_slice() {
+        add_word(out, binding.0.bytes())?;
+        out.push(b'<')?;
+        out.extend_from_slice(binding.1.bytes())?;
+    }
+    Ok(())
+}
+
+/// Adds what a line says, but for its number.
+fn add_what(alloc: Global, out: &mut Vec<u8>, what: &What) -> Result<(), AllocError> {
+    match what {
+        What::Inputs(names) => add_names(out, b"inputs", names),
+        What::Outputs(names) => add_names(out, b"outputs", names),
+        What::Clock(names) => add_names(out, b"clock", names),
         What::Names {
             inputs,
             output,
             cover,
-        } => {
-            add_names(out, b"names", inputs)?;
-            add_word(out, b"->")?;
-            add_word(out, output.bytes())?;
-            add_cover(alloc, out, cover)?;
-        }
+        } => add_gate(alloc, out, inputs, output, cover),
         What::Latch {
             input,
             output,
@@ -247,20 +284,17 @@ fn add_item(alloc: Global, out: &mut Vec<u8>, item: &Item) -> Result<(), AllocEr
             add_word(out, b"latch")?;
             add_word(out, input.bytes())?;
             add_word(out, output.bytes())?;
-            add_latch(out, *kind, control, *init)?;
+            add_latch(out, *kind, control, *init)
         }
-        What::Subckt { model, formals } => {
-            add_word(out, b"subckt")?;
-            add_word(out, model.bytes())?;
-            for binding in formals.as_slice() {
-                add_word(out, binding.0.bytes())?;
-                out.push(b'<')?;
-                out.extend_from_slice(binding.1.bytes())?;
-            }
-        }
+        What::Subckt { model, formals } => add_use(out, model, formals),
     }
-    out.push(b'\n')?;
-    Ok(())
+}
+
+/// Adds what a line says.
+fn add_item(alloc: Global, out: &mut Vec<u8>, item: &Item) -> Result<(), AllocError> {
+    out.extend_from_slice(format!(in alloc; "{}:", item.line)?.as_bytes())?;
+    add_what(alloc, out, &item.what)?;
+    Ok(out.push(b'\n')?)
 }
 
 /// The models as the table writes them.
@@ -311,22 +345,36 @@ fn answer(alloc: Global, text: &[u8]) -> Result<Vec<u8>, AllocError>
     }
 }
 
-#[test]
-fn faults_of_texts(rt: HostRuntime) -> Result<(), Fail> {
-    for (text, want) in FAULTS {
+/// Compares what texts are answered with.
+fn compare(rt: &impl Abort, alloc: Global, table: &[(&[u8], &[u8])]) -> Result<(), AllocError> {
+    for (text, want) in table {
         assert!(rt; text.len() < 1000);
-        let out = answer(rt.alloc(), text)?;
+        let out = answer(alloc, *text)?;
         assert_eq!(rt; out.as_slice(), *want, "at {text:?}");
     }
     Ok(())
 }
 
 #[test]
+fn faults_of_words(rt: HostRuntime) -> Result<(), Fail> {
+    compare(&rt, rt.alloc(), FAULTS_OF_WORDS)?;
+    Ok(())
+}
+
+#[test]
+fn faults_of_gates(rt: HostRuntime) -> Result<(), Fail> {
+    compare(&rt, rt.alloc(), FAULTS_OF_GATES)?;
+    Ok(())
+}
+
+#[test]
+fn faults_of_latches(rt: HostRuntime) -> Result<(), Fail> {
+    compare(&rt, rt.alloc(), FAULTS_OF_LATCHES)?;
+    Ok(())
+}
+
+#[test]
 fn models_of_texts(rt: HostRuntime) -> Result<(), Fail> {
-    for (text, want) in MODELS {
-        assert!(rt; text.len() < 1000);
-        let out = answer(rt.alloc(), text)?;
-        assert_eq!(rt; out.as_slice(), *want, "at {text:?}");
-    }
+    compare(&rt, rt.alloc(), MODELS)?;
     Ok(())
 }

@@ -7,11 +7,12 @@ use assert_syntax::{RawBind, RawEdge, RawQuint, RawTask, RawTasks, TaskFault, re
 use blif_lines::logical_lines;
 use bool_expr::{Expr, value};
 use std::alloc::{AllocError, Global};
+use std::process::Abort;
 use std::test::Fail;
 use ste_base::Name;
 
-/// Texts, and the fault of each.
-const FAULTS: &[(&[u8], &[u8])] = &[
+/// Texts without a task, with words that begin no form, with variables, heads, edges and ends; and the fault of each.
+const FAULTS_OF_HEADS: &[(&[u8], &[u8])] = &[
     // No task.
     (b"", b"no task"),
     (b"# .ste t\n\n", b"no task"),
@@ -52,6 +53,10 @@ const FAULTS: &[(&[u8], &[u8])] = &[
     (b".vars p\n.end", b"2: bad"),
     (b".ste t\n.end\n.end", b"3: bad"),
     (b".ste t\n.end t", b"2: bad"),
+];
+
+/// Texts with clauses, and the fault of each.
+const FAULTS_OF_CLAUSES: &[(&[u8], &[u8])] = &[
     // Clauses where they may not stand.
     (b".ant a = 1 from 0 to 1", b"1: bad"),
     (b".ste t\n.ant a = 1", b"2: bad"),
@@ -83,6 +88,10 @@ const FAULTS: &[(&[u8], &[u8])] = &[
     (b".ste t\n.ant a = 1 1 from 0 to 1", b"2: bad"),
     (b".ste t\n.ant a = 1 to 0 from 0 to 1", b"2: bad"),
     (b".ste t\n.ant a == 1 from 0 to 1", b"2: bad"),
+];
+
+/// Texts with expressions and times, and the fault of each.
+const FAULTS_OF_EXPRESSIONS: &[(&[u8], &[u8])] = &[
     // Expressions and times.
     (b".ste t\n.ant a = p from 0 to 1", b"2: unknown p"),
     (
@@ -413,23 +422,37 @@ const COUNTS: &[(&str, &str, u32, &str, &str, &[u8])] = &[
     ),
 ];
 
-#[test]
-fn faults_of_texts(rt: HostRuntime) -> Result<(), Fail> {
-    for (text, want) in FAULTS {
+/// Compares what texts are answered with.
+fn compare(rt: &impl Abort, alloc: Global, table: &[(&[u8], &[u8])]) -> Result<(), AllocError> {
+    for (text, want) in table {
         assert!(rt; text.len() < 1000);
-        let out = answer(rt.alloc(), text)?;
+        let out = answer(alloc, *text)?;
         assert_eq!(rt; out.as_slice(), *want, "at {text:?}");
     }
     Ok(())
 }
 
 #[test]
+fn faults_of_heads(rt: HostRuntime) -> Result<(), Fail> {
+    compare(&rt, rt.alloc(), FAULTS_OF_HEADS)?;
+    Ok(())
+}
+
+#[test]
+fn faults_of_clauses(rt: HostRuntime) -> Result<(), Fail> {
+    compare(&rt, rt.alloc(), FAULTS_OF_CLAUSES)?;
+    Ok(())
+}
+
+#[test]
+fn faults_of_expressions(rt: HostRuntime) -> Result<(), Fail> {
+    compare(&rt, rt.alloc(), FAULTS_OF_EXPRESSIONS)?;
+    Ok(())
+}
+
+#[test]
 fn tasks_of_texts(rt: HostRuntime) -> Result<(), Fail> {
-    for (text, want) in TASKS {
-        assert!(rt; text.len() < 1000);
-        let out = answer(rt.alloc(), text)?;
-        assert_eq!(rt; out.as_slice(), *want, "at {text:?}");
-    }
+    compare(&rt, rt.alloc(), TASKS)?;
     Ok(())
 }
 

@@ -1,4 +1,4 @@
-//! Reports with their texts; begin with `TABLE`.
+//! Reports with their texts; begin with `ASSERTIONS`.
 
 use ste_model::Verdict;
 
@@ -55,8 +55,8 @@ const NO: List = (&[], false);
 
 const ALL: List = (&["-"], false);
 
-/// Reports with their texts.
-pub const TABLE: &[Entry] = &[
+/// Assertions of each verdict.
+pub const ASSERTIONS: &[Entry] = &[
     // An assertion that passes, and one that fails.
     Entry {
         netlist: INV,
@@ -163,6 +163,10 @@ pub const TABLE: &[Entry] = &[
         nodes: None,
         text: "g: weak failure\n  weak: 1\n  least:\n  fails: y at 0\n",
     },
+];
+
+/// Paths, several lists, times and guards.
+pub const PATHS_AND_LISTS: &[Entry] = &[
     // A path, without a run and with one.
     Entry {
         netlist: LAT,
@@ -252,6 +256,10 @@ pub const TABLE: &[Entry] = &[
         nodes: None,
         text: "t1: strong failure\n  strong: p\n  least: p=1\n  fails: y at 0\n  run:\n    a: 1\n    y: 0\n",
     },
+];
+
+/// Runs of all nets, numbers behind reports, and files of several tasks and of none.
+pub const NETS_AND_TASKS: &[Entry] = &[
     // All nets in their order, and the nets that are named alone.
     Entry {
         netlist: TWO_LEVELS,

@@ -1,15 +1,15 @@
-//! Reports with their texts, in one table; begin with `texts_of_reports`.
+//! Reports with their texts, in tables; begin with `texts_of_assertions`.
 
-ghost use Rattle.std.specs.Prelude.{◌≡◌, ◌≤◌, ◌<◌, IfOk, IfSome, length};
+ghost use Rattle.std.specs.Prelude.{◌≡◌, ◌≤◌, ◌<◌, IfOk, IfSome, OnOk, length};
 
 use crate::netlists::{Names, names_of};
-use crate::table::{Entry, Named, TABLE, Told};
+use crate::table::{ASSERTIONS, Entry, NETS_AND_TASKS, Named, PATHS_AND_LISTS, Told};
 use crate::told::{report_of, reports_of, tasks_of};
 use report_text::render;
 use std::alloc::{AllocError, Global};
 use std::test::Fail;
 use ste_base::{Items, Name, VarId};
-use ste_model::{Cube, CubeList, Report, Tasks, Verdict};
+use ste_model::{Cube, Report, Tasks, Verdict};
 
 /// The names of the nets of a netlist.
 fn known(alloc: Global, netlist: &str) -> Result<Names, Fail> {
@@ -20,25 +20,52 @@ fn known(alloc: Global, netlist: &str) -> Result<Names, Fail> {
     names_of(alloc, bytes)
 }
 
+/// The text of the reports of tasks.
+fn text_of_tasks(
+    alloc: Global,
+    names: &Names,
+    tasks: &Tasks,
+    told: &[Told],
+    wave: bool,
+    nodes: Option<u32>,
+) -> Result<Vec<u8>, Fail> {
+    let reports = reports_of(alloc, names.nets, told)?;
+    Ok(render(alloc, &names.own, tasks, reports.as_slice(), wave, nodes)?)
+}
+
+/// The text of the reports of an entry over the nets of its netlist.
+fn text_of_entry(alloc: Global, names: &Names, entry: &Entry) -> Result<Vec<u8>, Fail> {
+    let tasks = tasks_of(alloc, entry.vars, entry.tasks)?;
+    text_of_tasks(alloc, names, &tasks, entry.tasks, entry.wave, entry.nodes)
+}
+
 /// The text of the reports of an entry.
 fn text_of(alloc: Global, entry: &Entry) -> Result<Vec<u8>, Fail> {
     let names = known(alloc, entry.netlist)?;
-    let tasks = tasks_of(alloc, entry.vars, entry.tasks)?;
-    let reports = reports_of(alloc, names.nets, entry.tasks)?;
-    let text = render(
-        alloc,
-        &names.own,
-        &tasks,
-        reports.as_slice(),
-        entry.wave,
-        entry.nodes,
-    )?;
-    Ok(text)
+    text_of_entry(alloc, &names, entry)
 }
 
 #[test]
-fn texts_of_reports(rt: HostRuntime) -> Result<(), Fail> {
-    for entry in TABLE {
+fn texts_of_assertions(rt: HostRuntime) -> Result<(), Fail> {
+    for entry in ASSERTIONS {
+        let text = text_of(rt.alloc(), entry)?;
+        assert_eq!(rt; text.as_slice(), entry.text.as_bytes());
+    }
+    Ok(())
+}
+
+#[test]
+fn texts_of_paths_and_lists(rt: HostRuntime) -> Result<(), Fail> {
+    for entry in PATHS_AND_LISTS {
+        let text = text_of(rt.alloc(), entry)?;
+        assert_eq!(rt; text.as_slice(), entry.text.as_bytes());
+    }
+    Ok(())
+}
+
+#[test]
+fn texts_of_nets_and_tasks(rt: HostRuntime) -> Result<(), Fail> {
+    for entry in NETS_AND_TASKS {
         let text = text_of(rt.alloc(), entry)?;
         assert_eq!(rt; text.as_slice(), entry.text.as_bytes());
     }
@@ -59,20 +86,21 @@ const FAILURE: Told = Told {
     run: None,
 };
 
-/// The text of reports of some tasks over others.
+/// The text of reports of some tasks over others, and over the nets with these names.
+fn text_with(
+    alloc: Global,
+    names: &Names,
+    tasks: &[Told],
+    reports: &[Told],
+) -> Result<Vec<u8>, Fail> {
+    let tasks = tasks_of(alloc, &[], tasks)?;
+    text_of_tasks(alloc, names, &tasks, reports, false, Some(1))
+}
+
+/// The same over one net.
 fn text_over(alloc: Global, tasks: &[Told], reports: &[Told]) -> Result<Vec<u8>, Fail> {
     let names = known(alloc, ONE_NET)?;
-    let tasks = tasks_of(alloc, &[], tasks)?;
-    let reports = reports_of(alloc, names.nets, reports)?;
-    let text = render(
-        alloc,
-        &names.own,
-        &tasks,
-        reports.as_slice(),
-        false,
-        Some(1),
-    )?;
-    Ok(text)
+    text_with(alloc, &names, tasks, reports)
 }
 
 const LINES: &[u8] = b"f: strong failure\n  fails: d at 0\nshared nodes: 1\n";
@@ -119,37 +147,48 @@ fn many_bits(alloc: Global) -> Result<Items<bool>, AllocError> {
     Ok(bits)
 }
 
+/// Tells a report of those bits, and of more.
+fn widen(alloc: Global, report: &mut Report) -> Result<(), AllocError>
+    ensures fails { OnOk result (report.new.fails ≡ report.old.fails) }
+    ensures run { OnOk result (report.new.run ≡ report.old.run) }
+{
+    report.guards.strong.cubes.push(many_literals(alloc)?)?;
+    report.guards.strong.more = true;
+    report.least = Some(many_bits(alloc)?);
+    Ok(())
+}
+
 /// A failure over so many nets, under those bits and more.
 fn wide_failure(alloc: Global, nets: u32) -> Result<Report, Fail>
     ensures fails { IfOk result (λ report. IfSome report.fails (λ place. place.0.0 < nets)) }
     ensures rows { IfOk result (λ report. IfSome report.run (λ run. length run.rows ≤ nets)) }
 {
-    let Report {
-        name,
-        verdict,
-        guards,
-        least: _,
-        path,
-        fails,
-        run,
-    } = report_of(alloc, nets, &FAILURE)?;
-    let mut guards = guards;
-    let mut cubes = Items::new(alloc);
-    cubes.push(many_literals(alloc)?)?;
-    guards.strong = CubeList { cubes, more: true };
-    let least = Some(many_bits(alloc)?);
-    Ok(Report {
-        name,
-        verdict,
-        guards,
-        least,
-        path,
-        fails,
-        run,
-    })
+    let mut report = report_of(alloc, nets, &FAILURE)?;
+    widen(alloc, &mut report)?;
+    Ok(report)
 }
 
-/// The text of that failure.
+/// The task of that failure over a thousand variables.
+fn wide_tasks(alloc: Global) -> Result<Tasks, AllocError> {
+    let mut tasks = tasks_of(alloc, &[], &[FAILURE])?;
+    tasks.vars = many_names(alloc)?;
+    Ok(tasks)
+}
+
+/// The text of the report of that failure.
+fn text_of_wide(alloc: Global, names: &Names, tasks: &Tasks) -> Result<Vec<u8>, Fail> {
+    let report = wide_failure(alloc, names.nets)?;
+    Ok(render(alloc, &names.own, tasks, &[report], false, None)?)
+}
+
+/// The same over one net.
+fn text_of_wide_failure(alloc: Global) -> Result<Vec<u8>, Fail> {
+    let names = known(alloc, ONE_NET)?;
+    let tasks = wide_tasks(alloc)?;
+    text_of_wide(alloc, &names, &tasks)
+}
+
+/// What it is to be.
 fn wide_text(alloc: Global) -> Result<Vec<u8>, AllocError> {
     let cube = b" & !a & b".repeat(alloc, 499)?;
     let least = b" a=0 b=1".repeat(alloc, 500)?;
@@ -163,14 +202,8 @@ fn wide_text(alloc: Global) -> Result<Vec<u8>, AllocError> {
 
 #[test]
 fn a_failure_over_a_thousand_variables(rt: HostRuntime) -> Result<(), Fail> {
-    let alloc = rt.alloc();
-    let names = known(alloc, ONE_NET)?;
-    let report = wide_failure(alloc, names.nets)?;
-    let Tasks { vars: _, tasks } = tasks_of(alloc, &[], &[FAILURE])?;
-    let vars = many_names(alloc)?;
-    let tasks = Tasks { vars, tasks };
-    let text = render(alloc, &names.own, &tasks, &[report], false, None)?;
-    let expected = wide_text(alloc)?;
+    let text = text_of_wide_failure(rt.alloc())?;
+    let expected = wide_text(rt.alloc())?;
     assert_eq!(rt; text.as_slice(), expected.as_slice());
     Ok(())
 }

@@ -189,32 +189,37 @@ fn told_least(
     }
 }
 
+/// The lists of a report.
+fn guards_of(alloc: Global, lists: &(List, List, List)) -> Result<Guards, AllocError> {
+    Ok(Guards {
+        strong: list_of(alloc, &lists.0)?,
+        weak: list_of(alloc, &lists.1)?,
+        contradictory: list_of(alloc, &lists.2)?,
+    })
+}
+
+/// The numbers of a path.
+fn path_of(alloc: Global, numbers: &[u32]) -> Result<Items<u32>, AllocError> {
+    let mut path = Items::new(alloc);
+    for number in numbers {
+        path.push(*number)?;
+    }
+    Ok(path)
+}
+
 /// The report of a task over so many nets.
 pub fn report_of(alloc: Global, nets: u32, told: &Told) -> Result<Report, Fail>
     ensures fails { IfOk result (λ report. IfSome report.fails (λ place. place.0.0 < nets)) }
     ensures rows { IfOk result (λ report. IfSome report.run (λ run. length run.rows ≤ nets)) }
 {
-    let mut path = Items::new(alloc);
-    for edge in told.path {
-        path.push(*edge)?;
-    }
-    let guards = Guards {
-        strong: list_of(alloc, &told.lists.0)?,
-        weak: list_of(alloc, &told.lists.1)?,
-        contradictory: list_of(alloc, &told.lists.2)?,
-    };
-    let name = Name::from_bytes(alloc, told.name.as_bytes())?;
-    let least = told_least(alloc, told.least)?;
-    let fails = told_place(nets, told.fails)?;
-    let run = told_run(alloc, nets, told.run)?;
     Ok(Report {
-        name,
+        fails: told_place(nets, told.fails)?,
+        name: Name::from_bytes(alloc, told.name.as_bytes())?,
         verdict: told.verdict,
-        guards,
-        least,
-        path,
-        fails,
-        run,
+        guards: guards_of(alloc, &told.lists)?,
+        least: told_least(alloc, told.least)?,
+        path: path_of(alloc, told.path)?,
+        run: told_run(alloc, nets, told.run)?,
     })
 }
 

@@ -120,7 +120,26 @@ fn quints_of(
     Ok(quints)
 }
 
-/// The report with so many steps and at most so many cubes in each list, and how many steps were used.
+/// The report on a task with so many steps and at most so many cubes in each list, and how many steps were used.
+fn report_on(
+    alloc: Global,
+    ready: &Ready,
+    task: &Assertion,
+    steps: u32,
+    cubes: u32,
+) -> Result<(Report, u32), Fail>
+    requires steps { steps ≤ 1000 }
+    requires ant { All (λ quint. quint.node.0 < ready.now.net.raw.nets) task.now.ant }
+    requires con { All (λ quint. quint.node.0 < ready.now.net.raw.nets) task.now.con }
+    requires ant_reads { ReadBelow 2 task.now.ant }
+    requires con_reads { ReadBelow 2 task.now.con }
+{
+    let mut nodes = PlainNodes::new(alloc, 2, steps)?;
+    let report = check_ste(alloc, &mut nodes, &ready.net, &ready.rows, task, cubes)?;
+    Ok((report, nodes.used()))
+}
+
+/// The same on the task of what is given and what is to follow.
 fn report_of(
     alloc: Global,
     ready: &Ready,
@@ -138,9 +157,7 @@ fn report_of(
         ant: quints_of(alloc, &ready.names, ready.net.nets(), ant)?,
         con: quints_of(alloc, &ready.names, ready.net.nets(), con)?,
     };
-    let mut nodes = PlainNodes::new(alloc, 2, steps)?;
-    let report = check_ste(alloc, &mut nodes, &ready.net, &ready.rows, &task, cubes)?;
-    Ok((report, nodes.used()))
+    report_on(alloc, ready, &task, steps, cubes)
 }
 
 /// The verdict with so many steps, and how many of them were used.
@@ -156,6 +173,20 @@ fn verdict_of(
 {
     let (report, used) = report_of(alloc, ready, reset, ant, con, steps, 8)?;
     Ok((report.verdict, used))
+}
+
+/// The same for the net of a text.
+fn verdict_by_text(
+    alloc: Global,
+    text: &[u8],
+    reset: bool,
+    ant: &[Asked],
+    con: &[Asked],
+) -> Result<(Verdict, u32), Fail>
+    requires { length text.now ≤ 20000 }
+{
+    let ready = net_of(alloc, text)?;
+    verdict_of(alloc, &ready, reset, ant, con, 1000)
 }
 
 const INVERTER: &str = ".model inv\n.inputs a\n.outputs y\n.names a y\n0 1\n.end\n";
@@ -297,14 +328,10 @@ const CASES: &[Case] = &[
 
 #[test]
 fn worked_examples_have_their_verdicts(rt: HostRuntime) -> Result<(), Fail> {
-    let alloc = rt.alloc();
     for (text, reset, ant, con, verdict) in CASES {
         let bytes = text.as_bytes();
-        if bytes.len() > 20000 {
-            return Err("a long text".into());
-        }
-        let ready = net_of(alloc, bytes)?;
-        let found = verdict_of(alloc, &ready, *reset, ant, con, 1000)?;
+        assert!(&rt; bytes.len() <= 20000);
+        let found = verdict_by_text(rt.alloc(), bytes, *reset, ant, con)?;
         assert_eq!(&rt; found.0, *verdict);
     }
     Ok(())
@@ -578,42 +605,62 @@ fn has_run(report: &Report, told: &Told) -> bool {
     }
 }
 
-/// The report of a worked example.
-fn told_of(alloc: Global, ready: &Ready, told: &Told) -> Result<Report, Fail> {
+/// Whether a report has all that is to be told.
+fn has_all(report: &Report, names: &NetNames, told: &Told) -> bool {
+    report.verdict == told.verdict
+        && has_lists(report, told)
+        && has_least(report, told)
+        && has_place(report, names, told)
+        && has_run(report, told)
+}
+
+/// Whether the report of a worked example has all that is to be told.
+fn is_told(alloc: Global, ready: &Ready, told: &Told) -> Result<bool, Fail> {
     let (report, _) = report_of(alloc, ready, told.reset, told.ant, told.con, 1000, told.max)?;
-    Ok(report)
+    Ok(has_all(&report, &ready.names, told))
+}
+
+/// The same for the net of its text.
+fn is_told_by_text(alloc: Global, text: &[u8], told: &Told) -> Result<bool, Fail>
+    requires { length text.now ≤ 20000 }
+{
+    let ready = net_of(alloc, text)?;
+    is_told(alloc, &ready, told)
 }
 
 #[test]
 fn worked_examples_have_their_reports(rt: HostRuntime) -> Result<(), Fail> {
-    let alloc = rt.alloc();
-    for told in REPORTS {
+    for (number, told) in REPORTS.iter().enumerate() {
         let bytes = told.text.as_bytes();
-        if bytes.len() > 20000 {
-            return Err("a long text".into());
-        }
-        let ready = net_of(alloc, bytes)?;
-        let report = told_of(alloc, &ready, told)?;
-        assert_eq!(&rt; report.verdict, told.verdict);
-        assert!(&rt; has_lists(&report, told));
-        assert!(&rt; has_least(&report, told));
-        assert!(&rt; has_place(&report, &ready.names, told));
-        assert!(&rt; has_run(&report, told));
+        assert!(&rt; bytes.len() <= 20000);
+        assert!(&rt; is_told_by_text(rt.alloc(), bytes, told)?, "{number}");
     }
     Ok(())
 }
 
-/// Where the steps are spent nothing is told but the name and the verdict.
-#[test]
-fn a_budget_report_is_blank(rt: HostRuntime) -> Result<(), Fail> {
-    let alloc = rt.alloc();
-    let ready = net_of(alloc, INVERTER.as_bytes())?;
+/// Whether a report of no steps tells nothing but its name and the verdict.
+fn is_blank(alloc: Global, ready: &Ready) -> Result<bool, Fail> {
     let given = &[("a", Value::One, Value::P, 0, 1)];
     let claim = &[("y", Value::One, Value::P, 0, 1)];
-    let (report, used) = report_of(alloc, &ready, false, given, claim, 0, 8)?;
-    assert_eq!(&rt; used, 0);
-    assert_eq!(&rt; report.verdict, Verdict::Budget);
-    assert!(&rt; report.guards.strong.cubes.len() == 0 && report.least.is_none());
+    let (report, used) = report_of(alloc, ready, false, given, claim, 0, 8)?;
+    Ok(
+        used == 0
+            && report.verdict == Verdict::Budget
+            && report.guards.strong.cubes.len() == 0
+            && report.least.is_none(),
+    )
+}
+
+/// The same on the inverter.
+fn is_blank_on_inverter(alloc: Global) -> Result<bool, Fail> {
+    let ready = net_of(alloc, INVERTER.as_bytes())?;
+    is_blank(alloc, &ready)
+}
+
+#[test]
+fn a_budget_report_is_blank(rt: HostRuntime) -> Result<(), Fail> {
+    let blank = is_blank_on_inverter(rt.alloc())?;
+    assert!(&rt; blank);
     Ok(())
 }
 
@@ -646,25 +693,50 @@ const NEEDS: &[(&str, &[Asked], &[Asked], Verdict, u32)] = &[
     ),
 ];
 
-/// With as many steps as are needed, and with more, a task has its verdict; with fewer it has its verdict, or it has used
-/// all of them.
+/// Whether a task has its verdict with as many steps as are needed, and with more; and with fewer its verdict, or it has
+/// used all of them.
+fn suffice(
+    alloc: Global,
+    ready: &Ready,
+    ant: &[Asked],
+    con: &[Asked],
+    verdict: Verdict,
+    need: u32,
+) -> Result<bool, Fail> {
+    for steps in 0..15 {
+        let (found, used) = verdict_of(alloc, ready, false, ant, con, steps)?;
+        let spent = found == Verdict::Budget && steps < need && used == steps;
+        if found != verdict && !spent {
+            return Ok(false);
+        }
+    }
+    Ok(true)
+}
+
+/// The same for the net of a text.
+fn suffice_by_text(
+    alloc: Global,
+    text: &[u8],
+    ant: &[Asked],
+    con: &[Asked],
+    verdict: Verdict,
+    need: u32,
+) -> Result<bool, Fail>
+    requires { length text.now ≤ 20000 }
+{
+    let ready = net_of(alloc, text)?;
+    suffice(alloc, &ready, ant, con, verdict, need)
+}
+
 #[test]
 fn steps_at_the_need_suffice(rt: HostRuntime) -> Result<(), Fail> {
-    let alloc = rt.alloc();
     for (text, ant, con, verdict, need) in NEEDS {
         let bytes = text.as_bytes();
-        if bytes.len() > 20000 {
-            return Err("a long text".into());
-        }
-        let ready = net_of(alloc, bytes)?;
-        for steps in 0..15 {
-            let (found, used) = verdict_of(alloc, &ready, false, ant, con, steps)?;
-            if steps < *need && found == Verdict::Budget {
-                assert_eq!(&rt; used, steps);
-            } else {
-                assert_eq!(&rt; found, *verdict);
-            }
-        }
+        assert!(&rt; bytes.len() <= 20000);
+        assert!(&rt;
+            suffice_by_text(rt.alloc(), bytes, ant, con, *verdict, *need)?,
+            "{need}"
+        );
     }
     Ok(())
 }
@@ -699,15 +771,11 @@ fn wide_gate(alloc: Global) -> Result<Vec<u8>, AllocError> {
 
 #[test]
 fn a_gate_of_a_thousand_inputs_has_its_verdict(rt: HostRuntime) -> Result<(), Fail> {
-    let alloc = rt.alloc();
-    let text = wide_gate(alloc)?;
-    if text.len() > 20000 {
-        return Err("a long text".into());
-    }
-    let ready = net_of(alloc, &text)?;
+    let text = wide_gate(rt.alloc())?;
+    assert!(&rt; text.len() <= 20000);
     let given = &[("n999", Value::One, Value::Zero, 0, 1)];
     let claim = &[("y", Value::One, Value::Zero, 0, 1)];
-    let found = verdict_of(alloc, &ready, false, given, claim, 0)?;
+    let found = verdict_by_text(rt.alloc(), &text, false, given, claim)?;
     assert_eq!(&rt; found.0, Verdict::Pass);
     Ok(())
 }

@@ -1,13 +1,13 @@
 //! What `run` writes and answers for words of every kind: the counts of a net, simulations, options, refusals of words.
 
 use crate::hierarchies::TWICE;
+use crate::stage::{Failing, NONE, NOTHING, Stage, compare};
 use crate::tests::{INVERTER, INVERTS};
 use std::alloc::{AllocError, Global};
 use std::process::Abort;
 use std::test::Fail;
 use std::thread::Threads;
-use ste_io::{MemoryFiles, MemorySink};
-use ste_program::run::{Status, run};
+use ste_program::run::Status;
 use work_pool::NoGate;
 
 const USAGE: &str =
@@ -16,16 +16,6 @@ const USAGE: &str =
 const LATCH: &str = ".model l\n.inputs d\n.outputs q\n.latch d q 1\n.end\n";
 
 const TWO_TASKS: &str = ".ste e\n.end\n.ste f\n.end\n";
-
-/// The words, which stand behind the program's name with a space between two.
-fn words_of(alloc: Global, text: &str) -> Result<Vec<String>, AllocError> {
-    let mut words = Vec::new(alloc);
-    words.push(String::from_str(alloc, "stework")?)?;
-    for word in text.split(' ') {
-        words.push(String::from_str(alloc, word)?)?;
-    }
-    Ok(words)
-}
 
 /// Runs the program on the files `n` and `s`, and compares what it answers and writes.
 fn expect(
@@ -38,24 +28,9 @@ fn expect(
     out: &str,
     err: &str,
 ) -> Result<(), AllocError> {
-    let words = words_of(alloc, words)?;
-    let mut files = MemoryFiles::new(alloc, Vec::new(alloc));
-    files.add("n", net.as_bytes())?;
-    files.add("s", second.as_bytes())?;
-    let mut output = MemorySink::new(alloc, 200, 200, Vec::new(alloc))?;
-    let mut errors = MemorySink::new(alloc, 200, 200, Vec::new(alloc))?;
-    let found = run(
-        rt,
-        alloc,
-        &words,
-        &mut files,
-        &mut output,
-        &mut errors,
-        &NoGate,
-    );
-    assert_eq!(rt; output.bytes(), out.as_bytes(), "{second}");
-    assert_eq!(rt; errors.bytes(), err.as_bytes(), "{second}");
-    assert_eq!(rt; found, status, "{second}");
+    let files = &[("n", net.as_bytes()), ("s", second.as_bytes())];
+    let mut stage = Stage::new(alloc, words, files, 200, 200, NOTHING)?;
+    compare(rt, alloc, &mut stage, &NoGate, status, out, err, second);
     Ok(())
 }
 
@@ -334,62 +309,63 @@ fn padded(alloc: Global, text: &str, doublings: usize) -> Result<Vec<u8>, AllocE
 #[test]
 fn a_large_file(rt: HostRuntime) -> Result<(), Fail> {
     let alloc = rt.alloc();
-    let words = words_of(alloc, "info n")?;
-    let mut files = MemoryFiles::new(alloc, Vec::new(alloc));
-    files.add("n", &padded(alloc, INVERTER, 20)?)?;
-    let mut output = MemorySink::new(alloc, 200, 200, Vec::new(alloc))?;
-    let mut errors = MemorySink::new(alloc, 200, 200, Vec::new(alloc))?;
-    let found = run(
+    let text = padded(alloc, INVERTER, 20)?;
+    let mut stage = Stage::new(
+        alloc,
+        "info n",
+        &[("n", text.as_slice())],
+        200,
+        200,
+        NOTHING,
+    )?;
+    let out = "model inv\nnets 2\ninputs 1\nfree 0\ngates 1\nlatches 0\n";
+    compare(
         &rt,
         alloc,
-        &words,
-        &mut files,
-        &mut output,
-        &mut errors,
+        &mut stage,
         &NoGate,
+        Status::Passed,
+        out,
+        "",
+        out,
     );
-    assert_eq!(&rt; found, Status::Passed);
-    let counts = "model inv\nnets 2\ninputs 1\nfree 0\ngates 1\nlatches 0\n";
-    assert_eq!(&rt; output.bytes(), counts.as_bytes());
     Ok(())
+}
+
+/// A hierarchy with a free net, a gate beside a latch, and an inner name.
+const LONG: &str =
+    ".model t\n.inputs a\n.outputs y f\n.subckt u x=a y=y\n.model u\n.inputs x\n.outputs y\n.latch n y 0\n.names x z n\n1- 1\n-1 1\n.end\n";
+
+/// These lines, and so many times a line more.
+fn with_lines(alloc: Global, front: &str, line: &str, count: usize) -> Result<String, AllocError> {
+    let mut text = String::from_str(alloc, front)?;
+    for _ in 0..count {
+        text.push_str(line)?;
+    }
+    Ok(text)
 }
 
 #[test]
 fn a_long_simulation(rt: HostRuntime) -> Result<(), Fail> {
     let alloc = rt.alloc();
-    // a hierarchy with a free net, a gate beside a latch, an inner name and a continued line
-    let net =
-        ".model t\n.inputs a\n.outputs y f\n.subckt u x=a y=y\n.model u\n.inputs x\n.outputs y\n.latch n y 0\n.names x z n\n1- 1\n-1 1\n.end\n";
-    let mut inputs = String::from_str(alloc, ".order \\\n 0/z f\n")?;
-    let mut out = String::from_str(alloc, "outputs y f\n00\n")?;
-    inputs.push_str("10\n")?;
-    for _ in 1..5000 {
-        inputs.push_str("11\n")?;
-        out.push_str("11\n")?;
-    }
-    let words = words_of(alloc, "sim n s")?;
-    let mut files = MemoryFiles::new(alloc, Vec::new(alloc));
-    files.add("n", net.as_bytes())?;
-    files.add("s", inputs.as_bytes())?;
-    let mut output = MemorySink::new(alloc, 20000, 500, Vec::new(alloc))?;
-    let mut errors = MemorySink::new(alloc, 200, 200, Vec::new(alloc))?;
-    let found = run(
+    // a continued line
+    let inputs = with_lines(alloc, ".order \\\n 0/z f\n10\n", "11\n", 4999)?;
+    let out = with_lines(alloc, "outputs y f\n00\n", "11\n", 4999)?;
+    let files = &[("n", LONG.as_bytes()), ("s", inputs.as_bytes())];
+    let mut stage = Stage::new(alloc, "sim n s", files, 20000, 500, NOTHING)?;
+    let what = "a long simulation";
+    compare(
         &rt,
         alloc,
-        &words,
-        &mut files,
-        &mut output,
-        &mut errors,
+        &mut stage,
         &NoGate,
+        Status::Passed,
+        &out,
+        "",
+        what,
     );
-    assert_eq!(&rt; errors.bytes().len(), 0);
-    assert_eq!(&rt; found, Status::Passed);
-    assert_eq!(&rt; output.bytes(), out.as_bytes());
     Ok(())
 }
-
-/// What fails of a command over the files `n` and `s`: a fetch, a write of the output, a write of the error sink.
-type Failing<'a> = (&'a [u64], &'a [u64], &'a [u64]);
 
 /// Runs the program where something fails, and compares what the error sink has taken; the output has taken nothing, and the status is
 /// 3.
@@ -402,24 +378,18 @@ fn expect_fault(
     failing: &Failing<'_>,
     err: &str,
 ) -> Result<(), AllocError> {
-    let words = words_of(alloc, words)?;
-    let mut files = MemoryFiles::new(alloc, failing.0.to_vec(alloc)?);
-    files.add("n", net.as_bytes())?;
-    files.add("s", second.as_bytes())?;
-    let mut output = MemorySink::new(alloc, 200, 200, failing.1.to_vec(alloc)?)?;
-    let mut errors = MemorySink::new(alloc, 200, 200, failing.2.to_vec(alloc)?)?;
-    let found = run(
+    let files = &[("n", net.as_bytes()), ("s", second.as_bytes())];
+    let mut stage = Stage::new(alloc, words, files, 200, 200, failing)?;
+    compare(
         rt,
         alloc,
-        &words,
-        &mut files,
-        &mut output,
-        &mut errors,
+        &mut stage,
         &NoGate,
+        Status::Faulted,
+        "",
+        err,
+        err,
     );
-    assert_eq!(rt; found, Status::Faulted, "{err}");
-    assert_eq!(rt; output.bytes().len(), 0, "{err}");
-    assert_eq!(rt; errors.bytes(), err.as_bytes(), "{err}");
     Ok(())
 }
 
@@ -428,27 +398,26 @@ fn refusals_and_simulations_that_fail(rt: HostRuntime) -> Result<(), Fail> {
     let alloc = rt.alloc();
     let short_row = ".model m\n.inputs a b\n.outputs y\n.names a b y\n1 1\n.end\n";
     let inputs = ".order d\n1\n";
-    let none: &[u64] = &[];
     let first: &[u64] = &[1];
     let second: &[u64] = &[2];
     for (words, net, failing, err) in [
         (
             "check n s",
             short_row,
-            (second, none, none),
+            (second, NONE, NONE),
             "stework: cannot read s\n",
         ),
-        ("check n s", short_row, (none, none, first), ""),
+        ("check n s", short_row, (NONE, NONE, first), ""),
         (
             "sim n s",
             LATCH,
-            (none, first, none),
+            (NONE, first, NONE),
             "stework: cannot write the report\n",
         ),
         (
             "bench 1",
             "?",
-            (none, first, none),
+            (NONE, first, NONE),
             "stework: cannot write the report\n",
         ),
     ] {

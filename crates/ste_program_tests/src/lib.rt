@@ -9,6 +9,8 @@ mod hierarchies;
 #[cfg(test)]
 mod orders;
 #[cfg(test)]
+mod stage;
+#[cfg(test)]
 mod task_files;
 #[cfg(test)]
 mod tests;

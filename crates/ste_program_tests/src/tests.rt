@@ -1,12 +1,12 @@
 //! What `run` writes and answers, on worked examples, faulty texts and failing files and sinks.
 
+use crate::stage::{Failing, NONE, NOTHING, Stage, compare, run_on};
 use std::alloc::{AllocError, Global};
 use std::process::Abort;
 use std::test::Fail;
 use std::thread::Threads;
 use ste_base::{NumberFault, read_number};
-use ste_io::{MemoryFiles, MemorySink};
-use ste_program::run::{Status, run};
+use ste_program::run::Status;
 use work_pool::NoGate;
 
 pub const INVERTER: &str = ".model inv\n.inputs a\n.outputs y\n.names a y\n0 1\n.end\n";
@@ -29,24 +29,7 @@ const SHIFT: &str =
 
 const TOGGLE: &str = ".model toggle\n.inputs\n.outputs q\n.names q n\n0 1\n.latch n q\n.end\n";
 
-/// The words of a check of the files `n` and `t`.
-fn check_words(alloc: Global) -> Result<Vec<String>, AllocError> {
-    let mut words = Vec::new(alloc);
-    for word in ["stework", "check", "n", "t"] {
-        words.push(String::from_str(alloc, word)?)?;
-    }
-    Ok(words)
-}
-
-/// The files `n` and `t`, of which these fetches fail.
-fn files(alloc: Global, net: &str, task: &str, failing: &[u64]) -> Result<MemoryFiles, AllocError> {
-    let mut files = MemoryFiles::new(alloc, failing.to_vec(alloc)?);
-    files.add("n", net.as_bytes())?;
-    files.add("t", task.as_bytes())?;
-    Ok(files)
-}
-
-/// Runs a check, and compares what it answers and writes.
+/// Runs a check of the files `n` and `t`, and compares what it answers and writes.
 pub fn expect(
     rt: &(impl Abort + Threads + Sync),
     alloc: Global,
@@ -56,22 +39,9 @@ pub fn expect(
     out: &str,
     err: &str,
 ) -> Result<(), AllocError> {
-    let words = check_words(alloc)?;
-    let mut files = files(alloc, net, task, &[])?;
-    let mut output = MemorySink::new(alloc, 200, 3, Vec::new(alloc))?;
-    let mut errors = MemorySink::new(alloc, 200, 200, Vec::new(alloc))?;
-    let found = run(
-        rt,
-        alloc,
-        &words,
-        &mut files,
-        &mut output,
-        &mut errors,
-        &NoGate,
-    );
-    assert_eq!(rt; output.bytes(), out.as_bytes(), "{task}");
-    assert_eq!(rt; errors.bytes(), err.as_bytes(), "{task}");
-    assert_eq!(rt; found, status, "{task}");
+    let files = &[("n", net.as_bytes()), ("t", task.as_bytes())];
+    let mut stage = Stage::new(alloc, "check n t", files, 200, 3, NOTHING)?;
+    compare(rt, alloc, &mut stage, &NoGate, status, out, err, task);
     Ok(())
 }
 
@@ -266,7 +236,33 @@ fn netlists_of_every_form(rt: HostRuntime) -> Result<(), Fail> {
     Ok(())
 }
 
-/// The set of net `y` as the verdict on `y = 1` tells it: 1, 0 or X.
+/// The set of net `y` as the verdict on `y = 1` tells it, on a stage of that task: 1, 0 or X.
+fn set_on(rt: &(impl Abort + Threads + Sync), alloc: Global, stage: &mut Stage) -> u8 {
+    let _ = run_on(rt, alloc, stage, &NoGate);
+    if stage.out() == "t: pass\n".as_bytes() {
+        b'1'
+    } else if stage.out().starts_with("t: strong failure\n".as_bytes()) {
+        b'0'
+    } else {
+        let weak = "t: weak failure\n  weak: 1\n  least:\n  fails: y at 0\n";
+        assert_eq!(rt; stage.out(), weak.as_bytes());
+        b'X'
+    }
+}
+
+/// The same of a net and that task.
+fn set_of_task(
+    rt: &(impl Abort + Threads + Sync),
+    alloc: Global,
+    net: &str,
+    task: &str,
+) -> Result<u8, AllocError> {
+    let files = &[("n", net.as_bytes()), ("t", task.as_bytes())];
+    let mut stage = Stage::new(alloc, "check n t", files, 200, 100, NOTHING)?;
+    Ok(set_on(rt, alloc, &mut stage))
+}
+
+/// The same of a net with these lines as the antecedent.
 fn set_of_output(
     rt: &(impl Abort + Threads + Sync),
     alloc: Global,
@@ -274,28 +270,7 @@ fn set_of_output(
     given: &str,
 ) -> Result<u8, AllocError> {
     let task = format!(in alloc; ".ste t\n{given}.con y = 1 from 0 to 1\n.end\n")?;
-    let words = check_words(alloc)?;
-    let mut files = files(alloc, net, task.as_str(), &[])?;
-    let mut output = MemorySink::new(alloc, 200, 100, Vec::new(alloc))?;
-    let mut errors = MemorySink::new(alloc, 100, 100, Vec::new(alloc))?;
-    let _ = run(
-        rt,
-        alloc,
-        &words,
-        &mut files,
-        &mut output,
-        &mut errors,
-        &NoGate,
-    );
-    if output.bytes() == "t: pass\n".as_bytes() {
-        Ok(b'1')
-    } else if output.bytes().starts_with("t: strong failure\n".as_bytes()) {
-        Ok(b'0')
-    } else {
-        let weak = "t: weak failure\n  weak: 1\n  least:\n  fails: y at 0\n";
-        assert_eq!(rt; output.bytes(), weak.as_bytes());
-        Ok(b'X')
-    }
+    set_of_task(rt, alloc, net, &task)
 }
 
 /// The antecedent that gives these inputs their values, where they are not X.
@@ -314,7 +289,7 @@ fn given(alloc: Global, inputs: &[&str], values: &[u8]) -> Result<String, AllocE
 }
 
 /// Compares the sets of net `y` with a table that was made by hand: the values of the inputs, and the set.
-fn compare(
+fn compare_sets(
     rt: &(impl Abort + Threads + Sync),
     alloc: Global,
     net: &str,
@@ -335,7 +310,7 @@ fn compare(
 #[test]
 fn sets_of_a_multiplexer(rt: HostRuntime) -> Result<(), Fail> {
     let alloc = rt.alloc();
-    compare(
+    compare_sets(
         &rt,
         alloc,
         MUX,
@@ -376,7 +351,7 @@ fn sets_of_a_multiplexer(rt: HostRuntime) -> Result<(), Fail> {
 #[test]
 fn sets_of_two_gates(rt: HostRuntime) -> Result<(), Fail> {
     let alloc = rt.alloc();
-    compare(
+    compare_sets(
         &rt,
         alloc,
         AND_NOT,
@@ -393,7 +368,7 @@ fn sets_of_two_gates(rt: HostRuntime) -> Result<(), Fail> {
             ("XX", b'X'),
         ],
     )?;
-    compare(
+    compare_sets(
         &rt,
         alloc,
         BOTH,
@@ -403,53 +378,45 @@ fn sets_of_two_gates(rt: HostRuntime) -> Result<(), Fail> {
     Ok(())
 }
 
+/// What fails of a check, the output's room, and what is answered and written.
+const FAILING: &[(&Failing<'static>, usize, Status, &str, &str)] = &[
+    (
+        &(&[1], &[], &[]),
+        100,
+        Status::Faulted,
+        "",
+        "stework: cannot read n\n",
+    ),
+    (
+        &(&[2], &[], &[]),
+        100,
+        Status::Faulted,
+        "",
+        "stework: cannot read t\n",
+    ),
+    (&(&[], &[1], &[]), 100, Status::Faulted, "", CANNOT_WRITE),
+    (
+        &(&[], &[2], &[]),
+        100,
+        Status::Faulted,
+        "t1: ",
+        CANNOT_WRITE,
+    ),
+    (NOTHING, 5, Status::Faulted, "t1: p", CANNOT_WRITE),
+    (&(&[], &[1], &[1]), 100, Status::Faulted, "", ""),
+    (&(&[1], &[], &[1]), 100, Status::Faulted, "", ""),
+    (&(&[], &[], &[1]), 100, Status::Passed, "t1: pass\n", ""),
+];
+
+const CANNOT_WRITE: &str = "stework: cannot write the report\n";
+
 #[test]
 fn what_fails(rt: HostRuntime) -> Result<(), Fail> {
     let alloc = rt.alloc();
-    let words = check_words(alloc)?;
-    let cannot_write = "stework: cannot write the report\n";
-    // which fetches fail, the output's room and its failing writes, the error sink's failing writes; and what is taken
-    for (fetches, room, writes, tells, status, out, err) in [
-        (
-            &[1u64] as &[u64],
-            100,
-            &[] as &[u64],
-            &[] as &[u64],
-            Status::Faulted,
-            "",
-            "stework: cannot read n\n",
-        ),
-        (
-            &[2],
-            100,
-            &[],
-            &[],
-            Status::Faulted,
-            "",
-            "stework: cannot read t\n",
-        ),
-        (&[], 100, &[1], &[], Status::Faulted, "", cannot_write),
-        (&[], 100, &[2], &[], Status::Faulted, "t1: ", cannot_write),
-        (&[], 5, &[], &[], Status::Faulted, "t1: p", cannot_write),
-        (&[], 100, &[1], &[1], Status::Faulted, "", ""),
-        (&[1], 100, &[], &[1], Status::Faulted, "", ""),
-        (&[], 100, &[], &[1], Status::Passed, "t1: pass\n", ""),
-    ] {
-        let mut files = files(alloc, INVERTER, INVERTS, fetches)?;
-        let mut output = MemorySink::new(alloc, room, 4, writes.to_vec(alloc)?)?;
-        let mut errors = MemorySink::new(alloc, 100, 100, tells.to_vec(alloc)?)?;
-        let found = run(
-            &rt,
-            alloc,
-            &words,
-            &mut files,
-            &mut output,
-            &mut errors,
-            &NoGate,
-        );
-        assert_eq!(&rt; found, status, "{err}");
-        assert_eq!(&rt; output.bytes(), out.as_bytes(), "{err}");
-        assert_eq!(&rt; errors.bytes(), err.as_bytes(), "{err}");
+    let files = &[("n", INVERTER.as_bytes()), ("t", INVERTS.as_bytes())];
+    for (failing, room, status, out, err) in FAILING {
+        let mut stage = Stage::new(alloc, "check n t", files, *room, 4, failing)?;
+        compare(&rt, alloc, &mut stage, &NoGate, *status, out, err, err);
     }
     Ok(())
 }
@@ -466,62 +433,64 @@ fn large_text(alloc: Global) -> Result<Vec<u8>, AllocError> {
     Ok(text)
 }
 
-#[test]
-fn files_that_are_too_large(rt: HostRuntime) -> Result<(), Fail> {
-    let alloc = rt.alloc();
-    let words = check_words(alloc)?;
-    let large = large_text(alloc)?;
-    for (name, err) in [
-        ("n", "stework: n: too large\n"),
-        ("t", "stework: t: too large\n"),
-    ] {
-        let mut files = files(alloc, INVERTER, INVERTS, &[])?;
-        files.add(name, &large)?;
-        let mut output = MemorySink::new(alloc, 100, 100, Vec::new(alloc))?;
-        let mut errors = MemorySink::new(alloc, 100, 100, Vec::new(alloc))?;
-        let found = run(
-            &rt,
-            alloc,
-            &words,
-            &mut files,
-            &mut output,
-            &mut errors,
-            &NoGate,
-        );
-        assert_eq!(&rt; found, Status::Refused);
-        assert_eq!(&rt; output.bytes().len(), 0);
-        assert_eq!(&rt; errors.bytes(), err.as_bytes());
-    }
+/// Runs a check of which one file has this text, and compares what it answers and writes.
+fn expect_with(
+    rt: &(impl Abort + Threads + Sync),
+    alloc: Global,
+    file: (&str, &[u8]),
+    err: &str,
+) -> Result<(), AllocError> {
+    let files = &[("n", INVERTER.as_bytes()), ("t", INVERTS.as_bytes()), file];
+    let mut stage = Stage::new(alloc, "check n t", files, 100, 100, NOTHING)?;
+    compare(
+        rt,
+        alloc,
+        &mut stage,
+        &NoGate,
+        Status::Refused,
+        "",
+        err,
+        err,
+    );
     Ok(())
 }
 
 #[test]
-fn an_output_that_fails_within_a_line(rt: HostRuntime) -> Result<(), Fail> {
-    let alloc = rt.alloc();
-    let words = check_words(alloc)?;
+fn files_that_are_too_large(rt: HostRuntime) -> Result<(), Fail> {
+    let large = large_text(rt.alloc())?;
+    expect_with(&rt, rt.alloc(), ("n", &large), "stework: n: too large\n")?;
+    expect_with(&rt, rt.alloc(), ("t", &large), "stework: t: too large\n")?;
+    Ok(())
+}
+
+/// Ten tasks that the inverter passes.
+fn ten_tasks(alloc: Global) -> Result<String, AllocError> {
     let mut tasks = String::from_str(alloc, ".vars p\n")?;
     for name in ["t1", "t2", "t3", "t4", "t5", "t6", "t7", "t8", "t9", "t10"] {
         tasks.push_str(".ste ")?;
         tasks.push_str(name)?;
         tasks.push_str("\n.ant a = p from 0 to 1\n.con y = !p from 0 to 1\n.end\n")?;
     }
-    let mut files = files(alloc, INVERTER, &tasks, &[])?;
-    let mut output = MemorySink::new(alloc, 1000, 4, [3].to_vec(alloc)?)?;
-    let mut errors = MemorySink::new(alloc, 100, 100, Vec::new(alloc))?;
-    let found = run(
+    Ok(tasks)
+}
+
+#[test]
+fn an_output_that_fails_within_a_line(rt: HostRuntime) -> Result<(), Fail> {
+    let alloc = rt.alloc();
+    let tasks = ten_tasks(alloc)?;
+    let files = &[("n", INVERTER.as_bytes()), ("t", tasks.as_bytes())];
+    let failing = &(NONE, &[3u64] as &[u64], NONE);
+    let mut stage = Stage::new(alloc, "check n t", files, 1000, 4, failing)?;
+    let out = "t1: pass";
+    compare(
         &rt,
         alloc,
-        &words,
-        &mut files,
-        &mut output,
-        &mut errors,
+        &mut stage,
         &NoGate,
-    );
-    assert_eq!(&rt; found, Status::Faulted);
-    assert_eq!(&rt; output.bytes(), b"t1: pass" as &[u8]);
-    assert_eq!(&rt;
-        errors.bytes(),
-        b"stework: cannot write the report\n" as &[u8]
+        Status::Faulted,
+        out,
+        CANNOT_WRITE,
+        out,
     );
     Ok(())
 }

@@ -1,5 +1,6 @@
 //! Tasks shared out to workers: the same reports for any number of them, the number of shared nodes, and that two workers meet.
 
+use crate::stage::{NOTHING, Stage, run_on};
 use crate::tests::{INVERTER, INVERTS};
 use std::alloc::{AllocError, Global};
 use std::process::Abort;
@@ -7,14 +8,27 @@ use std::sync::atomic::{AtomicU64, Ordering};
 use std::test::Fail;
 use std::thread::Threads;
 use ste_base::read_number;
-use ste_io::{MemoryFiles, MemorySink};
-use ste_program::run::{Status, run};
+use ste_program::run::Status;
 use work_pool::{Gate, NoGate};
 
 const AND: &str = ".model and\n.inputs a b\n.outputs y\n.names a b y\n11 1\n.end\n";
 
 const SHIFT: &str =
     ".model shift\n.inputs d e\n.outputs c\n.names d e n\n11 1\n.latch n a\n.latch a b\n.latch b c\n.end\n";
+
+/// Runs the program on a stage, and compares what it answers; it writes no message.
+fn run_well<G: Gate + Sync>(
+    rt: &(impl Abort + Threads + Sync),
+    alloc: Global,
+    stage: &mut Stage,
+    status: Status,
+    gate: &G,
+    what: &str,
+) {
+    let found = run_on(rt, alloc, stage, gate);
+    assert_eq!(rt; stage.err().len(), 0, "{what}");
+    assert_eq!(rt; found, status, "{what}");
+}
 
 /// What a check of the files `n` and `t` with these options writes to the output.
 fn report<G: Gate + Sync>(
@@ -26,30 +40,11 @@ fn report<G: Gate + Sync>(
     status: Status,
     gate: &G,
 ) -> Result<Vec<u8>, AllocError> {
-    let mut words = Vec::new(alloc);
-    for word in ["stework", "check", "n", "t"] {
-        words.push(String::from_str(alloc, word)?)?;
-    }
-    for word in options.split(' ') {
-        words.push(String::from_str(alloc, word)?)?;
-    }
-    let mut files = MemoryFiles::new(alloc, Vec::new(alloc));
-    files.add("n", net.as_bytes())?;
-    files.add("t", tasks.as_bytes())?;
-    let mut output = MemorySink::new(alloc, 60000, 1000, Vec::new(alloc))?;
-    let mut errors = MemorySink::new(alloc, 200, 200, Vec::new(alloc))?;
-    let found = run(
-        rt,
-        alloc,
-        &words,
-        &mut files,
-        &mut output,
-        &mut errors,
-        gate,
-    );
-    assert_eq!(rt; errors.bytes().len(), 0, "{options}");
-    assert_eq!(rt; found, status, "{options}");
-    output.bytes().to_vec(alloc)
+    let words = format!(in alloc; "check n t {options}")?;
+    let files = &[("n", net.as_bytes()), ("t", tasks.as_bytes())];
+    let mut stage = Stage::new(alloc, &words, files, 60000, 1000, NOTHING)?;
+    run_well(rt, alloc, &mut stage, status, gate, options);
+    stage.out().to_vec(alloc)
 }
 
 /// A flag for each of two tasks, and how many tasks saw the flag of the other.

@@ -48,7 +48,6 @@ struct Asked {
 struct Named {
     net: Net,
     names: NetNames,
-    ghost narrow: { All (λ gate. length gate.inputs ≤ 8) net.raw.gates },
 }
 
 impl Bit {
@@ -95,13 +94,7 @@ fn net_of(alloc: Global, text: &[u8]) -> Result<Named, Fail>
         Err(_) => return Err("no flat net".into()),
     };
     match order(alloc, raw) {
-        Ok(net) => {
-            if all_narrow(net.gates()) {
-                Ok(Named { net, names })
-            } else {
-                Err("a wide gate".into())
-            }
-        }
+        Ok(net) => Ok(Named { net, names }),
         Err(_) => Err("no order".into()),
     }
 }
@@ -268,18 +261,24 @@ fn step_of<N: Nodes>(
     }
 }
 
-/// The sets of the nets at time 0 under each assignment, and those at time 1, where nothing is asked.
-fn tables_of<N: Nodes>(
+/// The sets of the nets at time 0 under each assignment, and those at time 1.
+#[derive(Drop)]
+struct Tables {
+    now: Vec<Vec<BitSet>>,
+    later: Vec<Vec<BitSet>>,
+}
+
+/// The cuts for what is asked, where p and q are the first variables.
+fn cuts_on<N: Nodes>(
     alloc: Global,
     ops: &Ops,
     nodes: &mut N,
     net: &Net,
-    rows: &GateRows,
     asked: &[Asked],
-) -> Result<(Vec<Vec<BitSet>>, Vec<Vec<BitSet>>), Fail>
+) -> Result<Vec<Cut>, Fail>
     requires vars { 2 ≤ (N.store nodes.old).vars }
-    requires rows { rows.now.covers ≡ map rows_of net.now.raw.covers }
     requires asked { All (λ a. a.node.0 < net.now.raw.nets) asked.now }
+    ensures { IfOk result (λ cuts. All (IsCutOf (N.store nodes.new) net.now.raw) cuts.items) }
 {
     let Ok(p) = ops.var(nodes, 0) else {
         return Err("no variable".into());
@@ -287,16 +286,98 @@ fn tables_of<N: Nodes>(
     let Ok(q) = ops.var(nodes, 1) else {
         return Err("no variable".into());
     };
-    let cuts = cuts_of(alloc, &*nodes, net, asked, p, q)?;
-    let latches = unknowns(alloc, net.latches().len())?;
-    let made = step_of(alloc, ops, nodes, net, rows, &latches, &cuts)?;
-    let now = table_of(alloc, nodes, made.nets.as_slice())?;
-    if made.next.len() != net.latches().len() {
+    Ok(cuts_of(alloc, &*nodes, net, asked, p, q)?)
+}
+
+/// The sets of the nets under each assignment, where latches have these sets and nothing is asked.
+fn table_without_cuts<N: Nodes>(
+    alloc: Global,
+    ops: &Ops,
+    nodes: &mut N,
+    net: &Net,
+    rows: &GateRows,
+    latches: &[Rails],
+) -> Result<Vec<Vec<BitSet>>, Fail>
+    requires rows { rows.now.covers ≡ map rows_of net.now.raw.covers }
+    requires latches { All (AreRefs (N.store nodes.old)) latches.now }
+{
+    if latches.len() != net.latches().len() {
         return Err("not a set for each latch".into());
     }
-    let then = step_of(alloc, ops, nodes, net, rows, made.next.as_slice(), &[])?;
-    let later = table_of(alloc, nodes, then.nets.as_slice())?;
-    Ok((now, later))
+    let then = step_of(alloc, ops, nodes, net, rows, latches, &[])?;
+    Ok(table_of(alloc, nodes, then.nets.as_slice())?)
+}
+
+/// The sets of a step under each assignment, and those of the step behind it, where nothing is asked.
+fn tables_after<N: Nodes>(
+    alloc: Global,
+    ops: &Ops,
+    nodes: &mut N,
+    net: &Net,
+    rows: &GateRows,
+    made: &Step,
+) -> Result<Tables, Fail>
+    requires rows { rows.now.covers ≡ map rows_of net.now.raw.covers }
+    requires refs { All (AreRefs (N.store nodes.old)) made.now.nets }
+    requires next { All (AreRefs (N.store nodes.old)) made.now.next }
+{
+    let now = table_of(alloc, nodes, made.nets.as_slice())?;
+    let later = table_without_cuts(alloc, ops, nodes, net, rows, made.next.as_slice())?;
+    Ok(Tables { now, later })
+}
+
+/// The same of the step with these cuts in which each latch has both bits.
+fn tables_with<N: Nodes>(
+    alloc: Global,
+    ops: &Ops,
+    nodes: &mut N,
+    net: &Net,
+    rows: &GateRows,
+    cuts: &[Cut],
+) -> Result<Tables, Fail>
+    requires rows { rows.now.covers ≡ map rows_of net.now.raw.covers }
+    requires cuts { All (IsCutOf (N.store nodes.old) net.now.raw) cuts.now }
+{
+    let latches = unknowns(alloc, net.latches().len())?;
+    let made = step_of(alloc, ops, nodes, net, rows, &latches, cuts)?;
+    tables_after(alloc, ops, nodes, net, rows, &made)
+}
+
+/// The same for what is asked.
+fn tables_of<N: Nodes>(
+    alloc: Global,
+    ops: &Ops,
+    nodes: &mut N,
+    net: &Net,
+    rows: &GateRows,
+    asked: &[Asked],
+) -> Result<Tables, Fail>
+    requires vars { 2 ≤ (N.store nodes.old).vars }
+    requires rows { rows.now.covers ≡ map rows_of net.now.raw.covers }
+    requires asked { All (λ a. a.node.0 < net.now.raw.nets) asked.now }
+{
+    let cuts = cuts_on(alloc, ops, nodes, net, asked)?;
+    tables_with(alloc, ops, nodes, net, rows, &cuts)
+}
+
+/// The same in a store of its own.
+fn tables_alone(alloc: Global, net: &Net, rows: &GateRows, asked: &[Asked]) -> Result<Tables, Fail>
+    requires rows { rows.now.covers ≡ map rows_of net.now.raw.covers }
+    requires asked { All (λ a. a.node.0 < net.now.raw.nets) asked.now }
+{
+    let ops = Ops::new(alloc);
+    let mut nodes = PlainNodes::new(alloc, 2, 100)?;
+    tables_of(alloc, &ops, &mut nodes, net, rows, asked)
+}
+
+/// The rows of a net's covers.
+fn rows_of_net(alloc: Global, net: &Net) -> Result<GateRows, Fail>
+    ensures { IfOk result (λ rows. rows.covers ≡ map rows_of net.now.raw.covers) }
+{
+    if !are_few(alloc, net.covers())? {
+        return Err("too many cases".into());
+    }
+    Ok(GateRows::of(alloc, net)?)
 }
 
 /// What is asked under an assignment, as the antecedent of a task.
@@ -364,27 +445,38 @@ fn wanted(sets: &[BitSet], before: &[BitSet], id: usize) -> Verdict {
     }
 }
 
-/// Whether the tables of a net agree with the plain checker.
-fn agrees(
+/// Whether the plain checker's verdict on each net at a time is what these sets give, where those of time 0 are `before`.
+fn agrees_at(
     alloc: Global,
-    named: &Named,
+    net: &Net,
     asked: &[Asked],
-    now: &[Vec<BitSet>],
-    later: &[Vec<BitSet>],
+    bits: (bool, bool),
+    sets: &[BitSet],
+    before: &[BitSet],
+    time: Time,
 ) -> Result<bool, AllocError>
-    requires asked { All (λ a. a.node.0 < named.now.net.raw.nets) asked.now }
+    requires widths { All (λ gate. length gate.inputs ≤ 8) net.now.raw.gates }
+    requires asked { All (λ a. a.node.0 < net.now.raw.nets) asked.now }
 {
-    let net = &named.net;
-    for ((p, q), (first, second)) in ASSIGNMENTS.iter().zip(now.iter().zip(later)) {
-        for id in 0..net.nets() {
-            let given = given_of(alloc, net, asked, *p, *q)?;
-            if plain_verdict(alloc, net, given, id, 0)? != wanted(first, first, id as usize) {
-                return Ok(false);
-            }
-            let given = given_of(alloc, net, asked, *p, *q)?;
-            if plain_verdict(alloc, net, given, id, 1)? != wanted(second, first, id as usize) {
-                return Ok(false);
-            }
+    for id in 0..net.nets() {
+        let given = given_of(alloc, net, asked, bits.0, bits.1)?;
+        if plain_verdict(alloc, net, given, id, time)? != wanted(sets, before, id as usize) {
+            return Ok(false);
+        }
+    }
+    Ok(true)
+}
+
+/// Whether the tables of a net agree with the plain checker.
+fn agrees(alloc: Global, net: &Net, asked: &[Asked], tables: &Tables) -> Result<bool, AllocError>
+    requires widths { All (λ gate. length gate.inputs ≤ 8) net.now.raw.gates }
+    requires asked { All (λ a. a.node.0 < net.now.raw.nets) asked.now }
+{
+    for (bits, (now, later)) in ASSIGNMENTS.iter().zip(tables.now.iter().zip(&tables.later)) {
+        if !agrees_at(alloc, net, asked, *bits, now, now, 0)?
+            || !agrees_at(alloc, net, asked, *bits, later, now, 1)?
+        {
+            return Ok(false);
         }
     }
     Ok(true)
@@ -443,8 +535,8 @@ const LEVELS: &str =
 const ODD: &str =
     ".model parity\n.inputs d\n.outputs q\n.names d q n\n10 1\n01 1\n.latch n q 0\n.end\n";
 
-/// A net by its text, and what is asked at time 0: for a net, guard and value.
-const CASES: &[(&str, &[(&str, Bit, Bit)])] = &[
+/// A net of gates alone by its text, and what is asked at time 0: for a net, guard and value.
+const GATES: &[(&str, &[(&str, Bit, Bit)])] = &[
     (INVERTER, &[("a", Bit::One, Bit::P)]),
     (INVERTER, &[("a", Bit::P, Bit::Q), ("y", Bit::Q, Bit::P)]),
     (
@@ -531,6 +623,10 @@ const CASES: &[(&str, &[(&str, Bit, Bit)])] = &[
     ),
     (BOTH, &[("a", Bit::One, Bit::P)]),
     (BOTH, &[]),
+];
+
+/// The same of nets with latches, of covers without inputs, and of instances.
+const OTHERS: &[(&str, &[(&str, Bit, Bit)])] = &[
     (TOGGLE, &[("q", Bit::One, Bit::P), ("a", Bit::P, Bit::Q)]),
     (TOGGLE, &[("q", Bit::Q, Bit::P), ("a", Bit::One, Bit::Q)]),
     (FLIP, &[("q", Bit::One, Bit::P)]),
@@ -564,29 +660,49 @@ const CASES: &[(&str, &[(&str, Bit, Bit)])] = &[
     (ODD, &[("d", Bit::P, Bit::Q), ("n", Bit::Q, Bit::P)]),
 ];
 
-/// Whether both steps of a net of a text agree with the plain checker.
+/// Nets of gates alone, with what is asked of each.
+fn gates() -> &'static [(&'static str, &'static [(&'static str, Bit, Bit)])] {
+    GATES
+}
+
+/// The other nets, with what is asked of each.
+fn others() -> &'static [(&'static str, &'static [(&'static str, Bit, Bit)])] {
+    OTHERS
+}
+
+/// Whether both steps of a net agree with the plain checker.
+fn asked_agrees(alloc: Global, net: &Net, asked: &[Asked]) -> Result<bool, Fail>
+    requires widths { All (λ gate. length gate.inputs ≤ 8) net.now.raw.gates }
+    requires asked { All (λ a. a.node.0 < net.now.raw.nets) asked.now }
+{
+    let rows = rows_of_net(alloc, net)?;
+    let tables = tables_alone(alloc, net, &rows, asked)?;
+    Ok(agrees(alloc, net, asked, &tables)?)
+}
+
+/// The same, where what is asked has names.
+fn named_agrees(alloc: Global, named: &Named, asked: &[(&str, Bit, Bit)]) -> Result<bool, Fail> {
+    if !all_narrow(named.net.gates()) {
+        return Err("a wide gate".into());
+    }
+    let asked = asked_of(alloc, &named.names, named.net.nets(), asked)?;
+    asked_agrees(alloc, &named.net, &asked)
+}
+
+/// The same of the net of a text.
 fn case_agrees(alloc: Global, text: &[u8], asked: &[(&str, Bit, Bit)]) -> Result<bool, Fail>
     requires { length text.now ≤ 10000 }
 {
     let named = net_of(alloc, text)?;
-    let asked = asked_of(alloc, &named.names, named.net.nets(), asked)?;
-    if !are_few(alloc, named.net.covers())? {
-        return Err("too many cases".into());
-    }
-    let rows = GateRows::of(alloc, &named.net)?;
-    let ops = Ops::new(alloc);
-    let mut nodes = PlainNodes::new(alloc, 2, 100)?;
-    let (now, later) = tables_of(alloc, &ops, &mut nodes, &named.net, &rows, &asked)?;
-    Ok(agrees(alloc, &named, &asked, &now, &later)?)
+    named_agrees(alloc, &named, asked)
 }
 
 #[test]
 fn steps_agree_with_the_plain_checker(rt: HostRuntime) -> Result<(), Fail> {
-    let alloc = rt.alloc();
-    for (text, asked) in CASES {
+    for (text, asked) in gates().iter().chain(others()) {
         let bytes = text.as_bytes();
         assert!(rt; bytes.len() <= 10000);
-        assert!(rt; case_agrees(alloc, bytes, asked)?, "{text}");
+        assert!(rt; case_agrees(rt.alloc(), bytes, asked)?, "{text}");
     }
     Ok(())
 }
@@ -643,6 +759,33 @@ fn are_one(one: &Step, other: &Step) -> bool {
 
 /// Whether steps that go on from one another give what steps of their own give, over five times at which the cuts come
 /// and go.
+fn frames_with<N: Nodes>(
+    alloc: Global,
+    ops: &Ops,
+    nodes: &mut N,
+    net: &Net,
+    rows: &GateRows,
+    cuts: &[Cut],
+) -> Result<bool, Fail>
+    requires rows { rows.now.covers ≡ map rows_of net.now.raw.covers }
+    requires cuts { All (IsCutOf (N.store nodes.old) net.now.raw) cuts.now }
+{
+    let mut latches = Items::from(unknowns(alloc, net.latches().len())?);
+    let mut frame = Frame::blank(alloc, net)?;
+    for time in 0..5 {
+        let now = cuts_at(cuts, time);
+        let held = latches.as_slice();
+        let kept = advance_of(alloc, ops, nodes, net, rows, held, now, &mut frame)?;
+        let anew = step_of(alloc, ops, nodes, net, rows, held, now)?;
+        if !are_one(&kept, &anew) {
+            return Ok(false);
+        }
+        latches = kept.next;
+    }
+    Ok(true)
+}
+
+/// The same for what is asked.
 fn frames_agree<N: Nodes>(
     alloc: Global,
     ops: &Ops,
@@ -655,50 +798,45 @@ fn frames_agree<N: Nodes>(
     requires rows { rows.now.covers ≡ map rows_of net.now.raw.covers }
     requires asked { All (λ a. a.node.0 < net.now.raw.nets) asked.now }
 {
-    let Ok(p) = ops.var(nodes, 0) else {
-        return Err("no variable".into());
-    };
-    let Ok(q) = ops.var(nodes, 1) else {
-        return Err("no variable".into());
-    };
-    let cuts = cuts_of(alloc, &*nodes, net, asked, p, q)?;
-    let mut latches = Items::from(unknowns(alloc, net.latches().len())?);
-    let mut frame = Frame::blank(alloc, net)?;
-    for time in 0..5 {
-        let now = cuts_at(&cuts, time);
-        let held = latches.as_slice();
-        let kept = advance_of(alloc, ops, nodes, net, rows, held, now, &mut frame)?;
-        let anew = step_of(alloc, ops, nodes, net, rows, held, now)?;
-        if !are_one(&kept, &anew) {
-            return Ok(false);
-        }
-        latches = kept.next;
-    }
-    Ok(true)
+    let cuts = cuts_on(alloc, ops, nodes, net, asked)?;
+    frames_with(alloc, ops, nodes, net, rows, &cuts)
 }
 
-/// Whether the steps of a net of a text that go on from one another give what others do.
+/// The same in a store of its own.
+fn frames_alone(alloc: Global, net: &Net, rows: &GateRows, asked: &[Asked]) -> Result<bool, Fail>
+    requires rows { rows.now.covers ≡ map rows_of net.now.raw.covers }
+    requires asked { All (λ a. a.node.0 < net.now.raw.nets) asked.now }
+{
+    let ops = Ops::new(alloc);
+    let mut nodes = PlainNodes::new(alloc, 2, 100)?;
+    frames_agree(alloc, &ops, &mut nodes, net, rows, asked)
+}
+
+/// The same, where what is asked has names.
+fn named_frames_agree(
+    alloc: Global,
+    named: &Named,
+    asked: &[(&str, Bit, Bit)],
+) -> Result<bool, Fail> {
+    let asked = asked_of(alloc, &named.names, named.net.nets(), asked)?;
+    let rows = rows_of_net(alloc, &named.net)?;
+    frames_alone(alloc, &named.net, &rows, &asked)
+}
+
+/// The same of the net of a text.
 fn case_frames_agree(alloc: Global, text: &[u8], asked: &[(&str, Bit, Bit)]) -> Result<bool, Fail>
     requires { length text.now ≤ 10000 }
 {
     let named = net_of(alloc, text)?;
-    let asked = asked_of(alloc, &named.names, named.net.nets(), asked)?;
-    if !are_few(alloc, named.net.covers())? {
-        return Err("too many cases".into());
-    }
-    let rows = GateRows::of(alloc, &named.net)?;
-    let ops = Ops::new(alloc);
-    let mut nodes = PlainNodes::new(alloc, 2, 100)?;
-    frames_agree(alloc, &ops, &mut nodes, &named.net, &rows, &asked)
+    named_frames_agree(alloc, &named, asked)
 }
 
 #[test]
 fn steps_with_a_frame_agree_with_steps_without(rt: HostRuntime) -> Result<(), Fail> {
-    let alloc = rt.alloc();
-    for (text, asked) in CASES {
+    for (text, asked) in gates().iter().chain(others()) {
         let bytes = text.as_bytes();
         assert!(rt; bytes.len() <= 10000);
-        assert!(rt; case_frames_agree(alloc, bytes, asked)?, "{text}");
+        assert!(rt; case_frames_agree(rt.alloc(), bytes, asked)?, "{text}");
     }
     Ok(())
 }
@@ -783,15 +921,10 @@ fn and_of(alloc: Global, inputs: u32) -> Result<Net, Fail>
     }
 }
 
-/// The sets of an AND of a thousand nets under each assignment, where this is asked of the first and of the last but one.
-fn wide_sets(alloc: Global, first: Bit, later: Bit) -> Result<Vec<BitSet>, Fail> {
-    let net = and_of(alloc, 1000)?;
-    if net.nets() < 1001 {
-        return Err("too few nets".into());
-    }
-    if !are_few(alloc, net.covers())? {
-        return Err("too many cases".into());
-    }
+/// What is asked of 999 nets in turn: one bit under the other, and p under the second.
+fn asked_in_turn(alloc: Global, first: Bit, later: Bit) -> Result<Vec<Asked>, AllocError>
+    ensures { IfOk result (λ asked. All (λ a. a.node.0 < 999) asked.items) }
+{
     let mut asked = Vec::new(alloc);
     for id in 0..999 {
         asked.push(Asked {
@@ -800,18 +933,38 @@ fn wide_sets(alloc: Global, first: Bit, later: Bit) -> Result<Vec<BitSet>, Fail>
             value: if id % 2 == 0 { later } else { Bit::P },
         })?;
     }
-    let rows = GateRows::of(alloc, &net)?;
-    let ops = Ops::new(alloc);
-    let mut nodes = PlainNodes::new(alloc, 2, 100)?;
-    let (now, _) = tables_of(alloc, &ops, &mut nodes, &net, &rows, &asked)?;
+    Ok(asked)
+}
+
+/// The sets of a net under each assignment.
+fn sets_of(alloc: Global, table: &[Vec<BitSet>], id: usize) -> Result<Vec<BitSet>, Fail> {
     let mut sets = Vec::new(alloc);
-    for table in now {
-        match table.get(1000) {
+    for row in table {
+        match row.get(id) {
             Some(set) => sets.push(*set)?,
             None => return Err("no such net".into()),
         }
     }
     Ok(sets)
+}
+
+/// The sets of net 1000 under each assignment, where this is asked of the nets in turn.
+fn last_sets(alloc: Global, net: &Net, asked: &[Asked]) -> Result<Vec<BitSet>, Fail>
+    requires asked { All (λ a. a.node.0 < 999) asked.now }
+{
+    if net.nets() < 1001 {
+        return Err("too few nets".into());
+    }
+    let rows = rows_of_net(alloc, net)?;
+    let tables = tables_alone(alloc, net, &rows, asked)?;
+    sets_of(alloc, &tables.now, 1000)
+}
+
+/// The sets of an AND of a thousand nets under each assignment.
+fn wide_sets(alloc: Global, first: Bit, later: Bit) -> Result<Vec<BitSet>, Fail> {
+    let net = and_of(alloc, 1000)?;
+    let asked = asked_in_turn(alloc, first, later)?;
+    last_sets(alloc, &net, &asked)
 }
 
 #[test]

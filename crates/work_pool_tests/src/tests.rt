@@ -14,19 +14,22 @@ use std::sync::atomic::{AtomicU64, Ordering};
 use std::test::Fail;
 use std::thread::Threads;
 use ste_base::{Items, Name, NodeId, Time};
-use ste_model::{Assertion, Quint, Task, Tasks, Verdict};
+use ste_model::{Assertion, Quint, Report, Task, Tasks, Verdict};
 use sym_step::GateRows;
 use work_pool::{Gate, run_alone, run_some, run_tasks};
 
-/// The bit that the net is given, the one that it has to have, up to which time, and the verdict.
-type Case = (Option<bool>, bool, Time, Verdict);
+/// The bit that the net is given, the one that it has to have, and up to which time.
+type Case = (Option<bool>, bool, Time);
 
 /// The longest task stands in the middle.
 const CASES: &[Case] = &[
-    (Some(true), true, 1, Verdict::Pass),
-    (Some(true), false, 9, Verdict::Strong),
-    (None, true, 4, Verdict::Weak),
+    (Some(true), true, 1),
+    (Some(true), false, 9),
+    (None, true, 4),
 ];
+
+/// The verdicts of all cases.
+const ALL: &[Verdict] = &[Verdict::Pass, Verdict::Strong, Verdict::Weak];
 
 /// Counts the tasks that were begun.
 #[derive(Drop)]
@@ -124,51 +127,93 @@ fn all_cases(alloc: Global) -> Result<Tasks, AllocError>
     })
 }
 
+/// Whether reports have these verdicts, in order.
+fn has_verdicts(reports: &[Report], verdicts: &[Verdict]) -> bool {
+    reports.len() == verdicts.len()
+        && reports
+            .iter()
+            .zip(verdicts)
+            .all(|(report, verdict)| report.verdict == *verdict)
+}
+
 /// Whether so many workers give the verdicts of all cases, in order, and tell the gate of three tasks.
+fn tells_tasks_in_order<R: Threads + Sync>(
+    rt: &R,
+    alloc: Global,
+    workers: u32,
+    ready: &Ready,
+    tasks: &Tasks,
+) -> Result<bool, Fail>
+    requires workers { (1 ≤ workers) × (workers ≤ 64) }
+    requires vars { tasks.now.vars ≡ [] }
+    requires long { length tasks.now.tasks ≡ 3 }
+    requires over { (net : ARawNet) → net.nets ≡ 1 → All (IsTaskOver net 0) tasks.now.tasks }
+{
+    let count = Count {
+        begun: AtomicU64::new(0),
+    };
+    let Ready { net, rows } = ready;
+    let answer = run_tasks(rt, alloc, workers, net, rows, tasks, 100, 4, &count)?;
+    Ok(has_verdicts(&answer.reports, ALL) && count.begun.load(Ordering::SeqCst) == 3)
+}
+
+/// The same of the net and the tasks of all cases.
 fn tells_in_order<R: Threads + Sync>(rt: &R, alloc: Global, workers: u32) -> Result<bool, Fail>
     requires { (1 ≤ workers) × (workers ≤ 64) }
 {
     let ready = net_with_rows(alloc)?;
     let tasks = all_cases(alloc)?;
-    let count = Count {
-        begun: AtomicU64::new(0),
-    };
-    let Ready { net, rows } = &ready;
-    let answer = run_tasks(rt, alloc, workers, net, rows, &tasks, 100, 4, &count)?;
-    let mut same = answer.reports.len() == 3 && count.begun.load(Ordering::SeqCst) == 3;
-    for (report, case) in answer.reports.iter().zip(CASES.iter()) {
-        same = same && report.verdict == case.3;
-    }
-    Ok(same)
+    tells_tasks_in_order(rt, alloc, workers, &ready, &tasks)
 }
 
 /// Whether two workers give the verdicts of the last task and of the first one, in this order, and tell the gate of two.
+fn tells_two_tasks<R: Threads + Sync>(
+    rt: &R,
+    alloc: Global,
+    ready: &Ready,
+    tasks: &Tasks,
+) -> Result<bool, Fail>
+    requires vars { tasks.now.vars ≡ [] }
+    requires long { length tasks.now.tasks ≡ 3 }
+    requires over { (net : ARawNet) → net.nets ≡ 1 → All (IsTaskOver net 0) tasks.now.tasks }
+{
+    let count = Count {
+        begun: AtomicU64::new(0),
+    };
+    let Ready { net, rows } = ready;
+    let reports = run_some(rt, alloc, 2, net, rows, tasks, &[2, 0], 100, 4, &count)?;
+    Ok(
+        has_verdicts(&reports, &[Verdict::Weak, Verdict::Pass])
+            && count.begun.load(Ordering::SeqCst) == 2,
+    )
+}
+
+/// The same of the net and the tasks of all cases.
 fn tells_of_two<R: Threads + Sync>(rt: &R, alloc: Global) -> Result<bool, Fail> {
     let ready = net_with_rows(alloc)?;
     let tasks = all_cases(alloc)?;
-    let count = Count {
-        begun: AtomicU64::new(0),
-    };
-    let Ready { net, rows } = &ready;
-    let reports = run_some(rt, alloc, 2, net, rows, &tasks, &[2, 0], 100, 4, &count)?;
-    let two = reports.len() == 2 && count.begun.load(Ordering::SeqCst) == 2;
-    Ok(two && reports[0].verdict == CASES[2].3 && reports[1].verdict == CASES[0].3)
+    tells_two_tasks(rt, alloc, &ready, &tasks)
 }
 
 /// Whether one thread alone gives the verdicts of all cases, in order, and tells the gate of three tasks.
-fn tells_alone(alloc: Global) -> Result<bool, Fail> {
-    let ready = net_with_rows(alloc)?;
-    let tasks = all_cases(alloc)?;
+fn tells_tasks_alone(alloc: Global, ready: &Ready, tasks: &Tasks) -> Result<bool, Fail>
+    requires vars { tasks.now.vars ≡ [] }
+    requires long { length tasks.now.tasks ≡ 3 }
+    requires over { (net : ARawNet) → net.nets ≡ 1 → All (IsTaskOver net 0) tasks.now.tasks }
+{
     let count = Count {
         begun: AtomicU64::new(0),
     };
-    let Ready { net, rows } = &ready;
-    let reports = run_alone(alloc, net, rows, &tasks, 100, 4, &count)?;
-    let mut same = reports.len() == 3 && count.begun.load(Ordering::SeqCst) == 3;
-    for (report, case) in reports.iter().zip(CASES.iter()) {
-        same = same && report.verdict == case.3;
-    }
-    Ok(same)
+    let Ready { net, rows } = ready;
+    let reports = run_alone(alloc, net, rows, tasks, 100, 4, &count)?;
+    Ok(has_verdicts(&reports, ALL) && count.begun.load(Ordering::SeqCst) == 3)
+}
+
+/// The same of the net and the tasks of all cases.
+fn tells_alone(alloc: Global) -> Result<bool, Fail> {
+    let ready = net_with_rows(alloc)?;
+    let tasks = all_cases(alloc)?;
+    tells_tasks_alone(alloc, &ready, &tasks)
 }
 
 #[test]

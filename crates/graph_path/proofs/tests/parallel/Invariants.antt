@@ -1,9 +1,0 @@
-use Rattle.std.proofs.Common.{◌≤◌, ◌<◌, length}
-use Rattle.std.specs.Prelude.{All}
-use Rattle.graph_path.proofs.tests.parallel.Given as goal
-
-abbrev pub invariant-loop-number : goal.invariant-loop-number
-invariant-loop-number l = record {
-  ends : All (λ hop. hop.to < 2) l.hops.items;
-  few : length l.hops.items ≤ l.number;
-}
