@@ -1,9 +1,11 @@
 //! From lines to tasks; begin with `read_tasks`.
 
-ghost use Rattle.std.specs.Prelude.{◌≡◌};
+ghost use Rattle.std.specs.Prelude.{◌≡◌, []};
 ghost use Rattle.assert_syntax.specs.Forms as form;
 ghost use Rattle.assert_syntax.specs.Answer.{IsAnswer, entries_of};
 ghost use Rattle.assert_syntax.specs.Parses.{Parse, IsParse};
+ghost use Rattle.assert_syntax.specs.Places.{context_of};
+ghost use Rattle.assert_syntax.specs.declared.draft.OpenTask.TheVariants as task;
 ghost use Rattle.assert_syntax.specs.private.Drafts.{context_held, HasRoom};
 ghost use Rattle.assert_syntax.specs.private.Held.{clause_held, form_held};
 ghost use Rattle.assert_syntax.specs.private.Steps.{IsStep};
@@ -143,6 +145,38 @@ fn line_read(
     }
 }
 
+/// The tasks that lines spell, or the fault of the first faulty line, from where nothing is known and no task is read.
+fn tasks_from(
+    alloc: Global,
+    known: &mut Known,
+    draft: &mut Draft,
+    lines: &[Line],
+) -> Result<RawTasks, TaskFault>
+    requires known { context_held known.old ≡ context_of [] }
+    requires tasks { draft.old.tasks ≡ [] }
+    requires task { draft.old.task ≡ task.Closed }
+    ensures { (parse : Parse) → IsParse parse → IsAnswer parse (entries_of lines.now) result }
+{
+    for line in lines {
+        let form = form_of(line.words.as_slice());
+        if !may_stand(&form, known.place) {
+            return Err(TaskFault::BadLine { line: line.number });
+        }
+        match line_read(alloc, known, draft, line.number, &form) {
+            Ok(()) => {}
+            Err(fault) => return Err(fault),
+        }
+    }
+    let task = replace(&mut draft.task, OpenTask::Closed);
+    tasks_closed(alloc, &mut draft.tasks, task, known.vertices.as_slice())?;
+    if draft.tasks.len() == 0 {
+        return Err(TaskFault::NoTask);
+    }
+    let vars = copies(alloc, known.vars.names())?;
+    let tasks = replace(&mut draft.tasks, Items::new(alloc));
+    Ok(RawTasks { vars, tasks })
+}
+
 /// The tasks that lines spell, or the fault of the first faulty line.
 fn tasks_read(alloc: Global, lines: &[Line]) -> Result<RawTasks, TaskFault>
     ensures { (parse : Parse) → IsParse parse → IsAnswer parse (entries_of lines.now) result }
@@ -152,23 +186,7 @@ fn tasks_read(alloc: Global, lines: &[Line]) -> Result<RawTasks, TaskFault>
         tasks: Items::new(alloc),
         task: OpenTask::Closed,
     };
-    for line in lines {
-        let form = form_of(line.words.as_slice());
-        if !may_stand(&form, known.place) {
-            return Err(TaskFault::BadLine { line: line.number });
-        }
-        match line_read(alloc, &mut known, &mut draft, line.number, &form) {
-            Ok(()) => {}
-            Err(fault) => return Err(fault),
-        }
-    }
-    let Draft { mut tasks, task } = draft;
-    tasks_closed(alloc, &mut tasks, task, known.vertices.as_slice())?;
-    if tasks.len() == 0 {
-        return Err(TaskFault::NoTask);
-    }
-    let vars = copies(alloc, known.vars.names())?;
-    Ok(RawTasks { vars, tasks })
+    tasks_from(alloc, &mut known, &mut draft, lines)
 }
 
 /// Reads the tasks that a task file's lines spell. The errors come by the first line that has a fault, and each has that

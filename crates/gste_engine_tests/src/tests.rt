@@ -132,17 +132,31 @@ fn has_run(report: &Report, net: &Net, graph: &Graph) -> bool
     report.run.is_some() == (report.verdict == Verdict::Strong && is_free)
 }
 
+/// Whether a report of a graph is that of what is found with p = 0 and with p = 1.
+fn is_alike(
+    alloc: Global,
+    ready: &Ready,
+    graph: &Graph,
+    report: &Report,
+) -> Result<bool, AllocError>
+    requires { IsCase ready.now.net.raw graph.now }
+{
+    let zero = check_plainly(alloc, &ready.net, graph, &[false])?;
+    let one = check_plainly(alloc, &ready.net, graph, &[true])?;
+    Ok(
+        report.verdict == verdict_of(zero.outcome, one.outcome)
+            && has_lists(report, zero.outcome, one.outcome)
+            && shows(report, graph, &zero, &one)
+            && has_run(report, &ready.net, graph),
+    )
+}
+
 /// The report of a graph, and whether it is that of what is found with p = 0 and with p = 1.
 fn compared(alloc: Global, ready: &Ready, graph: &Graph) -> Result<(Report, bool), AllocError>
     requires { IsCase ready.now.net.raw graph.now }
 {
     let (report, _) = report_of(alloc, ready, graph, 1000)?;
-    let zero = check_plainly(alloc, &ready.net, graph, &[false])?;
-    let one = check_plainly(alloc, &ready.net, graph, &[true])?;
-    let alike = report.verdict == verdict_of(zero.outcome, one.outcome)
-        && has_lists(&report, zero.outcome, one.outcome)
-        && shows(&report, graph, &zero, &one)
-        && has_run(&report, &ready.net, graph);
+    let alike = is_alike(alloc, ready, graph, &report)?;
     Ok((report, alike))
 }
 
@@ -231,10 +245,15 @@ fn verdicts_met(rt: &impl Abort, alloc: Global, ready: &Ready) -> Result<[u32; 4
     Ok(met)
 }
 
+/// The same over the net of a latch.
+fn met_over_latch(rt: &impl Abort, alloc: Global) -> Result<[u32; 4], Fail> {
+    let ready = lat(alloc)?;
+    verdicts_met(rt, alloc, &ready)
+}
+
 #[test]
 fn graphs_of_four_edges(rt: HostRuntime) -> Result<(), Fail> {
-    let ready = lat(rt.alloc())?;
-    let met = verdicts_met(&rt, rt.alloc(), &ready)?;
+    let met = met_over_latch(&rt, rt.alloc())?;
     assert!(rt; met.iter().all(|count| *count >= 100), "{met:?}");
     Ok(())
 }
