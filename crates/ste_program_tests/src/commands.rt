@@ -1,7 +1,7 @@
 //! What `run` writes and answers for words of every kind: the counts of a net, simulations, options, refusals of words.
 
+use crate::fixture::{Failing, Fixture, NONE, NOTHING, compare};
 use crate::hierarchies::TWICE;
-use crate::stage::{Failing, NONE, NOTHING, Stage, compare};
 use crate::tests::{INVERTER, INVERTS};
 use std::alloc::{AllocError, Global};
 use std::process::Abort;
@@ -29,8 +29,8 @@ fn expect(
     err: &str,
 ) -> Result<(), AllocError> {
     let files = &[("n", net.as_bytes()), ("s", second.as_bytes())];
-    let mut stage = Stage::new(alloc, words, files, 200, 200, NOTHING)?;
-    compare(rt, alloc, &mut stage, &NoGate, status, out, err, second);
+    let mut fixture = Fixture::new(alloc, words, files, 200, 200, NOTHING)?;
+    compare(rt, alloc, &mut fixture, &NoGate, status, out, err, second);
     Ok(())
 }
 
@@ -310,7 +310,7 @@ fn padded(alloc: Global, text: &str, doublings: usize) -> Result<Vec<u8>, AllocE
 fn a_large_file(rt: HostRuntime) -> Result<(), Fail> {
     let alloc = rt.alloc();
     let text = padded(alloc, INVERTER, 20)?;
-    let mut stage = Stage::new(
+    let mut fixture = Fixture::new(
         alloc,
         "info n",
         &[("n", text.as_slice())],
@@ -322,7 +322,7 @@ fn a_large_file(rt: HostRuntime) -> Result<(), Fail> {
     compare(
         &rt,
         alloc,
-        &mut stage,
+        &mut fixture,
         &NoGate,
         Status::Passed,
         out,
@@ -352,12 +352,12 @@ fn a_long_simulation(rt: HostRuntime) -> Result<(), Fail> {
     let inputs = with_lines(alloc, ".order \\\n 0/z f\n10\n", "11\n", 4999)?;
     let out = with_lines(alloc, "outputs y f\n00\n", "11\n", 4999)?;
     let files = &[("n", LONG.as_bytes()), ("s", inputs.as_bytes())];
-    let mut stage = Stage::new(alloc, "sim n s", files, 20000, 500, NOTHING)?;
+    let mut fixture = Fixture::new(alloc, "sim n s", files, 20000, 500, NOTHING)?;
     let what = "a long simulation";
     compare(
         &rt,
         alloc,
-        &mut stage,
+        &mut fixture,
         &NoGate,
         Status::Passed,
         &out,
@@ -379,11 +379,11 @@ fn expect_fault(
     err: &str,
 ) -> Result<(), AllocError> {
     let files = &[("n", net.as_bytes()), ("s", second.as_bytes())];
-    let mut stage = Stage::new(alloc, words, files, 200, 200, failing)?;
+    let mut fixture = Fixture::new(alloc, words, files, 200, 200, failing)?;
     compare(
         rt,
         alloc,
-        &mut stage,
+        &mut fixture,
         &NoGate,
         Status::Faulted,
         "",

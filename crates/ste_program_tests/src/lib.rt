@@ -5,11 +5,11 @@
 #[cfg(test)]
 mod commands;
 #[cfg(test)]
+mod fixture;
+#[cfg(test)]
 mod hierarchies;
 #[cfg(test)]
 mod orders;
-#[cfg(test)]
-mod stage;
 #[cfg(test)]
 mod task_files;
 #[cfg(test)]

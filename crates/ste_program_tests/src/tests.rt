@@ -1,6 +1,6 @@
 //! What `run` writes and answers, on worked examples, faulty texts and failing files and sinks.
 
-use crate::stage::{Failing, NONE, NOTHING, Stage, compare, run_on};
+use crate::fixture::{Failing, Fixture, NONE, NOTHING, compare, run_on};
 use std::alloc::{AllocError, Global};
 use std::process::Abort;
 use std::test::Fail;
@@ -40,8 +40,8 @@ pub fn expect(
     err: &str,
 ) -> Result<(), AllocError> {
     let files = &[("n", net.as_bytes()), ("t", task.as_bytes())];
-    let mut stage = Stage::new(alloc, "check n t", files, 200, 3, NOTHING)?;
-    compare(rt, alloc, &mut stage, &NoGate, status, out, err, task);
+    let mut fixture = Fixture::new(alloc, "check n t", files, 200, 3, NOTHING)?;
+    compare(rt, alloc, &mut fixture, &NoGate, status, out, err, task);
     Ok(())
 }
 
@@ -236,16 +236,16 @@ fn netlists_of_every_form(rt: HostRuntime) -> Result<(), Fail> {
     Ok(())
 }
 
-/// The set of net `y` as the verdict on `y = 1` tells it, on a stage of that task: 1, 0 or X.
-fn set_on(rt: &(impl Abort + Threads + Sync), alloc: Global, stage: &mut Stage) -> u8 {
-    let _ = run_on(rt, alloc, stage, &NoGate);
-    if stage.out() == "t: pass\n".as_bytes() {
+/// The set of net `y` as the verdict on `y = 1` tells it, on a fixture of that task: 1, 0 or X.
+fn set_on(rt: &(impl Abort + Threads + Sync), alloc: Global, fixture: &mut Fixture) -> u8 {
+    let _ = run_on(rt, alloc, fixture, &NoGate);
+    if fixture.out() == "t: pass\n".as_bytes() {
         b'1'
-    } else if stage.out().starts_with("t: strong failure\n".as_bytes()) {
+    } else if fixture.out().starts_with("t: strong failure\n".as_bytes()) {
         b'0'
     } else {
         let weak = "t: weak failure\n  weak: 1\n  least:\n  fails: y at 0\n";
-        assert_eq!(rt; stage.out(), weak.as_bytes());
+        assert_eq!(rt; fixture.out(), weak.as_bytes());
         b'X'
     }
 }
@@ -258,8 +258,8 @@ fn set_of_task(
     task: &str,
 ) -> Result<u8, AllocError> {
     let files = &[("n", net.as_bytes()), ("t", task.as_bytes())];
-    let mut stage = Stage::new(alloc, "check n t", files, 200, 100, NOTHING)?;
-    Ok(set_on(rt, alloc, &mut stage))
+    let mut fixture = Fixture::new(alloc, "check n t", files, 200, 100, NOTHING)?;
+    Ok(set_on(rt, alloc, &mut fixture))
 }
 
 /// The same of a net with these lines as the antecedent.
@@ -415,8 +415,8 @@ fn what_fails(rt: HostRuntime) -> Result<(), Fail> {
     let alloc = rt.alloc();
     let files = &[("n", INVERTER.as_bytes()), ("t", INVERTS.as_bytes())];
     for (failing, room, status, out, err) in FAILING {
-        let mut stage = Stage::new(alloc, "check n t", files, *room, 4, failing)?;
-        compare(&rt, alloc, &mut stage, &NoGate, *status, out, err, err);
+        let mut fixture = Fixture::new(alloc, "check n t", files, *room, 4, failing)?;
+        compare(&rt, alloc, &mut fixture, &NoGate, *status, out, err, err);
     }
     Ok(())
 }
@@ -441,11 +441,11 @@ fn expect_with(
     err: &str,
 ) -> Result<(), AllocError> {
     let files = &[("n", INVERTER.as_bytes()), ("t", INVERTS.as_bytes()), file];
-    let mut stage = Stage::new(alloc, "check n t", files, 100, 100, NOTHING)?;
+    let mut fixture = Fixture::new(alloc, "check n t", files, 100, 100, NOTHING)?;
     compare(
         rt,
         alloc,
-        &mut stage,
+        &mut fixture,
         &NoGate,
         Status::Refused,
         "",
@@ -480,12 +480,12 @@ fn an_output_that_fails_within_a_line(rt: HostRuntime) -> Result<(), Fail> {
     let tasks = ten_tasks(alloc)?;
     let files = &[("n", INVERTER.as_bytes()), ("t", tasks.as_bytes())];
     let failing = &(NONE, &[3u64] as &[u64], NONE);
-    let mut stage = Stage::new(alloc, "check n t", files, 1000, 4, failing)?;
+    let mut fixture = Fixture::new(alloc, "check n t", files, 1000, 4, failing)?;
     let out = "t1: pass";
     compare(
         &rt,
         alloc,
-        &mut stage,
+        &mut fixture,
         &NoGate,
         Status::Faulted,
         out,

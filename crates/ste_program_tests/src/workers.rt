@@ -1,6 +1,6 @@
 //! Tasks shared out to workers: the same reports for any number of them, the number of shared nodes, and that two workers meet.
 
-use crate::stage::{NOTHING, Stage, run_on};
+use crate::fixture::{Fixture, NOTHING, run_on};
 use crate::tests::{INVERTER, INVERTS};
 use std::alloc::{AllocError, Global};
 use std::process::Abort;
@@ -16,17 +16,17 @@ const AND: &str = ".model and\n.inputs a b\n.outputs y\n.names a b y\n11 1\n.end
 const SHIFT: &str =
     ".model shift\n.inputs d e\n.outputs c\n.names d e n\n11 1\n.latch n a\n.latch a b\n.latch b c\n.end\n";
 
-/// Runs the program on a stage, and compares what it answers; it writes no message.
+/// Runs the program on a fixture, and compares what it answers; it writes no message.
 fn run_well<G: Gate + Sync>(
     rt: &(impl Abort + Threads + Sync),
     alloc: Global,
-    stage: &mut Stage,
+    fixture: &mut Fixture,
     status: Status,
     gate: &G,
     what: &str,
 ) {
-    let found = run_on(rt, alloc, stage, gate);
-    assert_eq!(rt; stage.err().len(), 0, "{what}");
+    let found = run_on(rt, alloc, fixture, gate);
+    assert_eq!(rt; fixture.err().len(), 0, "{what}");
     assert_eq!(rt; found, status, "{what}");
 }
 
@@ -42,9 +42,9 @@ fn report<G: Gate + Sync>(
 ) -> Result<Vec<u8>, AllocError> {
     let words = format!(in alloc; "check n t {options}")?;
     let files = &[("n", net.as_bytes()), ("t", tasks.as_bytes())];
-    let mut stage = Stage::new(alloc, &words, files, 60000, 1000, NOTHING)?;
-    run_well(rt, alloc, &mut stage, status, gate, options);
-    stage.out().to_vec(alloc)
+    let mut fixture = Fixture::new(alloc, &words, files, 60000, 1000, NOTHING)?;
+    run_well(rt, alloc, &mut fixture, status, gate, options);
+    fixture.out().to_vec(alloc)
 }
 
 /// A flag for each of two tasks, and how many tasks saw the flag of the other.

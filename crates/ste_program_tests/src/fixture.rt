@@ -1,4 +1,4 @@
-//! Runs of the program over files and sinks in memory; begin with `Stage`.
+//! Runs of the program over files and sinks in memory; begin with `Fixture`.
 
 ghost use Rattle.std.specs.Prelude.{◌<◌};
 
@@ -18,7 +18,7 @@ pub const NOTHING: &Failing<'static> = &(NONE, NONE, NONE);
 
 /// The words of a command, its files, and the sinks of its output and of its messages.
 #[derive(Drop)]
-pub struct Stage {
+pub struct Fixture {
     words: Vec<String>,
     files: MemoryFiles,
     output: MemorySink,
@@ -55,7 +55,7 @@ fn sink(alloc: Global, room: usize, most: usize, failing: &[u64]) -> Result<Memo
     MemorySink::new(alloc, room, most, failing.to_vec(alloc)?)
 }
 
-impl Stage {
+impl Fixture {
     /// The words of a command, files, the output's room and how many bytes it takes at a write, and what fails.
     pub fn new(
         alloc: Global,
@@ -64,10 +64,10 @@ impl Stage {
         room: usize,
         most: usize,
         failing: &Failing<'_>,
-    ) -> Result<Stage, AllocError>
+    ) -> Result<Fixture, AllocError>
         requires { 0 < most }
     {
-        Ok(Stage {
+        Ok(Fixture {
             words: words_of(alloc, words)?,
             files: files_of(alloc, files, failing.0)?,
             output: sink(alloc, room, most, failing.1)?,
@@ -86,37 +86,37 @@ impl Stage {
     }
 }
 
-/// Runs the program on a stage.
+/// Runs the program on a fixture.
 pub fn run_on(
     rt: &(impl Abort + Threads + Sync),
     alloc: Global,
-    stage: &mut Stage,
+    fixture: &mut Fixture,
     gate: &(impl Gate + Sync),
 ) -> Status {
     run(
         rt,
         alloc,
-        &stage.words,
-        &mut stage.files,
-        &mut stage.output,
-        &mut stage.errors,
+        &fixture.words,
+        &mut fixture.files,
+        &mut fixture.output,
+        &mut fixture.errors,
         gate,
     )
 }
 
-/// Runs the program on a stage, and compares what it answers and writes.
+/// Runs the program on a fixture, and compares what it answers and writes.
 pub fn compare(
     rt: &(impl Abort + Threads + Sync),
     alloc: Global,
-    stage: &mut Stage,
+    fixture: &mut Fixture,
     gate: &(impl Gate + Sync),
     status: Status,
     out: &str,
     err: &str,
     what: &str,
 ) {
-    let found = run_on(rt, alloc, stage, gate);
-    assert_eq!(rt; stage.out(), out.as_bytes(), "{what}");
-    assert_eq!(rt; stage.err(), err.as_bytes(), "{what}");
+    let found = run_on(rt, alloc, fixture, gate);
+    assert_eq!(rt; fixture.out(), out.as_bytes(), "{what}");
+    assert_eq!(rt; fixture.err(), err.as_bytes(), "{what}");
     assert_eq!(rt; found, status, "{what}");
 }
