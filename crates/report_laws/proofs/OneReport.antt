@@ -1,5 +1,5 @@
 -- A report is one: what two texts say determines what is written on them.
-use Rattle.std.proofs.Common.{◌≡◌, ℕ, zero, suc, ◌+◌, Bool, List, [], ◌∷◌, ◌++◌, length, map, Option, None, Some, Ok, refl, ap, sym, ◌∙◌, subst, append_assoc}
+use Rattle.std.proofs.Common.{◌≡◌, ℕ, zero, suc, ◌+◌, Bool, List, [], ◌∷◌, ◌++◌, length, map, Option, None, Some, Ok, refl, ap, sym, ◌∙◌, subst, append_assoc, append-nil}
 use Rattle.std.specs.Prelude.{if◌then◌else◌, codes, zip}
 use Rattle.std.specs.List.{AllZip, flat_map}
 use Rattle.blif_lines.specs.Lines.{lines_of}
@@ -37,11 +37,17 @@ AreSoOn action asked twin net_text second_text passes others bytes others_bytes 
     (shared_in action asked net_text second_text passes bytes one) (shared_in action twin net_text second_text others others_bytes two)
     (end_in action asked net_text second_text passes bytes one) (end_in action twin net_text second_text others others_bytes two) bytes others_bytes
 
+-- what is written behind a text that has an end of its own
+behind : (told nodes end : List ℕ) → (told ++ (nodes ++ [])) ++ end ≡ told ++ (nodes ++ end)
+behind told nodes end = ap (λ (x : List ℕ). (told ++ x) ++ end) (append-nil nodes) ∙ append_assoc told nodes end
+
 -- the lines of a check are those of its tasks, and the number of shared nodes behind them
 check_lines : (steps : Option ℕ) (cubes : ℕ) (wave nodes : Bool) (net_text task_text : List ℕ) (passes : Bool) (bytes : List ℕ) (one : IsCheck steps cubes wave nodes net_text task_text passes bytes) →
-    bytes ≡ flat_map (λ (t : Told). t.lines) (told_in_check steps cubes wave nodes net_text task_text passes bytes one) ++ nodes_line one.report.shared
+    bytes ≡ flat_map (λ (t : Told). t.lines) (told_in_check steps cubes wave nodes net_text task_text passes bytes one) ++ (nodes_line one.report.shared ++ [])
 check_lines steps cubes wave nodes net_text task_text passes bytes one =
-    one.report.written ∙ ap (λ (x : List ℕ). x ++ nodes_line one.report.shared) (lines_told (map own_name (nets one.models)) one.tasks.vars wave (zip one.tasks.tasks one.report.reports))
+    one.report.written
+    ∙ (ap (λ (x : List ℕ). x ++ nodes_line one.report.shared) (lines_told (map own_name (nets one.models)) one.tasks.vars wave (zip one.tasks.tasks one.report.reports))
+    ∙ ap (λ (x : List ℕ). flat_map (λ (t : Told). t.lines) (told_in_check steps cubes wave nodes net_text task_text passes bytes one) ++ x) (sym (append-nil (nodes_line one.report.shared))))
 
 -- what two checks of the same texts tell of tasks
 checks_agree : (steps more : Option ℕ) (cubes : ℕ) (wave nodes : Bool) (net_text task_text : List ℕ) (passes others : Bool) (bytes others_bytes : List ℕ) (one : IsCheck steps cubes wave nodes net_text task_text passes bytes) (two : IsCheck more cubes wave nodes net_text task_text others others_bytes) →
@@ -56,7 +62,7 @@ checks_agree steps more cubes wave nodes net_text task_text passes others bytes 
 
 checks_same : (steps more : Option ℕ) (cubes : ℕ) (wave nodes : Bool) (net_text task_text : List ℕ) (passes others : Bool) (bytes others_bytes : List ℕ) (one : IsCheck steps cubes wave nodes net_text task_text passes bytes) (two : IsCheck more cubes wave nodes net_text task_text others others_bytes) →
     AreOne (told_in_check steps cubes wave nodes net_text task_text passes bytes one) (told_in_check more cubes wave nodes net_text task_text others others_bytes two) passes others
-    one.report.shared two.report.shared (nodes_line one.report.shared) (nodes_line two.report.shared) bytes others_bytes
+    one.report.shared two.report.shared [] [] bytes others_bytes
 checks_same steps more cubes wave nodes net_text task_text passes others bytes others_bytes one two =
     let both = checks_agree steps more cubes wave nodes net_text task_text passes others bytes others_bytes one two in
     let first = check_lines steps cubes wave nodes net_text task_text passes bytes one in
@@ -64,12 +70,12 @@ checks_same steps more cubes wave nodes net_text task_text passes others bytes o
     record {
       agree = both.0;
       passing = both.1;
-      ends = λ shared. ap nodes_line shared;
+      ends = refl;
       lines = first;
       other_lines = second;
       same = λ v shared. first
-          ∙ (ap (λ (x : List ℕ). x ++ nodes_line one.report.shared) (lines_same _ _ both.0 v)
-          ∙ (ap (λ (k : Option ℕ). flat_map (λ (t : Told). t.lines) (told_in_check more cubes wave nodes net_text task_text others others_bytes two) ++ nodes_line k) shared ∙ sym second));
+          ∙ (ap (λ (x : List ℕ). x ++ (nodes_line one.report.shared ++ [])) (lines_same _ _ both.0 v)
+          ∙ (ap (λ (k : Option ℕ). flat_map (λ (t : Told). t.lines) (told_in_check more cubes wave nodes net_text task_text others others_bytes two) ++ (nodes_line k ++ [])) shared ∙ sym second));
     }
 
 -- the same nets are free
@@ -122,7 +128,7 @@ untold_same : (passes others : Bool) (bytes others_bytes : List ℕ) → passes 
 untold_same passes others bytes others_bytes p b = record {
   agree = tt;
   passing = λ v. p;
-  ends = λ shared. b;
+  ends = b;
   lines = refl;
   other_lines = refl;
   same = λ v shared. b;
@@ -131,7 +137,7 @@ untold_same passes others bytes others_bytes p b = record {
 benches_same : (steps more : Option ℕ) (cubes : ℕ) (wave nodes : Bool) (stages : ℕ) (passes others : Bool) (bytes others_bytes : List ℕ) (one : IsBench steps cubes wave nodes stages passes bytes) (two : IsBench more cubes wave nodes stages others others_bytes) →
     AreOne (told_in_check steps cubes wave nodes (pipeline_net stages) (pipeline_tasks stages) passes one.report one.check) (told_in_check more cubes wave nodes (pipeline_net stages) (pipeline_tasks stages) others two.report two.check) passes others
     one.check.report.shared two.check.report.shared
-    (nodes_line one.check.report.shared ++ count_line (codes "nets") one.check.net.nets) (nodes_line two.check.report.shared ++ count_line (codes "nets") two.check.net.nets) bytes others_bytes
+    (count_line (codes "nets") one.check.net.nets) (count_line (codes "nets") two.check.net.nets) bytes others_bytes
 benches_same steps more cubes wave nodes stages passes others bytes others_bytes one two =
     let net_text = pipeline_net stages in
     let task_text = pipeline_tasks stages in
@@ -140,14 +146,13 @@ benches_same steps more cubes wave nodes stages passes others bytes others_bytes
     let same_nets : one.check.net.nets ≡ two.check.net.nets =
     (flats_same two.check.models one.check.net two.check.net (subst (λ (ms : List Model). IsFlat ms one.check.net) readings.0 one.check.reading.flattened.flat) two.check.reading.flattened.flat).nets in
     let first : bytes ≡ flat_map (λ (t : Told). t.lines) (told_in_check steps cubes wave nodes net_text task_text passes one.report one.check) ++ (nodes_line one.check.report.shared ++ count_line (codes "nets") one.check.net.nets) =
-    one.written ∙ (ap (λ (x : List ℕ). x ++ count_line (codes "nets") one.check.net.nets) both.lines ∙ append_assoc (flat_map (λ (t : Told). t.lines) (told_in_check steps cubes wave nodes net_text task_text passes one.report one.check)) (nodes_line one.check.report.shared) (count_line (codes "nets") one.check.net.nets)) in
+    one.written ∙ (ap (λ (x : List ℕ). x ++ count_line (codes "nets") one.check.net.nets) both.lines ∙ behind (flat_map (λ (t : Told). t.lines) (told_in_check steps cubes wave nodes net_text task_text passes one.report one.check)) (nodes_line one.check.report.shared) (count_line (codes "nets") one.check.net.nets)) in
     let second : others_bytes ≡ flat_map (λ (t : Told). t.lines) (told_in_check more cubes wave nodes net_text task_text others two.report two.check) ++ (nodes_line two.check.report.shared ++ count_line (codes "nets") two.check.net.nets) =
-    two.written ∙ (ap (λ (x : List ℕ). x ++ count_line (codes "nets") two.check.net.nets) both.other_lines ∙ append_assoc (flat_map (λ (t : Told). t.lines) (told_in_check more cubes wave nodes net_text task_text others two.report two.check)) (nodes_line two.check.report.shared) (count_line (codes "nets") two.check.net.nets)) in
+    two.written ∙ (ap (λ (x : List ℕ). x ++ count_line (codes "nets") two.check.net.nets) both.other_lines ∙ behind (flat_map (λ (t : Told). t.lines) (told_in_check more cubes wave nodes net_text task_text others two.report two.check)) (nodes_line two.check.report.shared) (count_line (codes "nets") two.check.net.nets)) in
     record {
       agree = both.agree;
       passing = both.passing;
-      ends = λ shared.
-          ap (λ (k : Option ℕ). nodes_line k ++ count_line (codes "nets") one.check.net.nets) shared ∙ ap (λ (n : ℕ). nodes_line two.check.report.shared ++ count_line (codes "nets") n) same_nets;
+      ends = ap (count_line (codes "nets")) same_nets;
       lines = first;
       other_lines = second;
       same = λ v shared. one.written

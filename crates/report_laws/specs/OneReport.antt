@@ -48,13 +48,12 @@ shared_in (info net) asked net_text second_text passes bytes written = None
 shared_in (sim net inputs) asked net_text second_text passes bytes written = None
 shared_in (bench stages) asked net_text second_text passes bytes written = written.check.report.shared
 
--- what an action writes behind the lines of tasks
+-- what an action writes behind the lines of tasks and the number of shared nodes
 abbrev pub end_in : (action : Action) (asked : Command) (net_text second_text : List ℕ) (passes : Bool) (bytes : List ℕ) → IsWritten action asked net_text second_text passes bytes → List ℕ
-end_in (check net tasks) asked net_text second_text passes bytes written = nodes_line written.report.shared
+end_in (check net tasks) asked net_text second_text passes bytes written = []
 end_in (info net) asked net_text second_text passes bytes written = bytes
 end_in (sim net inputs) asked net_text second_text passes bytes written = bytes
-end_in (bench stages) asked net_text second_text passes bytes written =
-    nodes_line written.check.report.shared ++ count_line (codes "nets") written.check.net.nets
+end_in (bench stages) asked net_text second_text passes bytes written = count_line (codes "nets") written.check.net.nets
 
 -- the same of a command's report
 abbrev pub told_of : (command : Option Command) (files : FilesState) (passes : Bool) (bytes : List ℕ) → IsReport command files passes bytes → List Told
@@ -85,9 +84,9 @@ pub record AgreeOn (one other : Told) : Type 0 where
 pub record AreOne (told twins : List Told) (passes others : Bool) (shared other_shared : Option ℕ) (end other_end bytes others_bytes : List ℕ) : Type 0 where
   pub agree : AllZip AgreeOn told twins
   pub passing : map (λ (t : Told). t.report.verdict) told ≡ map (λ (t : Told). t.report.verdict) twins → passes ≡ others
-  pub ends : shared ≡ other_shared → end ≡ other_end
-  pub lines : bytes ≡ flat_map (λ (t : Told). t.lines) told ++ end
-  pub other_lines : others_bytes ≡ flat_map (λ (t : Told). t.lines) twins ++ other_end
+  pub ends : end ≡ other_end
+  pub lines : bytes ≡ flat_map (λ (t : Told). t.lines) told ++ (nodes_line shared ++ end)
+  pub other_lines : others_bytes ≡ flat_map (λ (t : Told). t.lines) twins ++ (nodes_line other_shared ++ other_end)
   pub same : map (λ (t : Told). t.report.verdict) told ≡ map (λ (t : Told). t.report.verdict) twins → shared ≡ other_shared → bytes ≡ others_bytes
 
 -- Law: so are two reports of commands that ask for the same, whatever their workers and steps; and where the files tell what they hold, and
