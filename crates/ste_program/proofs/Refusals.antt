@@ -12,7 +12,6 @@ use Rattle.ste_program.specs.private.Made.{IsMade}
 use Rattle.ste_program.specs.private.Texts.{AreTexts, OrMemory}
 use Rattle.ste_program.specs.declared.refusal.File.TheVariants as file
 use Rattle.ste_program.specs.declared.refusal.Refusal.{Refusal}
-use Rattle.ste_program.specs.declared.refusal.Refusal.TheVariants as refusal
 use Rattle.ste_program.proofs.Fetched.{all_names, asked, held_silent, of_held, of_text, read_told}
 use Rattle.ste_program.proofs.Stages.{AllOnce, first_told, none_first, one_first}
 use Rattle.ste_program.proofs.TextStages.{text_once, text_silent, text_told}

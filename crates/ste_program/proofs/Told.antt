@@ -7,7 +7,6 @@ use Rattle.blif_syntax.specs.Answer as blif_answer
 use Rattle.blif_syntax.specs.declared.fault.BlifFault.{BlifFault}
 use Rattle.blif_syntax.specs.declared.fault.BlifFault.TheVariants as blif
 use Rattle.blif_syntax.specs.declared.models.Model.{Model}
-use Rattle.assert_syntax.specs.declared.fault.TaskFault.TheVariants as task
 use Rattle.assert_syntax.specs.declared.tasks.RawTasks.{RawTasks}
 use Rattle.hierarchy.specs.Faults.{IsRefusal}
 use Rattle.hierarchy.specs.Names.{net_named}
@@ -29,7 +28,6 @@ use Rattle.ste_program.specs.Order.{is_faulty}
 use Rattle.ste_program.specs.Refused.{binding_refused, hierarchy_refused, netlist_refused}
 use Rattle.ste_program.specs.private.Made.{HasNoNet, IsNetOf, IsNotBound}
 use Rattle.ste_program.specs.private.Texts.{OrMemory}
-use Rattle.ste_program.specs.declared.refusal.Refusal.{Refusal}
 
 -- a netlist's text that is refused
 netlist_told : (text : List ℕ) (fault : BlifFault) → blif_answer.IsAnswer (net_lines text) (Err fault) → OrMemory (is_faulty text) (netlist_refused fault)
@@ -39,13 +37,11 @@ netlist_told text (blif.LeftOut line word) h = inr (blif.LeftOut line word, refl
 netlist_told text blif.NoModel h = inr (blif.NoModel, refl, ((λ e. absurd (cc e)), h))
 netlist_told text blif.OutOfMemory h = inl refl
 
-pub no_models : (text : List ℕ) (lines : List Line) (fault : BlifFault) (found : Refusal) → lines ≡ lines_of text → blif_answer.IsAnswer (blif_answer.entries_of lines) (Err fault) → found ≡ netlist_refused fault → OrMemory (is_faulty text) found
-no_models text lines fault found same h is =
-    subst (λ (f : Refusal). OrMemory (is_faulty text) f) (sym is)
-    (netlist_told text fault (subst (λ (ls : List Line). blif_answer.IsAnswer (blif_answer.entries_of ls) (Err fault)) same h))
+pub no_models : (text : List ℕ) (lines : List Line) (fault : BlifFault) → lines ≡ lines_of text → blif_answer.IsAnswer (blif_answer.entries_of lines) (Err fault) → OrMemory (is_faulty text) (netlist_refused fault)
+no_models text lines fault same h = netlist_told text fault (subst (λ (ls : List Line). blif_answer.IsAnswer (blif_answer.entries_of ls) (Err fault)) same h)
 
 -- a hierarchy that is refused
-hierarchy_told : (models : List Model) (fault : NetFault) → (fault ≡ net.OutOfMemory) ⊎ IsRefusal models fault → OrMemory (HasNoNet models) (hierarchy_refused fault)
+pub hierarchy_told : (models : List Model) (fault : NetFault) → (fault ≡ net.OutOfMemory) ⊎ IsRefusal models fault → OrMemory (HasNoNet models) (hierarchy_refused fault)
 hierarchy_told models net.OutOfMemory h = inl refl
 hierarchy_told models (net.DoubleModel line name) (inl e) = absurd (cc e)
 hierarchy_told models (net.DoubleModel line name) (inr h) = inr (inl (net.DoubleModel line name, refl, h))
@@ -68,9 +64,6 @@ hierarchy_told models (net.DrivenTwice line name) (inr h) = inr (inl (net.Driven
 hierarchy_told models (net.MixedClocks line name) (inl e) = absurd (cc e)
 hierarchy_told models (net.MixedClocks line name) (inr h) = inr (inl (net.MixedClocks line name, refl, h))
 
-pub no_net : (models : List Model) (fault : NetFault) (found : Refusal) → (fault ≡ net.OutOfMemory) ⊎ IsRefusal models fault → found ≡ hierarchy_refused fault → OrMemory (HasNoNet models) found
-no_net models fault found h is = subst (λ (f : Refusal). OrMemory (HasNoNet models) f) (sym is) (hierarchy_told models fault h)
-
 -- by the names of a netlist, texts name what they name in it
 pub by_names : (models : List Model) (names : NetNames) → AreNamesOf models names → named_by names ≡ net_named models
 by_names models names known = λ i text. names_are_resolved models names known text i
@@ -87,10 +80,9 @@ unbound_told models tasks (bind.UnknownNode line name) h = inr (bind.UnknownNode
 unbound_told models tasks (bind.TooLarge line) h = inr (bind.TooLarge line, refl, (λ e. absurd (cc e)), h)
 unbound_told models tasks bind.OutOfMemory h = inl refl
 
-pub no_tasks : (models : List Model) (raw : RawNet) (names : NetNames) (count : ℕ) (tasks : RawTasks) (fault : BindFault) (found : Refusal) → IsNetOf models raw names → count ≡ raw.nets →
-    IsAnswer (named_by names) count tasks (Err fault) → found ≡ binding_refused fault → OrMemory (IsNotBound models tasks) found
-no_tasks models raw names count tasks fault found of_net counted h is =
-    subst (λ (f : Refusal). OrMemory (IsNotBound models tasks) f) (sym is) (unbound_told models tasks fault (bound_told models raw names count tasks (Err fault) of_net counted h))
+pub no_tasks : (models : List Model) (raw : RawNet) (names : NetNames) (count : ℕ) (tasks : RawTasks) (fault : BindFault) → IsNetOf models raw names → count ≡ raw.nets →
+    IsAnswer (named_by names) count tasks (Err fault) → OrMemory (IsNotBound models tasks) (binding_refused fault)
+no_tasks models raw names count tasks fault of_net counted h = unbound_told models tasks fault (bound_told models raw names count tasks (Err fault) of_net counted h)
 
 -- the loop that the order of gates finds
 pub loop_told : (models : List Model) (raw : RawNet) (names : NetNames) (id : ℕ) (name : List ℕ) → IsFlat models raw → AreNamesOf models names → IsLeastUnsettled raw id → slice_get names.own id ≡ Some name → IsLoop models name

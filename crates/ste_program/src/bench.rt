@@ -48,16 +48,7 @@ pub fn bench<R: Threads + Sync, G: Gate + Sync>(
         (λ found. OrMemory (IsFirst (check_stages asked.now.steps (pipeline_net stages)
         (pipeline_tasks stages))) found) }
 {
-    let (net, tasks) = match pipeline(alloc, stages as u32) {
-        Ok(texts) => texts,
-        Err(_) => return Err(Refusal::OutOfMemory),
-    };
-    let made = match checked_texts(rt, alloc, asked, net, tasks, gate) {
-        Ok(made) => made,
-        Err(found) => return Err(found),
-    };
-    match with_nets(alloc, made) {
-        Ok(written) => Ok(written),
-        Err(_) => Err(Refusal::OutOfMemory),
-    }
+    let (net, tasks) = pipeline(alloc, stages as u32)?;
+    let made = checked_texts(rt, alloc, asked, net, tasks, gate)?;
+    Ok(with_nets(alloc, made)?)
 }

@@ -54,15 +54,9 @@ fn tasks_of(alloc: Global, text: Vec<u8>) -> Result<RawTasks, Refusal>
         (λ raw. AreTasks text.items raw)
         (λ found. OrMemory (has_faulty_tasks text.items) found) }
 {
-    let lines = match logical_lines(alloc, &text) {
-        Ok(lines) => lines,
-        Err(_) => return Err(Refusal::OutOfMemory),
-    };
+    let lines = logical_lines(alloc, &text)?;
     drop(text);
-    match read_tasks(alloc, lines.as_slice()) {
-        Ok(raw) => Ok(raw),
-        Err(fault) => Err(Refusal::from(fault)),
-    }
+    Ok(read_tasks(alloc, lines.as_slice())?)
 }
 
 /// The tasks over a netlist's net.
@@ -72,10 +66,7 @@ fn bound(alloc: Global, flat: &FlatNet, raw: &RawTasks) -> Result<Tasks, Refusal
         (λ tasks. IsAnswer (net_named models) (length (nets models)) raw.now (Ok tasks))
         (λ found. OrMemory (IsNotBound models raw.now) found) }
 {
-    match bind_tasks(alloc, raw, &flat.names, flat.net.nets()) {
-        Ok(tasks) => Ok(tasks),
-        Err(fault) => Err(Refusal::from(fault)),
-    }
+    Ok(bind_tasks(alloc, raw, &flat.names, flat.net.nets())?)
 }
 
 /// Whether these node steps of each task, where they are given, are too many over so many tasks.
@@ -102,10 +93,7 @@ fn tasks_on(
         × (are_too_many steps (length raw.now.tasks) ≡ false))
         (λ found. OrMemory (IsFirst (check_stages steps net_text task_text)) found) }
 {
-    let tasks = match bound(alloc, flat, raw) {
-        Ok(tasks) => tasks,
-        Err(found) => return Err(found),
-    };
+    let tasks = bound(alloc, flat, raw)?;
     if are_too_many(steps, raw.tasks.len()) {
         return Err(Refusal::TooManySteps);
     }
@@ -128,14 +116,9 @@ fn prepared_of(
         made.tasks)
         (λ found. OrMemory (IsFirst (check_stages steps net_text task_text)) found) }
 {
-    let flat = match net_of(alloc, models) {
-        Ok(flat) => flat,
-        Err(found) => return Err(found),
-    };
-    match tasks_on(alloc, steps, &flat, raw) {
-        Ok(tasks) => Ok(Prepared { flat, tasks }),
-        Err(found) => Err(found),
-    }
+    let flat = net_of(alloc, models)?;
+    let tasks = tasks_on(alloc, steps, &flat, raw)?;
+    Ok(Prepared { flat, tasks })
 }
 
 /// What a check with these node steps of each task needs, from its texts; or why there is nothing to check.
@@ -152,14 +135,8 @@ fn prepare(
         made.flat.net.raw made.tasks)
         (λ found. OrMemory (IsFirst (check_stages steps net_text.items task_text.items)) found) }
 {
-    let models = match models_of(alloc, net_text) {
-        Ok(models) => models,
-        Err(found) => return Err(found),
-    };
-    let raw = match tasks_of(alloc, task_text) {
-        Ok(raw) => raw,
-        Err(found) => return Err(found),
-    };
+    let models = models_of(alloc, net_text)?;
+    let raw = tasks_of(alloc, task_text)?;
     prepared_of(alloc, steps, models, &raw)
 }
 
@@ -244,15 +221,9 @@ pub fn checked_texts<R: Threads + Sync, G: Gate + Sync>(
         (λ found. OrMemory (IsFirst (check_stages asked.now.steps net_text.items task_text.items))
         found) }
 {
-    let prepared = match prepare(alloc, asked.steps, net_text, task_text) {
-        Ok(prepared) => prepared,
-        Err(found) => return Err(found),
-    };
+    let prepared = prepare(alloc, asked.steps, net_text, task_text)?;
     let each = task_steps(asked.steps, prepared.tasks.tasks.len());
-    match report_on(rt, alloc, asked, each as u32, &prepared, gate) {
-        Ok(checked) => Ok(checked),
-        Err(_) => Err(Refusal::OutOfMemory),
-    }
+    Ok(report_on(rt, alloc, asked, each as u32, &prepared, gate)?)
 }
 
 /// What a check writes on the texts of a netlist and of a task file: its report.
@@ -273,11 +244,9 @@ pub fn check<R: Threads + Sync, G: Gate + Sync>(
         (λ found. OrMemory (IsFirst (check_stages asked.now.steps net_text.items task_text.items))
         found) }
 {
-    match checked_texts(rt, alloc, asked, net_text, task_text, gate) {
-        Ok(checked) => Ok(Written {
-            bytes: checked.text.into(),
-            passes: checked.passes,
-        }),
-        Err(found) => Err(found),
-    }
+    let checked = checked_texts(rt, alloc, asked, net_text, task_text, gate)?;
+    Ok(Written {
+        bytes: checked.text.into(),
+        passes: checked.passes,
+    })
 }

@@ -77,13 +77,11 @@ fn counts_of(alloc: Global, flat: &FlatNet) -> Result<Written, Refusal>
         (λ report. (report.passes ≡ true) × IsInfo text report.bytes)
         (λ found. OrMemory (IsFirst (info_stages text)) found) }
 {
-    match info_text(alloc, flat.names.top().bytes(), &flat.net) {
-        Ok(bytes) => Ok(Written {
-            bytes: bytes.into(),
-            passes: true,
-        }),
-        Err(_) => Err(Refusal::OutOfMemory),
-    }
+    let bytes = info_text(alloc, flat.names.top().bytes(), &flat.net)?;
+    Ok(Written {
+        bytes: bytes.into(),
+        passes: true,
+    })
 }
 
 /// What `info` writes on the text of a netlist.
@@ -93,9 +91,6 @@ pub fn info(alloc: Global, text: Vec<u8>) -> Result<Written, Refusal>
         (λ report. (report.passes ≡ true) × IsInfo text.items report.bytes)
         (λ found. OrMemory (IsFirst (info_stages text.items)) found) }
 {
-    let flat = match netlist_of(alloc, text) {
-        Ok(flat) => flat,
-        Err(found) => return Err(found),
-    };
+    let flat = netlist_of(alloc, text)?;
     counts_of(alloc, &flat)
 }

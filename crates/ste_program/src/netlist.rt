@@ -23,15 +23,9 @@ pub fn models_of(alloc: Global, text: Vec<u8>) -> Result<Models, Refusal>
         (λ models. IsNetlist text.items models.models × AreCovered models.models)
         (λ found. OrMemory (is_faulty text.items) found) }
 {
-    let lines = match logical_lines(alloc, &text) {
-        Ok(lines) => lines,
-        Err(_) => return Err(Refusal::OutOfMemory),
-    };
+    let lines = logical_lines(alloc, &text)?;
     drop(text);
-    match read_models(alloc, lines.as_slice()) {
-        Ok(models) => Ok(models),
-        Err(fault) => Err(Refusal::from(fault)),
-    }
+    Ok(read_models(alloc, lines.as_slice())?)
 }
 
 /// A flat net in a settled order, and the names of its nets.
@@ -48,17 +42,11 @@ pub fn net_of(alloc: Global, models: Models) -> Result<FlatNet, Refusal>
         (λ flat. IsNetOf models.models flat.net.raw flat.names)
         (λ found. OrMemory (HasNoNet models.models) found) }
 {
-    let (raw, names) = match flatten(alloc, &models) {
-        Ok(made) => made,
-        Err(fault) => return Err(Refusal::from(fault)),
-    };
+    let (raw, names) = flatten(alloc, &models)?;
     drop(models);
     match order(alloc, raw) {
         Ok(net) => Ok(FlatNet { net, names }),
-        Err(OrderFault::Loop { net }) => match names.name(net).clone() {
-            Ok(name) => Err(Refusal::Loop(name)),
-            Err(_) => Err(Refusal::OutOfMemory),
-        },
+        Err(OrderFault::Loop { net }) => Err(Refusal::Loop(names.name(net).clone()?)),
         Err(OrderFault::OutOfMemory) => Err(Refusal::OutOfMemory),
     }
 }
@@ -71,9 +59,6 @@ pub fn netlist_of(alloc: Global, text: Vec<u8>) -> Result<FlatNet, Refusal>
         × IsNetOf models flat.net.raw flat.names)
         (λ found. OrMemory (IsFirst (info_stages text.items)) found) }
 {
-    let models = match models_of(alloc, text) {
-        Ok(models) => models,
-        Err(found) => return Err(found),
-    };
+    let models = models_of(alloc, text)?;
     net_of(alloc, models)
 }

@@ -70,9 +70,6 @@ pub fn report_of<R: Threads + Sync, F: Files, G: Gate + Sync>(
     let Some(asked) = command else {
         return Err(Refusal::Usage);
     };
-    let texts = match texts_of(alloc, asked, files) {
-        Ok(texts) => texts,
-        Err(found) => return Err(found),
-    };
+    let texts = texts_of(alloc, asked, files)?;
     on_texts(rt, alloc, asked, texts, gate)
 }

@@ -28,15 +28,9 @@ fn inputs_of(alloc: Global, flat: &FlatNet, text: Vec<u8>) -> Result<Inputs, Ref
         (λ inputs. AreGiven flat.now.net.raw flat.now.names text.items inputs)
         (λ found. OrMemory (AreNotGiven flat.now.net.raw flat.now.names text.items) found) }
 {
-    let lines = match logical_lines(alloc, &text) {
-        Ok(lines) => lines,
-        Err(_) => return Err(Refusal::OutOfMemory),
-    };
+    let lines = logical_lines(alloc, &text)?;
     drop(text);
-    match read_inputs(alloc, lines.as_slice(), &flat.net, &flat.names) {
-        Ok(inputs) => Ok(inputs),
-        Err(fault) => Err(Refusal::from(fault)),
-    }
+    Ok(read_inputs(alloc, lines.as_slice(), &flat.net, &flat.names)?)
 }
 
 /// Puts the line of one time behind a text.
@@ -101,17 +95,12 @@ fn outputs_of(alloc: Global, flat: &FlatNet, input_text: Vec<u8>) -> Result<Writ
         (λ report. (report.passes ≡ true) × IsSimulated net_text input_text.items report.bytes)
         (λ found. OrMemory (IsFirst (sim_stages net_text input_text.items)) found) }
 {
-    let inputs = match inputs_of(alloc, flat, input_text) {
-        Ok(inputs) => inputs,
-        Err(found) => return Err(found),
-    };
-    match text_of(alloc, flat, inputs) {
-        Ok(bytes) => Ok(Written {
-            bytes: bytes.into(),
-            passes: true,
-        }),
-        Err(_) => Err(Refusal::OutOfMemory),
-    }
+    let inputs = inputs_of(alloc, flat, input_text)?;
+    let bytes = text_of(alloc, flat, inputs)?;
+    Ok(Written {
+        bytes: bytes.into(),
+        passes: true,
+    })
 }
 
 /// What `sim` writes on the texts of a netlist and of an input file.
@@ -123,9 +112,6 @@ pub fn simulated(alloc: Global, net_text: Vec<u8>, input_text: Vec<u8>) -> Resul
         × IsSimulated net_text.items input_text.items report.bytes)
         (λ found. OrMemory (IsFirst (sim_stages net_text.items input_text.items)) found) }
 {
-    let flat = match netlist_of(alloc, net_text) {
-        Ok(flat) => flat,
-        Err(found) => return Err(found),
-    };
+    let flat = netlist_of(alloc, net_text)?;
     outputs_of(alloc, &flat, input_text)
 }

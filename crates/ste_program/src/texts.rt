@@ -68,12 +68,7 @@ pub fn texts_of<F: Files>(
         texts.net.items texts.second.items)
         (λ found. WhyNoReport (Some command.now) (F.state files.old) (F.state files.new) found) }
 {
-    let net = match text_of(alloc, files, File::Net, file_of(command, File::Net)) {
-        Ok(net) => net,
-        Err(found) => return Err(found),
-    };
-    match text_of(alloc, files, File::Second, file_of(command, File::Second)) {
-        Ok(second) => Ok(Texts { net, second }),
-        Err(found) => Err(found),
-    }
+    let net = text_of(alloc, files, File::Net, file_of(command, File::Net))?;
+    let second = text_of(alloc, files, File::Second, file_of(command, File::Second))?;
+    Ok(Texts { net, second })
 }
