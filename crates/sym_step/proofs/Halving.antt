@@ -28,7 +28,7 @@ use Rattle.sym_step.proofs.NetRefs.{Inputs-keep}
 use Rattle.sym_step.proofs.Ordered.{total, total_end, total_last, ordered-keeps, ordered-less, whole_free, half_cofactor, halves_split}
 
 -- what is made for a cofactor is made for the function
-spends_below : (f g : Function) (s t : Store) (out : Type 0) → IsCofactor s.vars f g → Spends (g ∷ []) s t out → Spends (f ∷ []) s t out
+pub spends_below : (f g : Function) (s t : Store) (out : Type 0) → IsCofactor s.vars f g → Spends (g ∷ []) s t out → Spends (f ∷ []) s t out
 spends_below f g s t out cofactor x = record {
   keeps = x.keeps;
   limit = x.limit;
@@ -40,7 +40,7 @@ spends_below f g s t out cofactor x = record {
     weaker h (k, (zero, lt, e), c) = (f, here f [], IsCofactor-trans s.vars f g h cofactor (subst (λ (q : Function). IsCofactor s.vars q h) (sym e) c))
     weaker h (k, (suc n, lt, e), c) = absurd (omega arith)
 
-covers_one : (v : ℕ) (h f : Function) → ((bits : List Bool) → length bits ≡ v → f bits ≡ h bits) → Covers v (h ∷ []) (f ∷ [])
+pub covers_one : (v : ℕ) (h f : Function) → ((bits : List Bool) → length bits ≡ v → f bits ≡ h bits) → Covers v (h ∷ []) (f ∷ [])
 covers_one v h f same k (zero, lt, e) = subst (Has v (f ∷ [])) e (f, here f [], same)
 covers_one v h f same k (suc n, lt, e) = absurd (omega arith)
 

@@ -27,3 +27,8 @@ pub mod Apart
 pub mod Opened
 pub mod Latched
 pub mod Choosing
+pub mod FewGates
+pub mod SomeChoice
+pub mod Tables
+pub mod ByTable
+pub mod Entries

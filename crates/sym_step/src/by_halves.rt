@@ -231,7 +231,7 @@ fn add_behind(stack: &mut Vec<&[Lit]>, begin: usize) -> Result<(), AllocError>
 }
 
 /// The function that is `lo` where the variable is 0, and `hi` where it is 1.
-fn split_at<N: Nodes>(nodes: &mut N, var: u32, lo: Ref, hi: Ref) -> Result<Ref, OpFault>
+pub(crate) fn split_at<N: Nodes>(nodes: &mut N, var: u32, lo: Ref, hi: Ref) -> Result<Ref, OpFault>
     requires var { var < (N.store nodes.old).vars }
     requires lo { IsFrom (N.store nodes.old).held (var + 1) lo }
     requires hi { IsFrom (N.store nodes.old).held (var + 1) hi }

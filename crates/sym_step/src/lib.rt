@@ -4,6 +4,7 @@
 
 mod board;
 mod by_halves;
+mod by_table;
 mod choices;
 pub mod cut;
 mod cut_list;
@@ -15,6 +16,7 @@ mod latches;
 pub mod laws;
 pub mod made;
 mod marks;
+mod met;
 mod net_rails;
 mod one_row;
 pub mod piece;
@@ -24,6 +26,7 @@ pub mod row_list;
 pub mod rows;
 mod source;
 mod sums;
+mod table;
 pub mod time;
 mod vectors;
 

@@ -1,13 +1,13 @@
 //! The sets of the gates' outputs, in settled order; begin with `place_gates`.
 
-ghost use Rattle.std.specs.Prelude.{◌≡◌, ◌<◌, ◌≤◌, ◌∷◌, ◌++◌, [], false, true, ℕ, List, All, IsTrue, OnOk, Some, length, map, set, slice_get};
+ghost use Rattle.std.specs.Prelude.{◌≡◌, ◌≢◌, ◌<◌, ◌≤◌, ◌∷◌, ◌++◌, [], false, true, not, ℕ, Bool, List, All, IsTrue, OnOk, Some, length, map, set, slice_get};
 ghost use Rattle.std.specs.List.{AllZip};
 ghost use Rattle.dd_nodes.specs.Stores.{IsRef};
 ghost use Rattle.net_core.specs.declared.cover.Cover.{Cover};
 ghost use Rattle.net_core.specs.Cases.{on_rows, off_rows};
-ghost use Rattle.net_core.specs.Cover.{IsCover};
+ghost use Rattle.net_core.specs.Cover.{IsCover, some_matches};
 ghost use Rattle.net_core.specs.Flat.{IsSettledOrder};
-ghost use Rattle.net_core.specs.Work.{ArePossibleEach, SymbolicSet, SymbolicCut, after_cuts, cover_work, cuts_work, gate_set, gate_work, output_set, input_sets, some_bit, time_work};
+ghost use Rattle.net_core.specs.Work.{ArePossibleEach, AreWide, SymbolicSet, SymbolicCut, after_cuts, cover_work, cuts_work, gate_set, gate_work, output_set, input_sets, some_bit, time_work};
 ghost use Rattle.dual_rail.specs.Rail.{Built, HasSet, Whatever};
 ghost use Rattle.sym_step.specs.Step.{IsCutBy, rows_of};
 ghost use Rattle.sym_step.specs.private.Boards.{Follows};
@@ -16,8 +16,10 @@ ghost use Rattle.sym_step.specs.private.Readers.{flag_at};
 ghost use Rattle.sym_step.specs.private.NetSets.{AreNetRails, AreNetRefs, HasNetSet, HaveInputs, net_at, sets_at};
 ghost use Rattle.sym_step.specs.private.Parts.{AreMarks, HaveGates, asks};
 ghost use Rattle.sym_step.specs.private.Refused.{is_rising};
+ghost use Rattle.sym_step.specs.private.Tables.{AreTables, HaveTables};
 
 use crate::board::Board;
+use crate::by_table::{Scratch, by_table};
 use crate::choices::{CHOICES, choice_of};
 use crate::cut_list::CutList;
 use crate::cuts::cut_full;
@@ -25,6 +27,7 @@ use crate::gates::{Filling, filling_of, gate_at};
 use crate::net_rails::NetRails;
 use crate::one_row::{by_row, only_rising};
 use crate::rows::{CoverRows, GateRows};
+use crate::table::{MOST_INPUTS, Tables};
 use dd_nodes::{Nodes, Ref};
 use dd_ops::{OpFault, Ops};
 use dual_rail::Rails;
@@ -70,6 +73,63 @@ fn rising_gate<N: Nodes>(
     })
 }
 
+/// The set that a gate of few inputs gives, none of which is empty anywhere: by its tables where few steps tell it, else by
+/// the rows of its cover.
+fn few_gate<N: Nodes>(
+    alloc: Global,
+    ops: &Ops,
+    nodes: &mut N,
+    rows: &CoverRows,
+    tables: Tables,
+    products: &mut [Ref],
+    scratch: &mut Scratch,
+    nets: &[NetRails],
+    inputs: &[NodeId],
+    known: bool,
+) -> Result<Rails, OpFault>
+    requires few { length inputs.now ≤ 6 }
+    requires on { rows.now.on.width ≡ length inputs.now }
+    requires off { rows.now.off.width ≡ length inputs.now }
+    requires wide_on { AreWide rows.now.on.list (length inputs.now) }
+    requires wide_off { AreWide rows.now.off.list (length inputs.now) }
+    requires some_on { rows.now.on.list ≢ [] }
+    requires some_off { rows.now.off.list ≢ [] }
+    requires apart { (bits : List Bool) → length bits ≡ length inputs.now
+        → some_matches rows.now.off.list bits ≡ not (some_matches rows.now.on.list bits) }
+    requires tables { AreTables rows.now.on.list rows.now.off.list (length inputs.now) tables }
+    requires full { All (λ input. (net_at nets.now input.0).some ≡ Ref.TRUE) inputs.now }
+    requires known { IsTrue known
+        → All (λ input. (net_at nets.now input.0).known ≡ true) inputs.now }
+    requires room { length inputs.now < length products.old }
+    requires inside { All (λ input. input.0 < length nets.now) inputs.now }
+    requires refs { All (AreNetRefs (N.store nodes.old)) nets.now }
+    ensures room { length products.new ≡ length products.old }
+    ensures built { (sets : ℕ → SymbolicSet)
+        → HaveInputs (N.store nodes.old) sets nets.now inputs.now
+        → Built (gate_work rows.now.on.list rows.now.off.list (sets_at sets inputs.now))
+        (HasSet (gate_set rows.now.on.list rows.now.off.list (sets_at sets inputs.now)))
+        (N.store nodes.old) (N.store nodes.new) result }
+{
+    let found = by_table(alloc, nodes, tables, scratch, nets, inputs)?;
+    match found {
+        Some(rails) => Ok(rails),
+        None => gate_at(alloc, ops, nodes, rows, products, nets, inputs, true, known),
+    }
+}
+
+/// Whether a gate of so many inputs goes by tables first: one of more than two, whose cover has several rows.
+fn is_few(inputs: usize, cover: &Cover, rows: &CoverRows) -> bool
+    ensures few { IsTrue result → inputs ≤ 6 }
+    ensures on { IsTrue result → rows.now.on.list ≢ [] }
+    ensures off { IsTrue result → rows.now.off.list ≢ [] }
+{
+    2 < inputs
+        && inputs <= MOST_INPUTS
+        && 1 < cover.rows.len()
+        && 0 < rows.on.size()
+        && 0 < rows.off.size()
+}
+
 /// The set that a gate of this cover gives, where none of its inputs is empty anywhere where `full` says so, and each has
 /// exactly one bit everywhere where `known` does.
 fn cover_gate<N: Nodes>(
@@ -78,7 +138,9 @@ fn cover_gate<N: Nodes>(
     nodes: &mut N,
     cover: &Cover,
     rows: &CoverRows,
+    tables: Tables,
     products: &mut [Ref],
+    scratch: &mut Scratch,
     nets: &[NetRails],
     inputs: &[NodeId],
     full: bool,
@@ -87,6 +149,7 @@ fn cover_gate<N: Nodes>(
     requires sound { IsCover cover.now }
     requires width { cover.now.inputs ≡ length inputs.now }
     requires rows { rows.now ≡ rows_of cover.now }
+    requires tables { HaveTables rows.now tables }
     requires full { IsTrue full
         → All (λ input. (net_at nets.now input.0).some ≡ Ref.TRUE) inputs.now }
     requires known { IsTrue known
@@ -106,6 +169,11 @@ fn cover_gate<N: Nodes>(
             return rising_gate(alloc, ops, nodes, cover, rows, row, products, nets, inputs);
         }
     }
+    if full && is_few(inputs.len(), cover, rows) {
+        return few_gate(
+            alloc, ops, nodes, rows, tables, products, scratch, nets, inputs, known,
+        );
+    }
     gate_at(alloc, ops, nodes, rows, products, nets, inputs, full, known)
 }
 
@@ -119,6 +187,7 @@ fn place<N: Nodes>(
     cuts: &CutList,
     marks: &[bool],
     products: &mut [Ref],
+    scratch: &mut Scratch,
     nets: &[NetRails],
     g: &Gate,
 ) -> Result<NetRails, OpFault>
@@ -145,11 +214,12 @@ fn place<N: Nodes>(
         (N.store nodes.old) (N.store nodes.new) result }
 {
     let lists = rows.lists(g.cover as usize);
+    let tables = rows.tables(g.cover as usize);
     let inputs = g.inputs.as_slice();
     let Filling { full, known } = filling_of(nets, inputs);
     let cover = &net.covers()[g.cover as usize];
     let given = cover_gate(
-        alloc, ops, nodes, cover, lists, products, nets, inputs, full, known,
+        alloc, ops, nodes, cover, lists, tables, products, scratch, nets, inputs, full, known,
     )?;
     cut_full(ops, nodes, cuts, marks, g.output.0, given, full, known)
 }
@@ -166,6 +236,7 @@ fn renew<N: Nodes>(
     cuts: &CutList,
     marks: &[bool],
     products: &mut [Ref],
+    scratch: &mut Scratch,
     board: &mut Board,
     number: usize,
     g: &Gate,
@@ -215,7 +286,9 @@ fn renew<N: Nodes>(
         return Ok(());
     }
     let nets = board.nets.as_slice();
-    let r = place(alloc, ops, nodes, net, rows, cuts, marks, products, nets, g)?;
+    let r = place(
+        alloc, ops, nodes, net, rows, cuts, marks, products, scratch, nets, g,
+    )?;
     board.put(g.output.0, r);
     Ok(())
 }
@@ -230,6 +303,7 @@ pub fn place_gates<N: Nodes>(
     cuts: &CutList,
     marks: &[bool],
     products: &mut [Ref],
+    scratch: &mut Scratch,
     board: &mut Board,
 ) -> Result<(), OpFault>
     requires long { length board.old.nets.items ≡ net.now.raw.nets }
@@ -270,7 +344,7 @@ pub fn place_gates<N: Nodes>(
         let number = board.due.number_at(place);
         let g = &net.gates()[number];
         renew(
-            alloc, ops, nodes, net, rows, cuts, marks, products, board, number, g,
+            alloc, ops, nodes, net, rows, cuts, marks, products, scratch, board, number, g,
         )?;
         place = board.due.next(place + 1);
     }

@@ -8,9 +8,11 @@ ghost use Rattle.net_core.specs.Work.{AreWide};
 ghost use Rattle.sym_step.specs.Step.{rows_of};
 ghost use Rattle.sym_step.specs.private.Choices.{AreTold};
 ghost use Rattle.sym_step.specs.private.Numbers.{kind_at};
+ghost use Rattle.sym_step.specs.private.Tables.{HaveTables};
 
 use crate::choices::Choices;
 use crate::row_list::RowList;
+use crate::table::Tables;
 use net_core::{Cover, Lit, Net, Row, other_rows};
 use std::alloc::{AllocError, Global};
 use std::marker::Model;
@@ -23,11 +25,13 @@ pub struct CoverRows {
     pub off: RowList,
 }
 
-/// Both lists of rows of a cover, and the set of its gate for each choice of constants. Contracts see the lists.
+/// Both lists of rows of a cover, the set of its gate for each choice of constants, and its tables. Contracts see the lists.
 #[derive(Debug, Drop)]
 struct Kind {
     rows: CoverRows,
     choices: Choices,
+    tables: Tables,
+    ghost tabled: { HaveTables rows tables } by { Prim.hlevel props },
     ghost told: { AreTold rows choices } by { Prim.hlevel props },
 }
 
@@ -52,6 +56,13 @@ impl Kind {
         ensures { AreTold self.now result }
     {
         self.choices
+    }
+
+    /// The tables of both lists.
+    fn tables(&self) -> Tables
+        ensures { HaveTables self.now result }
+    {
+        self.tables
     }
 }
 
@@ -81,7 +92,7 @@ const PLACES: usize = 251;
 /// How many rows of a cover, and literals of a row, its place is told by.
 const TOLD_BY: usize = 8;
 
-/// Both lists of rows over so many inputs, with the set of a gate for each choice of constants.
+/// Both lists of rows over so many inputs, with the set of a gate for each choice of constants, and the tables.
 fn kind_of(alloc: Global, width: u32, on: &[Row], off: &[Row]) -> Result<Kind, AllocError>
     requires width { width ≤ 1000 }
     requires on { AreWide on.now width }
@@ -92,10 +103,15 @@ fn kind_of(alloc: Global, width: u32, on: &[Row], off: &[Row]) -> Result<Kind, A
     }) }
 {
     let choices = Choices::of(width, on, off);
+    let tables = Tables::of(width, on, off);
     let on = RowList::of(alloc, width, on)?;
     let off = RowList::of(alloc, width, off)?;
     let rows = CoverRows { on, off };
-    Ok(Kind { rows, choices })
+    Ok(Kind {
+        rows,
+        choices,
+        tables,
+    })
 }
 
 /// Both lists of rows of one cover.
@@ -196,6 +212,14 @@ impl GateRows {
         ensures { AreTold (kind_at self.now.covers cover) result }
     {
         self.kinds.as_slice()[self.numbers.as_slice()[cover]].choices()
+    }
+
+    /// The tables of both lists of a cover, by its number. It takes no memory.
+    pub fn tables(&self, cover: usize) -> Tables
+        requires { cover < length self.now.covers }
+        ensures { HaveTables (kind_at self.now.covers cover) result }
+    {
+        self.kinds.as_slice()[self.numbers.as_slice()[cover]].tables()
     }
 
     /// Both lists of rows of every cover of the net.

@@ -15,6 +15,7 @@ ghost use Rattle.sym_step.specs.private.NetSets.{AreNetRails, AreNetRefs};
 ghost use Rattle.sym_step.specs.private.Parts.{AreMarks, HaveNets};
 
 use crate::board::Board;
+use crate::by_table::Scratch;
 use crate::cut::Cut;
 use crate::cut_list::{CutLinks, CutList, linked};
 use crate::frame::{Frame, asked_nets, knows_full, make_due, own_sets};
@@ -110,6 +111,7 @@ fn set_nets<N: Nodes>(
     asked: &[NodeId],
     before: &[NodeId],
     products: &mut [Ref],
+    scratch: &mut Scratch,
     board: &mut Board,
 ) -> Result<(), OpFault>
     requires rows { rows.now.covers ≡ map rows_of net.now.raw.covers }
@@ -145,7 +147,9 @@ fn set_nets<N: Nodes>(
         → HaveNets net.now.raw sets (N.store nodes.new) board.new.nets.items) }
 {
     sources(ops, nodes, net, latches, cuts, marks, asked, before, board)?;
-    place_gates(alloc, ops, nodes, net, rows, cuts, marks, products, board)
+    place_gates(
+        alloc, ops, nodes, net, rows, cuts, marks, products, scratch, board,
+    )
 }
 
 /// Begins a time: the gates and latches whose outputs are cut now or were before are due, and the result is the sets of the
@@ -232,6 +236,7 @@ fn renew_with<N: Nodes>(
         &asked,
         &frame.asked,
         &mut frame.products,
+        &mut vectors.scratch,
         &mut frame.board,
     )?;
     frame.board.due.clear_gates();

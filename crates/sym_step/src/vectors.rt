@@ -1,17 +1,19 @@
 //! Vectors that each time uses; begin with `Vectors`.
 
+use crate::by_table::Scratch;
 use crate::cut_list::CutLinks;
 use crate::latches::LatchSet;
 use std::alloc::Global;
 use ste_base::NodeId;
 
 /// Vectors that one time fills and the next one fills again, so that a time takes no memory: where the cuts of each net stand,
-/// nets, and sets of latches. What they hold between times says nothing.
+/// nets, sets of latches, and what the recursion for a gate takes. What they hold between times says nothing.
 #[derive(Debug, Drop)]
 pub struct Vectors {
     pub links: CutLinks,
     pub asked: Vec<NodeId>,
     pub sets: Vec<LatchSet>,
+    pub scratch: Scratch,
 }
 
 impl Vectors {
@@ -21,6 +23,7 @@ impl Vectors {
             links: CutLinks::none(alloc),
             asked: Vec::new(alloc),
             sets: Vec::new(alloc),
+            scratch: Scratch::none(alloc),
         }
     }
 }

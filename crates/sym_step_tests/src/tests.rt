@@ -887,6 +887,60 @@ fn long_lists_of_rows_agree_with_the_plain_checker(rt: HostRuntime) -> Result<()
     Ok(())
 }
 
+/// Gates of three to six inputs, one behind the others: a choice of four by two, and others with on-rows and off-rows.
+const FEW: &str =
+    ".model few\n.inputs s t a b c d\n.outputs v\n.names s t a b c d y\n001--- 1\n01-1-- 1\n10--1- 1\n11---1 1\n.names a s b t z\n0011 0\n1-0- 0\n.names s a b c t w\n11--- 1\n1-1-1 1\n-1-11 1\n0000- 1\n.names y z w v\n000 1\n011 1\n101 1\n110 1\n.end\n";
+
+/// What is asked of their nets: for a net, guard and value.
+const ASKED_OF_FEW: &[&[(&str, Bit, Bit)]] = &[
+    &[],
+    &[
+        ("s", Bit::One, Bit::One),
+        ("t", Bit::One, Bit::Zero),
+        ("a", Bit::One, Bit::One),
+        ("b", Bit::One, Bit::One),
+        ("c", Bit::One, Bit::Zero),
+        ("d", Bit::One, Bit::One),
+    ],
+    &[
+        ("s", Bit::One, Bit::P),
+        ("t", Bit::One, Bit::Q),
+        ("a", Bit::One, Bit::One),
+        ("b", Bit::One, Bit::Zero),
+    ],
+    &[
+        ("s", Bit::One, Bit::P),
+        ("t", Bit::One, Bit::Q),
+        ("a", Bit::Q, Bit::P),
+        ("b", Bit::P, Bit::Q),
+        ("c", Bit::One, Bit::Zero),
+    ],
+    &[("s", Bit::Q, Bit::P), ("d", Bit::One, Bit::Q)],
+    &[
+        ("s", Bit::P, Bit::Zero),
+        ("t", Bit::P, Bit::Zero),
+        ("a", Bit::P, Bit::Q),
+    ],
+    &[("s", Bit::One, Bit::P), ("y", Bit::Q, Bit::P)],
+    &[
+        ("a", Bit::One, Bit::P),
+        ("a", Bit::Q, Bit::One),
+        ("t", Bit::One, Bit::Q),
+    ],
+];
+
+#[test]
+fn gates_of_few_inputs_agree_with_the_plain_checker(rt: HostRuntime) -> Result<(), Fail> {
+    let alloc = rt.alloc();
+    let text = FEW.as_bytes();
+    assert!(rt; text.len() <= 10000);
+    for (case, asked) in ASKED_OF_FEW.iter().enumerate() {
+        assert!(rt; case_agrees(alloc, text, *asked)?, "{case}");
+        assert!(rt; case_frames_agree(alloc, text, *asked)?, "{case}");
+    }
+    Ok(())
+}
+
 /// A net of one gate, the AND of so many free nets.
 fn and_of(alloc: Global, inputs: u32) -> Result<Net, Fail>
     requires { inputs ≤ 1000 }

@@ -1,10 +1,10 @@
-use Rattle.std.proofs.Common.{◌≡◌, ◌<◌, List, All, length, get_or, sym, ◌∙◌, subst, arith, ap}
+use Rattle.std.proofs.Common.{◌≡◌, ◌<◌, List, [], All, length, get_or, sym, ◌∙◌, subst, arith, ap}
 use Rattle.std.proofs.lemmas.List.{take_all}
 use Rattle.dd_nodes.specs.Stores.{Store}
 use Rattle.graph_path.specs.declared.hop.Hop.{Hop}
 use Rattle.net_core.specs.declared.raw.RawNet.{RawNet}
 use Rattle.ste_engine.specs.private.Places.{FailsBy}
-use Rattle.ste_engine.proofs.PlaceTurns.{nothing_more}
+use Rattle.ste_engine.proofs.PlaceTurns.{nothing_more, nothing_yet}
 use Rattle.ste_model.specs.declared.task.Edge.{Edge}
 use Rattle.ste_model.specs.GraphHops.{AreEdgeHops, IsEdgeHop}
 use Rattle.gste_engine.specs.declared.state.State.{State}
@@ -24,6 +24,15 @@ hop_of-requires-clause-con g c =
     let lt : k < length edges = omega (arith, c.loop-k-test.true, long) in
     let is : edge ≡ get_or edges k edge = c.index-edges-k.is ∙ ap (λ (xs : List Edge). get_or xs k edge) all in
     subst (λ (e : Edge). All (λ bind. bind.node.0 < c.args.net.now.raw.nets) e.con) (sym is) (c.requires.con k edge lt).0
+
+pub loop-k-init : goal.loop-k-init
+loop-k-init g c =
+    let s : Store = g.N.Nodes.store c.args.nodes.now in
+    record {
+      same = nothing_yet s;
+      frame = c.in_ok-frame.ensures s (g.met.N.Nodes.diagram c.args.nodes.now);
+      so = λ states has. subst (λ (hops : List Hop). AreEdgeHops (FailsBy c.args.failure) c.args.net.now.raw c.args.bits.now (table_at c.args.bits.now states) [] hops) (sym c.new-hops.ensures.items) tt;
+    }
 
 pub loop-k-preserved : goal.loop-k-preserved
 loop-k-preserved g c =

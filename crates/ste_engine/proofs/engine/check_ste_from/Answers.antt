@@ -1,4 +1,4 @@
-use Rattle.std.proofs.Common.{◌≡◌, ◌≢◌, sym, ◌∙◌, ap, subst, Err}
+use Rattle.std.proofs.Common.{◌≡◌, ◌≢◌, sym, ◌∙◌, ap, subst, Err, IfSome, Option}
 use Rattle.std.proofs.lemmas.Result.{IfOk-weaker}
 use Rattle.dd_nodes.specs.Stores.{Store}
 use Rattle.dd_nodes.proofs.Spending.{Spends-out}
@@ -13,6 +13,8 @@ use Rattle.ste_model.specs.Need.{IsWholeTable}
 use Rattle.ste_model.specs.Report.{IsReportOf, budget_report}
 use Rattle.ste_model.specs.Work.{task_work}
 use Rattle.ste_model.proofs.Needs.{whole_exists}
+use Rattle.sym_step.specs.declared.frame.Frame.{Frame}
+use Rattle.sym_step.specs.private.Frames.{IsFrame}
 use Rattle.sym_step.proofs.Framing.{frame_keeps}
 use Rattle.ste_engine.specs.Engine.{IsBudget, IsKept}
 use Rattle.ste_engine.specs.private.Firsts.{AreFirsts}
@@ -21,6 +23,11 @@ use Rattle.ste_engine.proofs.PlaceTurns.{spends_same}
 use Rattle.ste_engine.proofs.Shows.{results_tell}
 use Rattle.ste_engine.proofs.Verdicts.{short}
 use Rattle.ste_engine.proofs.engine.check_ste_from.Goals as goal
+
+pub results-requires-clause-frame : goal.results-requires-clause-frame
+results-requires-clause-frame g c =
+    let s : Store = g.N.Nodes.store c.args.nodes.now in
+    c.in_ok-frame.ensures.frame s (g.met.N.Nodes.diagram c.args.nodes.now) (subst (λ (o : Option Frame). IfSome o (IsFrame s c.args.net.now.raw)) (sym c.take.ensures.value) c.requires.last)
 
 pub report_of-requires-clause-told : goal.report_of-requires-clause-told
 report_of-requires-clause-told g c =

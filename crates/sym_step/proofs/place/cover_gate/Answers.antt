@@ -19,3 +19,17 @@ pub returns-clause-built : goal.returns-clause-built
 returns-clause-built g c = λ sets have.
     let ws : List SymbolicSet = sets_at sets c.args.inputs.now in
     subst (λ (r : CoverRows). Built (gate_work r.on.list r.off.list ws) (HasSet (gate_set r.on.list r.off.list ws)) (g.N.Nodes.store c.args.nodes.now) (g.N.Nodes.store c.gate_at.new.nodes) c.gate_at.result) c.requires.rows (c.gate_at.ensures.built sets have)
+
+pub few_gate-requires-clause-wide_on : goal.few_gate-requires-clause-wide_on
+few_gate-requires-clause-wide_on g c = (cover_lists c.args.cover.now c.args.rows.now (length c.args.inputs.now) c.requires.rows c.requires.sound c.requires.width).wide_on
+
+pub few_gate-requires-clause-wide_off : goal.few_gate-requires-clause-wide_off
+few_gate-requires-clause-wide_off g c = (cover_lists c.args.cover.now c.args.rows.now (length c.args.inputs.now) c.requires.rows c.requires.sound c.requires.width).wide_off
+
+pub few_gate-requires-clause-apart : goal.few_gate-requires-clause-apart
+few_gate-requires-clause-apart g c = (cover_lists c.args.cover.now c.args.rows.now (length c.args.inputs.now) c.requires.rows c.requires.sound c.requires.width).apart
+
+pub returns-then-is_few-clause-built : goal.returns-then-is_few-clause-built
+returns-then-is_few-clause-built g c = λ sets have.
+    let ws : List SymbolicSet = sets_at sets c.args.inputs.now in
+    subst (λ (r : CoverRows). Built (gate_work r.on.list r.off.list ws) (HasSet (gate_set r.on.list r.off.list ws)) (g.N.Nodes.store c.args.nodes.now) (g.N.Nodes.store c.few_gate.new.nodes) c.few_gate.result) c.requires.rows (c.few_gate.ensures.built sets have)

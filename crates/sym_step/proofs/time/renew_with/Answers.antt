@@ -79,6 +79,12 @@ set_nets-requires-clause-undriven g c =
     let s : Store = g.N.Nodes.store c.args.nodes.now in
     subst (λ (xs : List NodeId). AreOpen s c.args.net.now.raw xs c.begin_time.new.frame.board.nets.items) (sym c.deref-9.ensures.value) (c.in_ok-latches.ensures.begins s c.requires.frame).undriven
 
+pub returns-in_err-asked-clause-built : goal.returns-in_err-asked-clause-built
+returns-in_err-asked-clause-built g c = λ ls asked sets zip zipc family.
+    let s : Store = g.N.Nodes.store c.args.nodes.now in
+    let work : List Function = time_work c.args.net.now.raw ls asked sets in
+    lost work Whatever s s c.from_residual-in_err-asked.result (So-start work s) c.from_residual-in_err-asked.ensures.1
+
 pub returns-in_err-latches-clause-built : goal.returns-in_err-latches-clause-built
 returns-in_err-latches-clause-built g c = λ ls asked sets zip zipc family.
     let s : Store = g.N.Nodes.store c.args.nodes.now in
