@@ -6,7 +6,7 @@ use ste_base::{Items, NodeId};
 
 /// Bits for some nets, time by time. The nets are different, and each row has a bit for each of
 /// them, in their order.
-#[derive(Debug, Drop)]
+#[derive(Drop)]
 pub struct Inputs {
     pub nodes: Items<NodeId>,
     pub rows: Items<Items<bool>>,

@@ -8,10 +8,9 @@ ghost use Rattle.clock_step.specs.private.Answers.{IsOrder, IsOrderOf};
 use crate::fault::InputFault;
 use blif_lines::Line;
 use indexmap::IndexSet;
-use net_core::{Net, Source};
+use net_core::{Net, Resolve, Source};
 use std::alloc::{AllocError, Global};
 use ste_base::{Items, Name, NodeId};
-use task_binding::Resolve;
 
 /// Adds a net, where there is one, and answers whether it was there already.
 fn add_node(nodes: &mut IndexSet<NodeId>, node: Option<NodeId>) -> Result<bool, AllocError>

@@ -9,10 +9,9 @@ use crate::inputs::Inputs;
 use crate::order::read_order;
 use crate::rows::read_rows;
 use blif_lines::Line;
-use net_core::Net;
+use net_core::{Net, Resolve};
 use std::alloc::Global;
 use ste_base::Items;
-use task_binding::Resolve;
 
 /// Reads the inputs of a net that the lines of an input file spell: the nets of the names behind
 /// `.order`, and a row for each line behind the first. A file without lines has no names and no

@@ -19,7 +19,7 @@ use ste_base::{Items, NodeId};
 
 /// A flat net in which every number is in range, each net has one driver at most, and the gates have a settled order.
 /// It keeps that order, and a table of what drives each net.
-#[derive(Debug, Drop)]
+#[derive(Drop)]
 pub struct Net {
     raw: RawNet,
     settled: Items<u32>,

@@ -15,12 +15,13 @@ use crate::text::{place_of, place_of_slash};
 use hierarchy::uses::use_of;
 use indexmap::IndexSet;
 use instances::{Numbered, Row};
+use net_core::Resolve;
 use std::alloc::{AllocError, Global};
 use ste_base::{Items, Name, NodeId};
 
 /// What leads to an instance: the row of the instance above it, none for the top, and its number
 /// there.
-#[derive(Clone, Copy, Debug, PartialEq, Eq, Hash)]
+#[derive(Clone, Copy, PartialEq, Eq, Hash)]
 pub struct Link {
     pub above: Option<usize>,
     pub number: usize,
@@ -195,5 +196,13 @@ impl NetNames {
     {
         let number = self.named_in(LEVELS, 0, text)?;
         Some(NodeId(number))
+    }
+}
+
+impl Resolve for NetNames {
+    ghost net_of = { named_by };
+
+    fn resolve(&self, text: &[u8]) -> Option<NodeId> {
+        NetNames::resolve(self, text)
     }
 }

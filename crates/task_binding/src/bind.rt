@@ -7,9 +7,9 @@ ghost use Rattle.ste_model.specs.Trees.{quint_tree, bind_tree, edge_tree, task_t
 ghost use Rattle.task_binding.specs.Bound.{net_by, quint_bound, bind_bound, edge_bound, task_bound};
 ghost use Rattle.task_binding.specs.private.Known.{quint_known, bind_known, edge_known, task_known};
 
-use crate::resolve::Resolve;
 use assert_syntax::tasks::{RawBind, RawEdge, RawQuint, RawTask};
 use bool_expr::{Expr, copy_expr};
+use net_core::Resolve;
 use std::alloc::{AllocError, Global};
 use ste_base::{Items, Name, NodeId, copies};
 use ste_model::{Assertion, Bind, Edge, Graph, Quint, Task};

@@ -3,11 +3,9 @@
 
 mod bind;
 pub mod fault;
-pub mod resolve;
 mod sizes;
 pub mod tasks;
 pub mod unknown;
 
 pub use fault::BindFault;
-pub use resolve::Resolve;
 pub use tasks::bind_tasks;

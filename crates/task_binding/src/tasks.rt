@@ -13,10 +13,10 @@ ghost use Rattle.task_binding.specs.private.Leading.{Leads};
 
 use crate::bind::bind_task;
 use crate::fault::BindFault;
-use crate::resolve::Resolve;
 use crate::sizes::first_large;
 use crate::unknown::{Mention, first_unknown};
 use assert_syntax::{RawTask, RawTasks};
+use net_core::Resolve;
 use std::alloc::{AllocError, Global};
 use ste_base::{Items, copies};
 use ste_model::{Task, Tasks};

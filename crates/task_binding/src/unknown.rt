@@ -5,13 +5,13 @@ ghost use Rattle.std.specs.List.{flat_map};
 ghost use Rattle.task_binding.specs.Mentions.{quint_mention, bind_mention, edge_mentions, task_mentions, mentions_of};
 ghost use Rattle.task_binding.specs.private.Leading.{GoesOn, Leads};
 
-use crate::resolve::Resolve;
 use assert_syntax::tasks::{RawBind, RawEdge, RawQuint, RawTask};
+use net_core::Resolve;
 use std::alloc::AllocError;
 use ste_base::{Items, Name};
 
 /// The node of a clause, by name, and the number of the clause's line.
-#[derive(Debug, Drop)]
+#[derive(Drop)]
 pub struct Mention {
     pub line: u32,
     pub node: Name,
