@@ -22,7 +22,7 @@ use Rattle.net_core.specs.Cases.{on_rows, off_rows}
 use Rattle.net_core.specs.Source.{source_of}
 use Rattle.net_core.specs.Work.{Function, SymbolicAsked, SymbolicCut, SymbolicSet, after_cut, by_gate, by_source, chain, conjunction, cover_set, cover_work, cut_set, cut_work, cuts_work, disjunction, everything, factor, factors, first_sets, gates_work, input_sets, negation, no_bit, row_products, rows_chains, rows_work, some_bit, time_work, uncut, whole}
 use Rattle.ste_base.specs.declared.id.NodeId.{NodeId}
-use Rattle.ste_engine.specs.private.Places.{MakesNothing, constant_ref}
+use Rattle.engine_parts.specs.Failing.{MakesNothing, constant_ref}
 
 -- ---- constant functions
 
@@ -265,3 +265,14 @@ module _ (fs : List Function) (s t : Store) (out : Type 0) (are : AreConstant fs
           append_nil [] = refl
           append_nil (r ∷ rs) = ap (λ ys. r ∷ ys) (append_nil rs)
       empty (r ∷ rs) never = absurd (never r (0, omega arith, refl))
+
+-- ---- constant expressions
+
+pub const_value : (b : Bool) (bits : List Bool) → value_of (Const b) bits ≡ b
+const_value b bits = ap (λ (e : Expr). value_of e bits) (sym (rolls-Const b)) ∙ fold-roll-Expr Bool (value_step bits) _
+
+pub const_is : (b : Bool) → IsConstant (value_of (Const b))
+const_is b = record { value = b; is = const_value b }
+
+pub const_means : (s : Store) (b : Bool) → IsGood s → Means s (value_of (Const b)) (constant_ref b)
+const_means s b d = Means-same s (λ bits. b) (value_of (Const b)) (constant_ref b) (λ bits l. sym (const_value b bits)) (bit_means s b d)

@@ -19,11 +19,11 @@ use Rattle.ste_model.specs.Asked.{cuts_at, quint_at}
 use Rattle.ste_model.specs.Work.{constant_set, has_time, symbolic_cut, symbolic_cuts_at}
 use Rattle.sym_step.specs.declared.cut.Cut.{Cut}
 use Rattle.sym_step.specs.Step.{IsCutBy, rails_at}
-use Rattle.ste_engine.specs.declared.failing.Failure.{Failure}
-use Rattle.ste_engine.specs.declared.failing.Failure.TheVariants.{Strong, Weak}
-use Rattle.ste_engine.specs.private.Places.{FailsBy, constant_ref, fails, first_failing, fixed_quint, is_true, misses}
-use Rattle.ste_engine.proofs.Constants.{constant_is}
-use Rattle.ste_engine.proofs.FixedTasks.{const_value}
+use Rattle.engine_parts.specs.declared.failing.Failure.{Failure}
+use Rattle.engine_parts.specs.declared.failing.Failure.TheVariants.{Strong, Weak}
+use Rattle.engine_parts.specs.Failing.{FailsBy, constant_ref, fails, first_failing, fixed_quint, is_true, misses}
+use Rattle.engine_parts.proofs.Constants.{constant_is}
+use Rattle.engine_parts.proofs.Constants.{const_value}
 
 -- ---- one consequent
 

@@ -2,7 +2,7 @@
 
 ghost use Rattle.std.specs.Prelude.{◌≡◌, ◌<◌, All, length};
 ghost use Rattle.sym_step.specs.private.Frames.{nets_of};
-ghost use Rattle.ste_engine.specs.private.Places.{fails, first_failing};
+ghost use Rattle.engine_parts.specs.Failing.{constant_ref, fails, first_failing};
 
 use dd_nodes::Ref;
 use dual_rail::Rails;
@@ -10,10 +10,17 @@ use ste_base::NodeId;
 use sym_step::{Cut, Frame};
 
 /// How a consequent fails: its net can only have the opposite bit, or can have both.
-#[derive(Clone, Copy, Debug, PartialEq, Eq, Drop)]
+#[derive(Clone, Copy, PartialEq, Eq, Drop)]
 pub enum Failure {
     Strong,
     Weak,
+}
+
+/// The constant of a bit.
+pub fn constant(bit: bool) -> Ref
+    ensures { result ≡ constant_ref bit }
+{
+    if bit { Ref::TRUE } else { Ref::FALSE }
 }
 
 /// Whether a consequent fails so on a set of its net.

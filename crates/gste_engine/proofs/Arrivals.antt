@@ -11,8 +11,8 @@ use Rattle.net_core.specs.declared.raw.Latch.{Latch}
 use Rattle.net_core.specs.declared.raw.RawNet.{RawNet}
 use Rattle.net_core.specs.Sets.{first_set}
 use Rattle.net_core.specs.Work.{SymbolicSet}
-use Rattle.ste_engine.proofs.Times.{firsts_are}
-use Rattle.ste_engine.specs.private.Turns.{first_rails}
+use Rattle.engine_parts.proofs.FirstSets.{firsts_are}
+use Rattle.engine_parts.specs.Latches.{first_rails}
 use Rattle.ste_model.specs.declared.task.Edge.{Edge}
 use Rattle.ste_model.specs.declared.task.Graph.{Graph}
 use Rattle.ste_model.specs.GraphWork.{SymbolicState, start_state}

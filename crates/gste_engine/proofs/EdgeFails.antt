@@ -31,11 +31,11 @@ use Rattle.ste_model.specs.Work.{constant_set, symbolic_cuts_at}
 use Rattle.ste_model.proofs.SumsAt.{empty_is}
 use Rattle.sym_step.specs.declared.made.Step.{Step}
 use Rattle.sym_step.specs.Step.{IsCutBy, IsStep, rails_at}
-use Rattle.ste_engine.specs.declared.failing.Failure.{Failure}
-use Rattle.ste_engine.specs.private.Places.{FailsBy, constant_ref, first_failing, fixed_quint}
-use Rattle.ste_engine.proofs.Constants.{bit_means, constant_is}
-use Rattle.ste_engine.proofs.FirstFails.{IsTold, first_is}
-use Rattle.ste_engine.proofs.FixedTasks.{const_value}
+use Rattle.engine_parts.specs.declared.failing.Failure.{Failure}
+use Rattle.engine_parts.specs.Failing.{FailsBy, constant_ref, first_failing, fixed_quint}
+use Rattle.engine_parts.proofs.Constants.{bit_means, constant_is}
+use Rattle.engine_parts.proofs.FirstFails.{IsTold, first_is}
+use Rattle.engine_parts.proofs.Constants.{const_value}
 use Rattle.gste_engine.specs.declared.state.State.{State}
 use Rattle.gste_engine.specs.declared.taken.Taken.{Taken}
 use Rattle.gste_engine.specs.Tables.{IsState}

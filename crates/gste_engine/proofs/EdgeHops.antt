@@ -8,8 +8,8 @@ use Rattle.dd_nodes.specs.Stores.{Store}
 use Rattle.dd_nodes.proofs.Stores.{IsGood}
 use Rattle.graph_path.specs.declared.hop.Hop.{Hop}
 use Rattle.net_core.specs.declared.raw.RawNet.{RawNet}
-use Rattle.ste_engine.specs.declared.failing.Failure.{Failure}
-use Rattle.ste_engine.specs.private.Places.{FailsBy, MakesNothing}
+use Rattle.engine_parts.specs.declared.failing.Failure.{Failure}
+use Rattle.engine_parts.specs.Failing.{FailsBy, MakesNothing}
 use Rattle.ste_model.specs.declared.task.Edge.{Edge}
 use Rattle.ste_model.specs.Edges.{bind_cuts}
 use Rattle.ste_model.specs.GraphFound.{FailsOn}

@@ -20,7 +20,7 @@ use Rattle.sym_step.specs.declared.cut.Cut.{Cut}
 use Rattle.sym_step.specs.Step.{IsCutBy, IsCutOf}
 use Rattle.sym_step.proofs.Cutting.{SymbolicCut-keeps}
 use Rattle.sym_step.proofs.Whole.{sets_exist}
-use Rattle.ste_engine.proofs.Found.{within_both}
+use Rattle.engine_parts.proofs.Opposites.{within_both}
 use Rattle.ste_model.specs.declared.task.Edge.{Edge}
 use Rattle.ste_model.specs.GraphWork.{SymbolicState, edge_work, feasible_where, found_work, strong_on, symbolic_asked_on, symbolic_binds, weak_on}
 use Rattle.gste_engine.specs.declared.edge.EdgeFound.{EdgeFound}

@@ -9,9 +9,9 @@ use Rattle.net_core.specs.declared.raw.RawNet.{RawNet}
 use Rattle.net_core.specs.Run.{Cut as AskedCut}
 use Rattle.net_core.specs.Sets.{IsIn, neither}
 use Rattle.ste_base.specs.declared.id.NodeId.{NodeId}
-use Rattle.ste_engine.specs.declared.failing.Failure.{Failure}
-use Rattle.ste_engine.specs.declared.failing.Failure.TheVariants as failure
-use Rattle.ste_engine.specs.private.Places.{FailsBy}
+use Rattle.engine_parts.specs.declared.failing.Failure.{Failure}
+use Rattle.engine_parts.specs.declared.failing.Failure.TheVariants as failure
+use Rattle.engine_parts.specs.Failing.{FailsBy}
 use Rattle.ste_model.specs.declared.run.Run.{Run}
 use Rattle.ste_model.specs.declared.task.Edge.{Edge}
 use Rattle.ste_model.specs.declared.task.Graph.{Graph}

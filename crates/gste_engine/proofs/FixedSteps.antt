@@ -24,10 +24,10 @@ use Rattle.ste_model.specs.Work.{constant_set}
 use Rattle.sym_step.specs.declared.cut.Cut.{Cut}
 use Rattle.sym_step.specs.declared.made.Step.{Step}
 use Rattle.sym_step.specs.Step.{IsCutBy, IsCutOf, IsStep}
-use Rattle.ste_engine.specs.private.Places.{MakesNothing}
-use Rattle.ste_engine.proofs.Constants.{AreConstantCuts, AreConstantSets, IsConstantFamily, bit_means, never_out, nothing_made, of_bit, of_time, set_of_bits}
-use Rattle.ste_engine.proofs.PlaceTurns.{nothing_done, nothing_more}
-use Rattle.ste_engine.proofs.Times.{zip_refs}
+use Rattle.engine_parts.specs.Failing.{MakesNothing}
+use Rattle.engine_parts.proofs.Constants.{AreConstantCuts, AreConstantSets, IsConstantFamily, bit_means, never_out, nothing_made, of_bit, of_time, set_of_bits}
+use Rattle.engine_parts.proofs.Nothing.{nothing_done, nothing_more}
+use Rattle.engine_parts.proofs.FirstSets.{zip_refs}
 use Rattle.gste_engine.specs.private.Taken.{IsStepOn, fixed_bind, fixed_rails}
 
 -- ---- what is given

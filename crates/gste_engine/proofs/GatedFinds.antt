@@ -18,8 +18,8 @@ use Rattle.dual_rail.proofs.Works.{Rails-keep, SoFar, Within, behind, here, own_
 use Rattle.sym_step.specs.declared.cut.Cut.{Cut}
 use Rattle.sym_step.specs.Step.{IsCutBy}
 use Rattle.sym_step.proofs.Cutting.{SymbolicCut-keeps, demand_at, demands_long}
-use Rattle.ste_engine.specs.private.Finds.{both_except_work, opposite_except_work, refutes_work}
-use Rattle.ste_engine.proofs.Found.{within_both, within_none}
+use Rattle.engine_parts.specs.Refuting.{both_except_work, opposite_except_work, refutes_work}
+use Rattle.engine_parts.proofs.Opposites.{within_both, within_none}
 use Rattle.ste_model.specs.Work.{both_bits, consequent_work, consequents_work, found_strong, found_weak, only_one, only_zero, refutes, strong_findings, weak_findings}
 use Rattle.gste_engine.specs.declared.found.Findings.{Findings}
 use Rattle.gste_engine.specs.private.EdgeFinds.{AreFindings, AreFindingsRefs, gated_add_work, gated_by, gated_find_work, gated_finding, gated_finds_work, gated_strong_work, gated_weak_work, more_gated_strong, more_gated_weak}

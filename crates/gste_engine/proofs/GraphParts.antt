@@ -9,8 +9,8 @@ use Rattle.dd_nodes.specs.Stores.{Store, Means}
 use Rattle.dd_nodes.proofs.Members.{Contains-cons_cases, Contains-none}
 use Rattle.net_core.specs.declared.raw.RawNet.{RawNet}
 use Rattle.net_core.specs.Work.{SymbolicSet, negation, sum, sums}
-use Rattle.ste_engine.specs.declared.results.Results.{Results}
-use Rattle.ste_engine.proofs.Found.{within_both}
+use Rattle.engine_parts.specs.declared.results.Results.{Results}
+use Rattle.engine_parts.proofs.Opposites.{within_both}
 use Rattle.ste_model.specs.declared.task.Edge.{Edge}
 use Rattle.ste_model.specs.declared.task.Graph.{Graph}
 use Rattle.ste_model.specs.GraphNeed.{bind_functions, edge_functions, graph_kept_functions, is_somewhere}

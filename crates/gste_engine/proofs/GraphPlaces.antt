@@ -12,9 +12,9 @@ use Rattle.net_core.specs.declared.raw.RawNet.{RawNet}
 use Rattle.net_core.specs.Run.{Cut as AskedCut, IsSettled}
 use Rattle.net_core.specs.Work.{set_at}
 use Rattle.ste_base.specs.declared.id.NodeId.{NodeId}
-use Rattle.ste_engine.specs.declared.failing.Failure.{Failure}
-use Rattle.ste_engine.specs.declared.failing.Failure.TheVariants.{Strong, Weak}
-use Rattle.ste_engine.specs.private.Places.{FailsBy, MakesNothing}
+use Rattle.engine_parts.specs.declared.failing.Failure.{Failure}
+use Rattle.engine_parts.specs.declared.failing.Failure.TheVariants.{Strong, Weak}
+use Rattle.engine_parts.specs.Failing.{FailsBy, MakesNothing}
 use Rattle.ste_model.specs.declared.task.Edge.{Edge}
 use Rattle.ste_model.specs.declared.task.Graph.{Graph}
 use Rattle.ste_model.specs.Edges.{AreNumbers, IsGraph}

@@ -11,7 +11,7 @@ use Rattle.dd_nodes.proofs.Stores.{IsGood}
 use Rattle.net_core.specs.declared.raw.RawNet.{RawNet}
 use Rattle.net_core.specs.Run.{IsSettled}
 use Rattle.net_core.specs.Work.{SymbolicSet}
-use Rattle.ste_engine.specs.declared.results.Results.{Results}
+use Rattle.engine_parts.specs.declared.results.Results.{Results}
 use Rattle.ste_model.specs.declared.task.Edge.{Edge}
 use Rattle.ste_model.specs.declared.task.Graph.{Graph}
 use Rattle.ste_model.specs.Assignments.{Tells}

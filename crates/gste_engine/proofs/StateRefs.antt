@@ -6,7 +6,7 @@ use Rattle.dd_nodes.proofs.Spending.{own}
 use Rattle.dd_nodes.proofs.Stores.{IsGood, Means-keeps}
 use Rattle.dd_nodes.proofs.Walks.{IsFrom-grows}
 use Rattle.net_core.specs.declared.raw.RawNet.{RawNet}
-use Rattle.ste_engine.proofs.Times.{zip_refs}
+use Rattle.engine_parts.proofs.FirstSets.{zip_refs}
 use Rattle.ste_model.specs.GraphWork.{SymbolicState}
 use Rattle.dual_rail.specs.Rail.{AreRails}
 use Rattle.dual_rail.proofs.Turns.{All-refs-keep, Zip-keep, own_zip, zip_long}

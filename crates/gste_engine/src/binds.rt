@@ -11,8 +11,8 @@ ghost use Rattle.gste_engine.specs.private.Given.{bind_work};
 
 use dd_nodes::Nodes;
 use dd_ops::{OpFault, Ops};
+use engine_parts::build;
 use std::alloc::Global;
-use ste_engine::shared::build;
 use ste_model::Bind;
 use sym_step::Cut;
 

@@ -28,7 +28,7 @@ use sym_step::{Frame, GateRows, renew};
 
 /// What one edge gives on a table: a frame of its time step, which has the sets of all nets, where it is feasible, and
 /// the sets of the latch inputs where it is, with no bit elsewhere.
-#[derive(Debug, Drop)]
+#[derive(Drop)]
 pub struct EdgeFound {
     pub frame: Frame,
     pub feasible: Ref,

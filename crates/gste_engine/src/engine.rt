@@ -18,9 +18,9 @@ use crate::judged::judge;
 use crate::reports::report_of;
 use dd_nodes::Nodes;
 use dd_ops::OpFault;
+use engine_parts::budget_report;
 use net_core::Net;
 use std::alloc::{AllocError, Global};
-use ste_engine::shared::budget_report;
 use ste_model::{Graph, Report};
 use sym_step::GateRows;
 

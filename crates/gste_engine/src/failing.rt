@@ -2,7 +2,7 @@
 
 ghost use Rattle.std.specs.Prelude.{◌≡◌, ◌<◌, IfOk, length, map};
 ghost use Rattle.sym_step.specs.Step.{rows_of};
-ghost use Rattle.ste_engine.specs.private.Places.{FailsBy, MakesNothing};
+ghost use Rattle.engine_parts.specs.Failing.{FailsBy, MakesNothing};
 ghost use Rattle.ste_model.specs.GraphFound.{IsGraphFound};
 ghost use Rattle.ste_model.specs.GraphReport.{IsGraphPlace};
 ghost use Rattle.ste_model.specs.GraphShown.{IsShownPath};
@@ -13,11 +13,11 @@ use crate::hops::hops_of;
 use crate::state::State;
 use crate::taken::taken_on;
 use dd_nodes::Nodes;
+use engine_parts::Failure;
 use graph_path::path_of;
 use net_core::{Net, settles};
 use std::alloc::{AllocError, Global};
 use ste_base::{Items, NodeId, Time};
-use ste_engine::shared::Failure;
 use ste_model::Graph;
 use sym_step::{Frame, GateRows};
 

@@ -13,11 +13,11 @@ ghost use Rattle.gste_engine.specs.private.EdgeFinds.{AreFindings, AreFindingsRe
 use dd_nodes::{Nodes, Ref};
 use dd_ops::{OpFault, Ops};
 use dual_rail::{Rails, both, either};
-use ste_engine::shared::refuted;
+use engine_parts::refuted;
 use sym_step::Cut;
 
 /// Where some consequent so far is found strong, where one is found weak, and where an edge is feasible.
-#[derive(Clone, Copy, Debug, PartialEq, Eq, Drop)]
+#[derive(Clone, Copy, PartialEq, Eq, Drop)]
 pub struct Findings {
     pub strong: Ref,
     pub weak: Ref,

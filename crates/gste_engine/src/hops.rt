@@ -3,7 +3,7 @@
 ghost use Rattle.std.specs.Prelude.{◌≡◌, ◌<◌, ℕ, All, IfOk, OnOk, length, map};
 ghost use Rattle.sym_step.specs.Step.{rows_of};
 ghost use Rattle.sym_step.specs.private.Frames.{IsFrame};
-ghost use Rattle.ste_engine.specs.private.Places.{FailsBy, MakesNothing};
+ghost use Rattle.engine_parts.specs.Failing.{FailsBy, MakesNothing};
 ghost use Rattle.ste_model.specs.GraphHops.{AreEdgeHops, IsEdgeHop};
 ghost use Rattle.ste_model.specs.GraphWork.{SymbolicState};
 ghost use Rattle.gste_engine.specs.Tables.{AreConsequentsOver, AreStateRefs, HasStates, IsGraphOver, IsState};
@@ -12,10 +12,10 @@ ghost use Rattle.gste_engine.specs.private.Taken.{table_at};
 use crate::state::State;
 use crate::taken::taken_on;
 use dd_nodes::Nodes;
+use engine_parts::Failure;
 use graph_path::Hop;
 use net_core::Net;
 use std::alloc::{AllocError, Global};
-use ste_engine::shared::Failure;
 use ste_model::{Edge, Graph};
 use sym_step::{Frame, GateRows};
 

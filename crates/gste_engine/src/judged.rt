@@ -26,15 +26,15 @@ use crate::state::State;
 use dd_nodes::{Nodes, Ref};
 use dd_ops::{OpFault, Ops};
 use dual_rail::Rails;
+use engine_parts::{Results, but_not};
 use net_core::{Net, settles};
 use std::alloc::Global;
 use ste_base::Items;
-use ste_engine::shared::{Results, but_not};
 use ste_model::{Edge, Graph};
 use sym_step::{Cut, Frame, GateRows};
 
 /// The table of the round that settles, and the strong, the weak and the contradictory assignments on it.
-#[derive(Debug, Drop)]
+#[derive(Drop)]
 pub struct Judged {
     pub table: Items<State>,
     pub results: Results,

@@ -7,7 +7,7 @@ use std::alloc::{AllocError, Global};
 use ste_model::Edge;
 
 /// An end of an edge.
-#[derive(Clone, Copy, Debug, PartialEq, Eq, Drop)]
+#[derive(Clone, Copy, PartialEq, Eq, Drop)]
 pub enum End {
     From,
     To,
@@ -25,7 +25,7 @@ fn vertex_at(edge: &Edge, end: End) -> usize
 
 /// For each vertex the first edge that has it at one end, and for each edge the next one with the same vertex there. The
 /// number of edges stands for none.
-#[derive(Debug, Drop)]
+#[derive(Drop)]
 pub struct Links {
     pub first: Vec<usize>,
     pub next: Vec<usize>,

@@ -3,8 +3,8 @@
 ghost use Rattle.std.specs.Prelude.{◌≡◌, IfOk, map};
 ghost use Rattle.net_core.specs.declared.raw.RawNet.{RawNet};
 ghost use Rattle.sym_step.specs.Step.{rows_of};
-ghost use Rattle.ste_engine.specs.private.Finds.{AreResultRefs};
-ghost use Rattle.ste_engine.specs.private.Places.{MakesNothing};
+ghost use Rattle.engine_parts.specs.Reporting.{AreResultRefs};
+ghost use Rattle.engine_parts.specs.Failing.{MakesNothing};
 ghost use Rattle.ste_model.specs.declared.task.Graph.{Graph as AGraph};
 ghost use Rattle.ste_model.specs.GraphFound.{IsGraphVerdict};
 ghost use Rattle.ste_model.specs.GraphReport.{IsGraphReportOf};
@@ -15,10 +15,10 @@ use crate::shown::shown_of;
 use crate::state::State;
 use dd_nodes::Nodes;
 use dd_ops::Ops;
+use engine_parts::{Results, guards_of};
 use net_core::Net;
 use std::alloc::{AllocError, Global};
 use ste_base::Name;
-use ste_engine::shared::{Results, guards_of};
 use ste_model::{Graph, Report, Verdict};
 use sym_step::GateRows;
 

@@ -3,7 +3,7 @@
 ghost use Rattle.std.specs.Prelude.{◌≡◌, ◌<◌, IfOk, Some, length, map};
 ghost use Rattle.dd_nodes.specs.Stores.{IsRef, function};
 ghost use Rattle.sym_step.specs.Step.{rows_of};
-ghost use Rattle.ste_engine.specs.private.Places.{FailsBy, MakesNothing};
+ghost use Rattle.engine_parts.specs.Failing.{FailsBy, MakesNothing};
 ghost use Rattle.ste_model.specs.declared.task.Task.TheVariants.{Gste};
 ghost use Rattle.ste_model.specs.Assignments.{SomeAssignment, Tells};
 ghost use Rattle.ste_model.specs.Found.{FailsStrongly};
@@ -21,15 +21,15 @@ use crate::state::State;
 use counter_run::graph_run;
 use dd_nodes::{Nodes, Ref};
 use dd_query::least;
+use engine_parts::{Failure, Results};
 use net_core::Net;
 use std::alloc::{AllocError, Global};
 use ste_base::{Items, NodeId, Time};
-use ste_engine::shared::{Failure, Results};
 use ste_model::{Graph, Run, Verdict, are_edges_free};
 use sym_step::GateRows;
 
 /// The least assignment that is strong, or weak, and under it the path and the failing place.
-#[derive(Debug, Drop)]
+#[derive(Drop)]
 struct LeastFailure {
     bits: Items<bool>,
     path: Items<u32>,
@@ -38,7 +38,7 @@ struct LeastFailure {
 
 /// What a failure shows: the least assignment, and under it the path by the numbers of its edges, the failing place, and the
 /// run where one is due. Where there is no failure the path is empty and all else is None.
-#[derive(Debug, Drop)]
+#[derive(Drop)]
 pub struct Shown {
     pub least: Option<Items<bool>>,
     pub path: Items<u32>,

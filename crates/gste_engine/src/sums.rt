@@ -17,10 +17,10 @@ use crate::state::State;
 use dd_nodes::{Nodes, Ref};
 use dd_ops::{OpFault, Ops};
 use dual_rail::{Rails, either, join};
+use engine_parts::first_sets;
 use net_core::Net;
 use std::alloc::{AllocError, Global};
 use ste_base::Items;
-use ste_engine::shared::first_sets;
 use ste_model::Graph;
 
 /// No bit for any latch.

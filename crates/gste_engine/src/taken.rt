@@ -4,7 +4,7 @@ ghost use Rattle.std.specs.Prelude.{◌≡◌, ◌<◌, ℕ, All, IfOk, OnOk, le
 ghost use Rattle.dual_rail.specs.Rail.{AreRefs, set_of};
 ghost use Rattle.sym_step.specs.Step.{rows_of};
 ghost use Rattle.sym_step.specs.private.Frames.{IsFrame};
-ghost use Rattle.ste_engine.specs.private.Places.{MakesNothing};
+ghost use Rattle.engine_parts.specs.Failing.{MakesNothing};
 ghost use Rattle.ste_model.specs.GraphWork.{SymbolicState};
 ghost use Rattle.gste_engine.specs.Tables.{AreStateRefs, IsState};
 ghost use Rattle.gste_engine.specs.private.Taken.{IsStepOn, IsTaken, fixed_bind, fixed_rails, table_at};
@@ -15,15 +15,15 @@ use dd_nodes::{Nodes, Ref};
 use dd_ops::{OpFault, Ops};
 use dd_query::eval;
 use dual_rail::Rails;
+use engine_parts::{Failure, constant, first_failing};
 use net_core::{Net, settles};
 use std::alloc::{AllocError, Global};
 use ste_base::NodeId;
-use ste_engine::shared::{Failure, constant, first_failing};
 use ste_model::{Bind, Edge};
 use sym_step::{Cut, Frame, GateRows, Step, advance};
 
 /// What is known of an edge under an assignment: whether it is feasible, and the net of its first consequent that fails.
-#[derive(Clone, Copy, Debug, PartialEq, Eq, Drop)]
+#[derive(Clone, Copy, PartialEq, Eq, Drop)]
 pub struct Taken {
     pub feasible: bool,
     pub first: Option<NodeId>,

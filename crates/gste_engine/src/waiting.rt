@@ -6,7 +6,7 @@ ghost use Rattle.gste_engine.specs.private.Waiting.{IsWaiting, IsWithVertex};
 use std::alloc::AllocError;
 
 /// Vertices, in the order in which they came, with a flag for each vertex that is among them.
-#[derive(Debug, Drop)]
+#[derive(Drop)]
 pub struct Waiting {
     pub flags: Vec<bool>,
     pub list: Vec<usize>,

@@ -24,11 +24,11 @@ use Rattle.ste_model.specs.Need.{IsWholeTable}
 use Rattle.ste_model.specs.Work.{constant_set, found_strong, found_weak, has_time, over_times, symbolic_cut, symbolic_cuts_at}
 use Rattle.sym_step.specs.declared.cut.Cut.{Cut}
 use Rattle.sym_step.specs.Step.{IsCutBy, rails_at}
-use Rattle.ste_engine.specs.declared.failing.Failure.{Failure}
-use Rattle.ste_engine.specs.declared.failing.Failure.TheVariants.{Strong, Weak}
+use Rattle.engine_parts.specs.declared.failing.Failure.{Failure}
+use Rattle.engine_parts.specs.declared.failing.Failure.TheVariants.{Strong, Weak}
 use Rattle.ste_engine.specs.private.Firsts.{IsFirstAt, IsFirstPlace, are_fixed, first_at, is_first, is_fixed, place_or}
-use Rattle.ste_engine.specs.private.Places.{FailsBy, fails, first_failing, misses}
-use Rattle.ste_engine.proofs.FirstFails.{IsTold, and_true, by_bits, not_here, test_is, told_behind, told_here}
+use Rattle.engine_parts.specs.Failing.{FailsBy, fails, first_failing, misses}
+use Rattle.engine_parts.proofs.FirstFails.{IsTold, and_true, by_bits, not_here, test_is, told_behind, told_here}
 use Rattle.ste_engine.proofs.Times.{through_has}
 
 -- ---- constants

@@ -25,19 +25,11 @@ use Rattle.ste_model.specs.Table.{latch_sets}
 use Rattle.ste_model.specs.Work.{constant_set, has_time, latches_at, symbolic_cut, symbolic_cuts_at}
 use Rattle.ste_engine.specs.declared.asks.Ask.{Ask}
 use Rattle.ste_engine.specs.private.Asks.{AreAsks}
-use Rattle.ste_engine.specs.private.Places.{constant_ref, fixed_asks, fixed_quint, fixed_task}
-use Rattle.ste_engine.proofs.Constants.{AreConstantCuts, AreConstantSets, IsConstant, IsConstantFamily, bit_means, set_of_bits}
+use Rattle.engine_parts.specs.Failing.{constant_ref, fixed_quint}
+use Rattle.ste_engine.specs.private.Places.{fixed_asks, fixed_task}
+use Rattle.engine_parts.proofs.Constants.{AreConstantCuts, AreConstantSets, IsConstantFamily, const_is, const_means, const_value, set_of_bits}
 
 -- ---- what is asked
-
-pub const_value : (b : Bool) (bits : List Bool) → value_of (Const b) bits ≡ b
-const_value b bits = ap (λ (e : Expr). value_of e bits) (sym (rolls-Const b)) ∙ fold-roll-Expr Bool (value_step bits) _
-
-const_is : (b : Bool) → IsConstant (value_of (Const b))
-const_is b = record { value = b; is = const_value b }
-
-const_means : (s : Store) (b : Bool) → IsGood s → Means s (value_of (Const b)) (constant_ref b)
-const_means s b d = Means-same s (λ bits. b) (value_of (Const b)) (constant_ref b) (λ bits l. sym (const_value b bits)) (bit_means s b d)
 
 module _ (bits : List Bool) where
   fixed_cut : (other : List Bool) (t : ℕ) (q : Quint) → quint_at other t (fixed_quint bits q) ≡ quint_at bits t q

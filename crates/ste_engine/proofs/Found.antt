@@ -18,50 +18,12 @@ use Rattle.sym_step.specs.declared.cut.Cut.{Cut}
 use Rattle.sym_step.specs.Step.{IsCutBy, rails_at}
 use Rattle.sym_step.proofs.Cutting.{SymbolicCut-keeps, demand_at, demands_long}
 use Rattle.ste_model.specs.Work.{both_bits, consequent_work, consequents_work, found_strong, found_weak, only_one, only_zero, refutes, strong_findings, weak_findings}
+use Rattle.engine_parts.proofs.Opposites.{within_both, within_none}
 use Rattle.ste_engine.specs.declared.results.Found.{Found}
-use Rattle.ste_engine.specs.private.Finds.{AreFound, add_work, both_except_work, except, find_work, found_work, more_strong, more_weak, opposite_except_work, refutes_work, strong_work, weak_work}
+use Rattle.engine_parts.specs.Refuting.{both_except_work, except, opposite_except_work, refutes_work}
+use Rattle.ste_engine.specs.private.Finds.{AreFound, add_work, find_work, found_work, more_strong, more_weak, strong_work, weak_work}
 
 -- ---- parts of the work
-
--- what is among two lists is among what has both
-pub within_both : (one other work : List Function) → Within one work → Within other work → Within (one ++ other) work
-within_both one other work a b f h = ⊎_elim (λ (y : Contains one f). a f y) (λ (y : Contains other f). b f y) (Contains-append_cases one other f h)
-
-pub within_none : (work : List Function) → Within [] work
-within_none work f (k, lt, e) = absurd (omega arith)
-
-module _ (w : SymbolicSet) (x : Function) where
-  abbrev low_work : List Function
-  low_work = both_except_work x w.zero w.one
-
-  abbrev high_work : List Function
-  high_work = opposite_except_work x w.one w.zero
-
-  pub low_in : Within low_work (refutes_work w x)
-  low_in f h = Contains-append_left low_work (high_work ++ refutes w x ∷ []) f h
-
-  pub high_in : Within high_work (refutes_work w x)
-  high_in f h = Contains-append_right low_work (high_work ++ refutes w x ∷ []) f (Contains-append_left high_work (refutes w x ∷ []) f h)
-
-  pub refutes_in : Contains (refutes_work w x) (refutes w x)
-  refutes_in = Contains-append_right low_work (high_work ++ refutes w x ∷ []) (refutes w x) (Contains-append_right high_work (refutes w x ∷ []) (refutes w x) (0, omega arith, refl))
-
--- a set that has 1 just where the value is 1 is nowhere the opposite of it
-nowhere : (z x : Bool) → ((x && (z && not x)) || (not x && (x && not z))) ≡ false
-nowhere true true = refl
-nowhere true false = refl
-nowhere false true = refl
-nowhere false false = refl
-
-pub none_refuted : (s : Store) (r : Rails) (value : Ref) (w : SymbolicSet) (x : Function) → IsGood s → r.can1.0 ≡ value.0 → AreRails s w r → Means s x value → Means s (refutes w x) (record { 0 = 0 })
-none_refuted s r value w x gs e mw mx =
-    let zero = zero_means s gs in
-    record {
-      ref = zero.ref;
-      value = λ bits l.
-          let one : w.one bits ≡ x bits = sym (mw.one.value bits l) ∙ (ap (λ (n : ℕ). function s (record { 0 = n }) bits) e ∙ mx.value bits l) in
-          zero.value bits l ∙ sym (ap (λ (o : Bool). (x bits && (w.zero bits && not o)) || (not (x bits) && (o && not (w.zero bits)))) one ∙ nowhere (w.zero bits) (x bits));
-    }
 
 -- all but the two sums is among the functions for the consequent
 module _ (f h : Function) (w : SymbolicSet) (g x : Function) (work : List Function) (strong : Contains work (disjunction f (found_strong w g x))) (weak : Contains work (disjunction h (found_weak w g x))) (rest : Within (consequent_work w g x) work) where
@@ -91,21 +53,6 @@ module _ (f h : Function) (w : SymbolicSet) (g x : Function) (work : List Functi
       (within_more (disjunction h (found_weak w g x)) [] work weak (within_none work))))
 
 -- ---- what is left of a call, by the references' own functions
-
-pub refuted_one_left : (s t : Store) (value one other : Ref) (result : Result Ref OpFault) → IsRef s value → IsRef s one → IsRef s other
-    → ((x f h : Function) → Means s x value → Means s f one → Means s h other → Built (both_except_work x f h) (HasFunction (conjunction x (except f h))) s t result)
-    → Built (both_except_work (function s value) (function s one) (function s other)) (HasFunction (conjunction (function s value) (except (function s one) (function s other)))) s t result
-refuted_one_left s t value one other result a b d call = call (function s value) (function s one) (function s other) (own s value a) (own s one b) (own s other d)
-
-pub refuted_zero_left : (s t : Store) (value one other : Ref) (result : Result Ref OpFault) → IsRef s value → IsRef s one → IsRef s other
-    → ((x f h : Function) → Means s x value → Means s f one → Means s h other → Built (opposite_except_work x f h) (HasFunction (conjunction (negation x) (except f h))) s t result)
-    → Built (opposite_except_work (function s value) (function s one) (function s other)) (HasFunction (conjunction (negation (function s value)) (except (function s one) (function s other)))) s t result
-refuted_zero_left s t value one other result a b d call = call (function s value) (function s one) (function s other) (own s value a) (own s one b) (own s other d)
-
-pub refuted_left : (s t : Store) (r : Rails) (value : Ref) (result : Result Ref OpFault) → AreRefs s r → IsRef s value
-    → ((w : SymbolicSet) (x : Function) → AreRails s w r → Means s x value → Built (refutes_work w x) (HasFunction (refutes w x)) s t result)
-    → Built (refutes_work (set_where s r) (function s value)) (HasFunction (refutes (set_where s r) (function s value))) s t result
-refuted_left s t r value result a b call = call (set_where s r) (function s value) (own_set s r a) (own s value b)
 
 pub strong_left : (s t : Store) (sum : Ref) (r : Rails) (c : Cut) (result : Result Ref OpFault) → IsRef s sum → AreRefs s r → IsRef s c.guard → IsRef s c.value
     → ((f : Function) (w : SymbolicSet) (h x : Function) → Means s f sum → AreRails s w r → Means s h c.guard → Means s x c.value → Built (strong_work f w h x) (HasFunction (disjunction f (found_strong w h x))) s t result)

@@ -1,8 +1,5 @@
 pub mod Asked
-pub mod Constants
-pub mod Exprs
 pub mod Family
-pub mod FirstFails
 pub mod FirstPlaces
 pub mod FixedTasks
 pub mod Found
@@ -10,7 +7,7 @@ pub mod Kept
 pub mod Lines
 pub mod Merged
 pub mod PlaceTurns
+pub mod Short
 pub mod Shows
 pub mod Times
 pub mod Turned
-pub mod Verdicts

@@ -28,23 +28,13 @@ use Rattle.sym_step.specs.declared.frame.Frame.{Frame}
 use Rattle.sym_step.specs.declared.made.Step.{Step}
 use Rattle.sym_step.specs.private.Frames.{step_of}
 use Rattle.sym_step.specs.Step.{IsCutBy, IsStep}
-use Rattle.ste_engine.specs.declared.failing.Failure.{Failure}
-use Rattle.ste_engine.specs.private.Places.{FailsBy, MakesNothing, fixed_task}
-use Rattle.ste_engine.proofs.Constants.{never_out, nothing_made, of_time}
+use Rattle.engine_parts.specs.declared.failing.Failure.{Failure}
+use Rattle.engine_parts.specs.Failing.{FailsBy, MakesNothing}
+use Rattle.ste_engine.specs.private.Places.{fixed_task}
+use Rattle.engine_parts.proofs.Constants.{never_out, nothing_made, of_time}
 use Rattle.ste_engine.proofs.Family.{family_at}
-use Rattle.ste_engine.proofs.FirstFails.{IsFirstFail}
+use Rattle.engine_parts.proofs.FirstFails.{IsFirstFail}
 use Rattle.ste_engine.proofs.FixedTasks.{constant_cuts, constant_family, constant_latches, constant_table, fixed_depth, fixed_whole}
-
--- ---- nothing is made
-
-pub nothing_yet : (s : Store) → MakesNothing s s
-nothing_yet s = record { keeps = record { grows = λ r n h. h; vars = refl; table = refl }; limit = refl; made = refl }
-
-pub nothing_more : (s t u : Store) → MakesNothing s t → MakesNothing t u → MakesNothing s u
-nothing_more s t u a b = record { keeps = Keeps-trans s t u a.keeps b.keeps; limit = b.limit ∙ a.limit; made = b.made ∙ a.made }
-
-pub nothing_done : (s t : Store) → t ≡ s → MakesNothing s t
-nothing_done s t same = subst (λ (x : Store). MakesNothing s x) (sym same) (nothing_yet s)
 
 -- ---- the times of an assertion under an assignment
 
@@ -117,12 +107,3 @@ module _ (net : RawNet) (task : Assertion) (bits : List Bool) (failure : Failure
 pub not_some : (o : Option NodeId) → ((node : NodeId) → o ≡ Some node → ⊥) → o ≡ None
 not_some None never = refl
 not_some (Some node) never = absurd (never node refl)
-
--- a call that makes nothing may stand behind any that builds
-pub spends_same : (fs : List Function) (s t u : Store) (none : Type 0) → IsGood t → IsGood u → Spends fs s t none → MakesNothing t u → Spends fs s u ⊥
-spends_same fs s t u none gt gu b same = Spends-then fs s t u none ⊥ gt gu b (record {
-  keeps = same.keeps;
-  limit = same.limit;
-  builds = Builds-nothing (IsCofactorOf t.vars fs) t u same.made;
-  spent = λ out. absurd out;
-})

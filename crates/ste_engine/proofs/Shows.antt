@@ -20,10 +20,11 @@ use Rattle.ste_model.specs.Report.{IsDue, IsFailingPlace, IsPrintedUnder, IsShow
 use Rattle.ste_model.specs.Work.{contradictory_where, strong_where, weak_where}
 use Rattle.ste_model.proofs.Tables.{same_table}
 use Rattle.ste_model.proofs.Wheres.{results_are_findings}
-use Rattle.ste_engine.specs.declared.failing.Failure.{Failure}
-use Rattle.ste_engine.specs.declared.failing.Failure.TheVariants as failure
-use Rattle.ste_engine.specs.declared.results.Results.{Results}
-use Rattle.ste_engine.specs.private.Places.{FailsBy, IsFoundBy}
+use Rattle.engine_parts.specs.declared.failing.Failure.{Failure}
+use Rattle.engine_parts.specs.declared.failing.Failure.TheVariants as failure
+use Rattle.engine_parts.specs.declared.results.Results.{Results}
+use Rattle.engine_parts.specs.Failing.{FailsBy}
+use Rattle.ste_engine.specs.private.Places.{IsFoundBy}
 use Rattle.ste_engine.specs.private.Reports.{IsFailureOf, IsRunDue, TellFindings}
 use Rattle.ste_engine.specs.private.Turns.{AreResults}
 

@@ -26,7 +26,8 @@ use Rattle.sym_step.specs.declared.cut.Cut.{Cut}
 use Rattle.sym_step.specs.Step.{IsCutBy}
 use Rattle.ste_engine.specs.declared.turn.Turned.{Turned}
 use Rattle.ste_engine.specs.private.Finds.{AreFound, last_work}
-use Rattle.ste_engine.specs.private.Turns.{AreTurnedRefs, IsTurned, asked_by, first_rails, init_rails, turned_work}
+use Rattle.engine_parts.specs.Latches.{first_rails, init_rails}
+use Rattle.ste_engine.specs.private.Turns.{AreTurnedRefs, IsTurned, asked_by, turned_work}
 use Rattle.ste_engine.proofs.Family.{family_at}
 
 -- ---- lists for each time
@@ -57,20 +58,6 @@ module _ (F : ℕ → List Function) where
   sum_next : (n : ℕ) → sum (over_times F (n + 1)) ≡ whole disjunction (sum (over_times F n)) (F n)
   sum_next n = ap (λ k. sum (over_times F k)) (let e : n + 1 ≡ suc n = omega arith in e) ∙ whole_append disjunction never (over_times F n) (F n)
 
--- ---- the first sets
-first_is : (t : Store) (reset : Bool) (latch : Latch) → IsGood t → AreRails t (constant_set (first_set reset latch)) (first_rails reset latch)
-first_is t false latch d = record { zero = one_means t d; one = one_means t d }
-first_is t true latch d = by latch.init
-  where
-    by : (init : Init) → AreRails t (constant_set (init_set init)) (init_rails init)
-    by Zero = record { zero = one_means t d; one = zero_means t d }
-    by One = record { zero = zero_means t d; one = one_means t d }
-    by Free = record { zero = one_means t d; one = one_means t d }
-
-pub firsts_are : (t : Store) (reset : Bool) (latches : List Latch) → IsGood t → AllZip (AreRails t) (map (λ latch. constant_set (first_set reset latch)) latches) (map (first_rails reset) latches)
-firsts_are t reset [] d = tt
-firsts_are t reset (x ∷ xs) d = (first_is t reset x d, firsts_are t reset xs d)
-
 -- ---- what is reached behind the first n times
 abbrev pub empty_sum : RawNet → (ℕ → ℕ → SymbolicSet) → ℕ → Function
 empty_sum net table n = sum (over_times (λ t. some_empty net (table t) ∷ []) n)
@@ -87,12 +74,6 @@ pub record ReachedAt (net : RawNet) (task : Assertion) (table : ℕ → ℕ → 
   pub contradictory : Means t (empty_sum net table n) r.contradictory
   pub found : AreFound (strong_sum task table n) (weak_sum task table n) t r.found
   pub nets : (k id : ℕ) → k < n → id < net.nets → (rails : Rails) × AreRails t (table k id) rails
-
-pub zip_refs : (t : Store) (sets : List SymbolicSet) (rails : List Rails) → AllZip (AreRails t) sets rails → All (AreRefs t) rails
-zip_refs t [] [] h = All-nil (AreRefs t)
-zip_refs t [] (r ∷ rs) h = absurd h
-zip_refs t (w ∷ ws) [] h = absurd h
-zip_refs t (w ∷ ws) (r ∷ rs) h = All-cons (AreRefs t) r rs (refs_of t w r h.0) (zip_refs t ws rs h.1)
 
 -- what one time goes on with is held
 pub turned_refs : (net : RawNet) (task : Assertion) (table : ℕ → ℕ → SymbolicSet) (s t : Store) (n : ℕ) (held : List Rails) (r : Turned) → ReachedAt net task table s t n held r → AreTurnedRefs t r

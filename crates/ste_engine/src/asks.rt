@@ -6,16 +6,16 @@ ghost use Rattle.ste_model.specs.Need.{ReadBelow};
 ghost use Rattle.ste_model.specs.Work.{quints_work};
 ghost use Rattle.ste_engine.specs.private.Asks.{AreAsks, DoesRead, IsAsk, quint_work};
 
-use crate::expr::build;
 use dd_nodes::{Nodes, Ref};
 use dd_ops::{OpFault, Ops};
+use engine_parts::build;
 use std::alloc::Global;
 use ste_base::Time;
 use ste_model::Quint;
 use sym_step::Cut;
 
 /// What a quintuple asks, by references; from when on, and up to when; and its place in the text.
-#[derive(Clone, Copy, Debug, PartialEq, Eq, Drop)]
+#[derive(Clone, Copy, PartialEq, Eq, Drop)]
 pub struct Ask {
     pub cut: Cut,
     pub from: Time,

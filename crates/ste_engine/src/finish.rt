@@ -7,13 +7,14 @@ ghost use Rattle.net_core.specs.declared.raw.RawNet.{RawNet};
 ghost use Rattle.ste_model.specs.declared.task.Assertion.{Assertion};
 ghost use Rattle.ste_model.specs.Found.{IsVerdictOf};
 ghost use Rattle.dual_rail.specs.Rail.{Built};
-ghost use Rattle.ste_engine.specs.private.Finds.{AreFound, AreFoundRefs, AreLast, AreResultRefs, last_work};
+ghost use Rattle.engine_parts.specs.Reporting.{AreResultRefs};
+ghost use Rattle.ste_engine.specs.private.Finds.{AreFound, AreFoundRefs, AreLast, last_work};
 ghost use Rattle.ste_engine.specs.private.Reports.{TellFindings};
 
-use crate::find::but_not;
-use crate::results::{Found, Results};
+use crate::results::Found;
 use dd_nodes::{Nodes, Ref};
 use dd_ops::{OpFault, Ops};
+use engine_parts::{Results, but_not};
 use ste_model::Verdict;
 
 /// The strong, the weak and the contradictory assignments, from the sums over all times.

@@ -2,19 +2,19 @@
 
 ghost use Rattle.std.specs.Prelude.{◌≡◌, ◌<◌, ◌⊎◌, All, IfSome, None, Some, length};
 ghost use Rattle.sym_step.specs.private.Frames.{nets_of};
-ghost use Rattle.ste_engine.specs.declared.failing.Failure.TheVariants.{Strong, Weak};
+ghost use Rattle.engine_parts.specs.declared.failing.Failure.TheVariants.{Strong, Weak};
 ghost use Rattle.ste_engine.specs.private.Firsts.{IsFirstAt, are_fixed, first_at, is_fixed, place_or};
 
-use crate::failing::{Failure, first_failing_in};
 use crate::results::Found;
 use dd_nodes::Ref;
 use dual_rail::Rails;
+use engine_parts::{Failure, first_failing_in};
 use ste_base::{NodeId, Time};
 use sym_step::{Cut, Frame};
 
 /// For each way to fail the net of a consequent and the time step at which each assignment fails so first, where it is clear
 /// that there is such a place: all is constant there, and nothing was found before.
-#[derive(Clone, Copy, Debug, PartialEq, Eq, Drop)]
+#[derive(Clone, Copy, PartialEq, Eq, Drop)]
 pub struct Firsts {
     pub strong: Option<(NodeId, Time)>,
     pub weak: Option<(NodeId, Time)>,

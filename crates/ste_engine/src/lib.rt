@@ -4,8 +4,6 @@
 
 mod asks;
 pub mod engine;
-mod expr;
-mod failing;
 mod find;
 mod finish;
 mod firsts;
@@ -13,7 +11,6 @@ mod merge;
 mod place;
 mod reports;
 mod results;
-pub mod shared;
 mod shown;
 mod timeline;
 mod turn;

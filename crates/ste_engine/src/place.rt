@@ -4,28 +4,22 @@ ghost use Rattle.std.specs.Prelude.{◌≡◌, ◌<◌, ◌≤◌, All, IfOk, ma
 ghost use Rattle.sym_step.specs.Step.{rows_of};
 ghost use Rattle.ste_model.specs.Found.{IsFound};
 ghost use Rattle.ste_model.specs.Report.{IsFailingPlace};
-ghost use Rattle.ste_engine.specs.private.Places.{FailsBy, MakesNothing, constant_ref, fixed_ask, fixed_asks};
+ghost use Rattle.engine_parts.specs.Failing.{FailsBy, MakesNothing};
+ghost use Rattle.ste_engine.specs.private.Places.{fixed_ask, fixed_asks};
 ghost use Rattle.ste_engine.specs.private.Times.{IsTimeline};
 
 use crate::asks::Ask;
-use crate::failing::{Failure, first_failing_in};
 use crate::timeline::Timeline;
 use crate::turn::first_frame;
 use bool_expr::value;
-use dd_nodes::{Nodes, Ref};
+use dd_nodes::Nodes;
 use dd_ops::{OpFault, Ops};
+use engine_parts::{Failure, constant, first_failing_in};
 use net_core::Net;
 use std::alloc::{AllocError, Global};
 use ste_base::{NodeId, Time};
 use ste_model::{Assertion, Quint, depth};
 use sym_step::{Cut, GateRows, renew};
-
-/// The constant of a bit.
-pub fn constant(bit: bool) -> Ref
-    ensures { result ≡ constant_ref bit }
-{
-    if bit { Ref::TRUE } else { Ref::FALSE }
-}
 
 /// What a quintuple asks under an assignment, by constants.
 fn fixed_ask(quint: &Quint, bits: &[bool], place: usize) -> Ask

@@ -2,45 +2,22 @@
 
 ghost use Rattle.std.specs.Prelude.{◌≡◌, ◌<◌, All, IfOk, map};
 ghost use Rattle.sym_step.specs.Step.{rows_of};
-ghost use Rattle.ste_model.specs.Report.{IsReportOf, budget_report, no_cubes};
-ghost use Rattle.ste_engine.specs.private.Finds.{AreResultRefs};
+ghost use Rattle.ste_model.specs.Report.{IsReportOf};
+ghost use Rattle.engine_parts.specs.Failing.{MakesNothing};
 ghost use Rattle.ste_engine.specs.private.Firsts.{AreFirsts};
-ghost use Rattle.ste_engine.specs.private.Places.{MakesNothing};
-ghost use Rattle.ste_engine.specs.private.Reports.{AreGuards, TellFindings};
+ghost use Rattle.ste_engine.specs.private.Reports.{TellFindings};
 
 use crate::finish::verdict_of;
 use crate::firsts::Firsts;
-use crate::results::Results;
 use crate::shown::shown_of;
 use dd_nodes::Nodes;
 use dd_ops::Ops;
-use dd_query::cubes;
+use engine_parts::{Results, guards_of};
 use net_core::Net;
 use std::alloc::{AllocError, Global};
 use ste_base::{Items, Name};
-use ste_model::{Assertion, CubeList, Guards, Report, Verdict};
+use ste_model::{Assertion, Report};
 use sym_step::GateRows;
-
-/// The strong, the weak and the contradictory assignments, each as the first cubes of its list.
-pub fn guards_of<N: Nodes>(
-    alloc: Global,
-    nodes: &mut N,
-    r: Results,
-    max: u32,
-) -> Result<Guards, AllocError>
-    requires { AreResultRefs (N.store nodes.old) r }
-    ensures guards { IfOk result (λ guards. AreGuards max (N.store nodes.old) r guards) }
-    ensures store { N.store nodes.new ≡ N.store nodes.old }
-{
-    let strong = cubes(alloc, nodes, r.strong, max)?;
-    let weak = cubes(alloc, nodes, r.weak, max)?;
-    let contradictory = cubes(alloc, nodes, r.contradictory, max)?;
-    Ok(Guards {
-        strong,
-        weak,
-        contradictory,
-    })
-}
 
 /// The report, from the references that tell the findings, and the places that are clear.
 pub fn report_of<N: Nodes>(
@@ -75,35 +52,5 @@ pub fn report_of<N: Nodes>(
         path: Items::new(alloc),
         fails: shown.fails,
         run: shown.run,
-    })
-}
-
-/// A list without cubes.
-fn no_cubes(alloc: Global) -> CubeList
-    ensures { result ≡ no_cubes }
-{
-    CubeList {
-        cubes: Items::new(alloc),
-        more: false,
-    }
-}
-
-/// What is told of a task of this name whose node steps were spent.
-pub fn budget_report(alloc: Global, name: &Name) -> Result<Report, AllocError>
-    ensures { IfOk result (λ report. report ≡ budget_report name.now) }
-{
-    let copy = Name::from_bytes(alloc, name.bytes())?;
-    Ok(Report {
-        name: copy,
-        verdict: Verdict::Budget,
-        guards: Guards {
-            strong: no_cubes(alloc),
-            weak: no_cubes(alloc),
-            contradictory: no_cubes(alloc),
-        },
-        least: None,
-        path: Items::new(alloc),
-        fails: None,
-        run: None,
     })
 }

@@ -7,19 +7,19 @@ ghost use Rattle.ste_model.specs.Assignments.{SomeAssignment, Tells};
 ghost use Rattle.ste_model.specs.declared.verdict.Verdict.TheVariants.{Strong, Weak};
 ghost use Rattle.ste_model.specs.Found.{IsFound, IsStrong, IsVerdictOf, IsWeak};
 ghost use Rattle.ste_model.specs.Report.{IsFailingPlace, IsShown};
-ghost use Rattle.ste_engine.specs.declared.failing.Failure.TheVariants as Failure;
+ghost use Rattle.engine_parts.specs.declared.failing.Failure.TheVariants as Failure;
+ghost use Rattle.engine_parts.specs.Failing.{FailsBy, MakesNothing};
 ghost use Rattle.ste_engine.specs.private.Firsts.{AreFirsts, IsFirstPlace};
-ghost use Rattle.ste_engine.specs.private.Places.{FailsBy, IsFoundBy, MakesNothing};
+ghost use Rattle.ste_engine.specs.private.Places.{IsFoundBy};
 ghost use Rattle.ste_engine.specs.private.Reports.{IsFailureOf, IsRunDue, TellFindings};
 
-use crate::failing::Failure;
 use crate::firsts::Firsts;
 use crate::place::failing_place;
-use crate::results::Results;
 use counter_run::ste_run;
 use dd_nodes::{Nodes, Ref};
 use dd_ops::Ops;
 use dd_query::least;
+use engine_parts::{Failure, Results};
 use net_core::Net;
 use std::alloc::{AllocError, Global};
 use ste_base::{Items, NodeId, Time};
@@ -27,7 +27,7 @@ use ste_model::{Assertion, Run, Verdict, are_quints_bindable};
 use sym_step::GateRows;
 
 /// The least assignment that is strong, or weak, and the failing place under it.
-#[derive(Debug, Drop)]
+#[derive(Drop)]
 struct LeastFailure {
     bits: Items<bool>,
     place: (NodeId, Time),
@@ -35,7 +35,7 @@ struct LeastFailure {
 
 /// What a failure shows: the least assignment, the failing place under it, and the run where one is due. Where there is no
 /// failure all is None.
-#[derive(Debug, Drop)]
+#[derive(Drop)]
 pub struct Shown {
     pub least: Option<Items<bool>>,
     pub fails: Option<(NodeId, Time)>,

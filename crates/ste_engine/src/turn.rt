@@ -8,49 +8,25 @@ ghost use Rattle.net_core.specs.Work.{ArePossibleEach, SymbolicCut, SymbolicSet}
 ghost use Rattle.dual_rail.specs.Rail.{AreRails, Built};
 ghost use Rattle.sym_step.specs.Step.{HaveSets, IsCutBy, IsCutOf, rows_of};
 ghost use Rattle.sym_step.specs.private.Frames.{IsFrame, nets_of, next_of};
+ghost use Rattle.engine_parts.specs.Latches.{first_rails};
 ghost use Rattle.ste_engine.specs.private.Finds.{AreFound};
-ghost use Rattle.ste_engine.specs.private.Turns.{AreTurnedRefs, IsTurned, asked_by, first_rails, turned_work};
+ghost use Rattle.ste_engine.specs.private.Turns.{AreTurnedRefs, IsTurned, asked_by, turned_work};
 
 use crate::find::find_all;
 use crate::results::Found;
 use dd_nodes::{Nodes, Ref};
 use dd_ops::{OpFault, Ops};
-use dual_rail::{Rails, either, free, one, zero};
-use net_core::{Init, Latch, Net};
+use dual_rail::either;
+use engine_parts::first_sets;
+use net_core::Net;
 use std::alloc::{AllocError, Global};
-use ste_base::Items;
 use sym_step::{Cut, Frame, GateRows, renew};
 
 /// What the times so far leave beside their frame: where some net was empty, and what is found.
-#[derive(Debug, Drop)]
+#[derive(Drop)]
 pub struct Turned {
     pub contradictory: Ref,
     pub found: Found,
-}
-
-/// The first set of a latch.
-fn first(reset: bool, latch: Latch) -> Rails
-    ensures { result ≡ first_rails reset latch }
-{
-    if !reset {
-        return free();
-    }
-    match latch.init {
-        Init::Zero => zero(),
-        Init::One => one(),
-        Init::Free => free(),
-    }
-}
-
-/// The first sets of the latches.
-pub fn first_sets(alloc: Global, net: &Net, reset: bool) -> Result<Items<Rails>, AllocError>
-    ensures { IfOk result (λ sets. sets ≡ map (first_rails reset) net.now.raw.latches) }
-{
-    let mut sets = Vec::new(alloc);
-    for latch in net.latches() {
-        sets.push(first(reset, *latch))?;
-    }
-    Ok(Items::from(sets))
 }
 
 /// The frame before time 0.

@@ -8,8 +8,8 @@ use Rattle.net_core.specs.declared.raw.RawNet.{RawNet}
 use Rattle.net_core.specs.Work.{SymbolicCut, SymbolicSet, chain, conjunction, disjunction, negation, sum, sums, whole}
 use Rattle.sym_step.specs.declared.cut.Cut.{Cut}
 use Rattle.sym_step.specs.Step.{IsCutBy}
-use Rattle.ste_engine.specs.declared.results.Results.{Results}
-use Rattle.ste_engine.specs.private.Finds.{except, refutes_work}
+use Rattle.engine_parts.specs.declared.results.Results.{Results}
+use Rattle.engine_parts.specs.Refuting.{except, refutes_work}
 use Rattle.ste_model.specs.declared.task.Edge.{Edge}
 use Rattle.ste_model.specs.GraphNeed.{bind_functions}
 use Rattle.ste_model.specs.GraphWork.{SymbolicState, binds_work, edge_work, feasible_where, found_work, strong_on, symbolic_binds, weak_on}

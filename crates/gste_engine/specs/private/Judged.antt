@@ -6,10 +6,10 @@ use Rattle.dd_nodes.specs.Stores.{Store, Means, function}
 use Rattle.net_core.specs.declared.raw.RawNet.{RawNet}
 use Rattle.net_core.specs.Work.{SymbolicSet}
 use Rattle.ste_base.specs.declared.id.NodeId.{NodeId}
-use Rattle.ste_engine.specs.declared.failing.Failure.{Failure}
-use Rattle.ste_engine.specs.declared.failing.Failure.TheVariants as how
-use Rattle.ste_engine.specs.declared.results.Results.{Results}
-use Rattle.ste_engine.specs.private.Finds.{AreResultRefs}
+use Rattle.engine_parts.specs.declared.failing.Failure.{Failure}
+use Rattle.engine_parts.specs.declared.failing.Failure.TheVariants as how
+use Rattle.engine_parts.specs.declared.results.Results.{Results}
+use Rattle.engine_parts.specs.Reporting.{AreResultRefs}
 use Rattle.ste_model.specs.declared.run.Run.{Run}
 use Rattle.ste_model.specs.declared.task.Edge.{Edge}
 use Rattle.ste_model.specs.declared.task.Graph.{Graph}

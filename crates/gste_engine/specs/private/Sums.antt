@@ -6,7 +6,7 @@ use Rattle.dd_nodes.specs.Stores.{Store}
 use Rattle.net_core.specs.declared.raw.RawNet.{RawNet}
 use Rattle.net_core.specs.Work.{SymbolicSet, disjunction, never, union}
 use Rattle.dual_rail.specs.declared.rails.Rails.{Rails}
-use Rattle.ste_engine.specs.private.Turns.{first_rails}
+use Rattle.engine_parts.specs.Latches.{first_rails}
 use Rattle.ste_model.specs.declared.task.Edge.{Edge}
 use Rattle.ste_model.specs.declared.task.Graph.{Graph}
 use Rattle.ste_model.specs.GraphWork.{SymbolicState, sets_functions, start_state, vertex_work}

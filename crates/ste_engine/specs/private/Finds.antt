@@ -4,27 +4,9 @@ use Rattle.dd_nodes.specs.Diagram.{Function}
 use Rattle.dd_nodes.specs.Stores.{Store, IsRef, Means}
 use Rattle.net_core.specs.Work.{SymbolicCut, SymbolicSet, chain, conjunction, disjunction, negation, whole}
 use Rattle.ste_model.specs.Work.{both_bits, consequents_work, refutes, strong_findings, weak_findings}
+use Rattle.engine_parts.specs.Refuting.{except, refutes_work}
 use Rattle.ste_engine.specs.declared.results.Found.{Found}
-use Rattle.ste_engine.specs.declared.results.Results.{Results}
-
--- f & !g, and the functions for it
-abbrev pub except : Function → Function → Function
-except f g = conjunction f (negation g)
-
-abbrev pub except_work : Function → Function → List Function
-except_work f g = negation g ∷ except f g ∷ []
-
--- x & (f & !g), and the functions for it
-abbrev pub both_except_work : Function → Function → Function → List Function
-both_except_work x f g = negation g ∷ except f g ∷ conjunction x (except f g) ∷ []
-
--- the same with !x in the place of x
-abbrev pub opposite_except_work : Function → Function → Function → List Function
-opposite_except_work x f g = negation x ∷ both_except_work (negation x) f g
-
--- the functions for where the set is exactly the opposite of the value
-abbrev pub refutes_work : SymbolicSet → Function → List Function
-refutes_work w x = both_except_work x w.zero w.one ++ (opposite_except_work x w.one w.zero ++ refutes w x ∷ [])
+use Rattle.engine_parts.specs.declared.results.Results.{Results}
 
 -- g & y, and one more of them in a sum
 abbrev pub add_work : Function → Function → Function → List Function
@@ -75,8 +57,3 @@ pub record AreLast (c f h : Function) (t : Store) (r : Results) : Type 0 where
   pub strong : Means t (last_strong c f) r.strong
   pub weak : Means t (last_weak c f h) r.weak
   pub contradictory : Means t c r.contradictory
-
-pub record AreResultRefs (t : Store) (r : Results) : Type 0 where
-  pub strong : IsRef t r.strong
-  pub weak : IsRef t r.weak
-  pub contradictory : IsRef t r.contradictory

@@ -9,10 +9,10 @@ use Rattle.ste_model.specs.declared.task.Assertion.{Assertion}
 use Rattle.ste_model.specs.Report.{IsFailingPlace}
 use Rattle.sym_step.specs.declared.cut.Cut.{Cut}
 use Rattle.sym_step.specs.Step.{rails_at}
-use Rattle.ste_engine.specs.declared.failing.Failure.{Failure}
-use Rattle.ste_engine.specs.declared.failing.Failure.TheVariants.{Strong, Weak}
+use Rattle.engine_parts.specs.declared.failing.Failure.{Failure}
+use Rattle.engine_parts.specs.declared.failing.Failure.TheVariants.{Strong, Weak}
 use Rattle.ste_engine.specs.declared.firsts.Firsts.{Firsts}
-use Rattle.ste_engine.specs.private.Places.{FailsBy, first_failing}
+use Rattle.engine_parts.specs.Failing.{FailsBy, first_failing}
 
 -- whether a consequent's guard and value are constants, and so is the set of its net
 abbrev pub is_fixed : Rails → Cut → Bool

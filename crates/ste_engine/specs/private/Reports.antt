@@ -14,8 +14,8 @@ use Rattle.ste_model.specs.Cubes.{cube_list}
 use Rattle.ste_model.specs.Found.{FailsStrongly, FailsWeakly, IsContradictory, IsStrong, IsWeak}
 use Rattle.ste_model.specs.Report.{IsDue, IsPrintedUnder, IsShown}
 use Rattle.ste_model.specs.Shown.{IsBindable}
-use Rattle.ste_engine.specs.declared.results.Results.{Results}
-use Rattle.ste_engine.specs.private.Finds.{AreResultRefs}
+use Rattle.engine_parts.specs.declared.results.Results.{Results}
+use Rattle.engine_parts.specs.Reporting.{AreResultRefs}
 
 -- the references tell the strong, the weak and the contradictory assignments
 pub record TellFindings (s : Store) (net : RawNet) (task : Assertion) (r : Results) : Type 0 where
@@ -23,12 +23,6 @@ pub record TellFindings (s : Store) (net : RawNet) (task : Assertion) (r : Resul
   pub strong : Tells s.vars (function s r.strong) (IsStrong net task)
   pub weak : Tells s.vars (function s r.weak) (IsWeak net task)
   pub contradictory : Tells s.vars (function s r.contradictory) (IsContradictory net task)
-
--- the first cubes of each, at most so many
-pub record AreGuards (max : ℕ) (s : Store) (r : Results) (guards : Guards) : Type 0 where
-  pub strong : guards.strong ≡ cube_list max s.vars (function s r.strong)
-  pub weak : guards.weak ≡ cube_list max s.vars (function s r.weak)
-  pub contradictory : guards.contradictory ≡ cube_list max s.vars (function s r.contradictory)
 
 -- the printed run under a strong assignment, where the antecedent is bindable
 abbrev pub IsRunDue : RawNet → Assertion → List Bool → Option Run → Type 0

@@ -16,7 +16,7 @@ use Rattle.ste_model.specs.declared.task.Quint.{Quint}
 use Rattle.ste_model.specs.Need.{kept_functions}
 use Rattle.ste_model.specs.Work.{contradictory_where, strong_where, weak_where}
 use Rattle.ste_engine.specs.declared.asks.Ask.{Ask}
-use Rattle.ste_engine.specs.declared.results.Results.{Results}
+use Rattle.engine_parts.specs.declared.results.Results.{Results}
 use Rattle.ste_engine.specs.declared.timeline.Timeline.{Timeline}
 use Rattle.ste_engine.specs.declared.turn.Turned.{Turned}
 use Rattle.ste_engine.specs.private.Asks.{AreAsks}
@@ -26,15 +26,6 @@ use Rattle.ste_engine.specs.private.Times.{IsTimeline}
 -- what these cuts ask
 abbrev pub asked_by : List SymbolicCut → SymbolicAsked
 asked_by cuts = record { cuts = cuts }
-
--- the first set of a latch by references
-abbrev pub init_rails : Init → Rails
-init_rails Zero = record { can0 = record { 0 = 1 }; can1 = record { 0 = 0 } }
-init_rails One = record { can0 = record { 0 = 0 }; can1 = record { 0 = 1 } }
-init_rails Free = record { can0 = record { 0 = 1 }; can1 = record { 0 = 1 } }
-
-abbrev pub first_rails : Bool → Latch → Rails
-first_rails reset latch = if reset then init_rails latch.init else init_rails Free
 
 -- the timeline of quintuples at time t, by references of this store
 pub record IsLine (s : Store) (quints : List Quint) (depth t : ℕ) (line : Timeline) : Type 0 where

@@ -20,9 +20,9 @@ use Rattle.dd_nodes.proofs.Walks.{IsFrom-grows}
 use Rattle.net_core.specs.Work.{always, never, conjunction, disjunction}
 use Rattle.ste_model.specs.Expressions.{reads, reads_step, joined, exclusive_disjunction}
 use Rattle.dual_rail.proofs.Works.{first, last, pass, Built-wider, and_built, or_built, not_built}
-use Rattle.ste_engine.proofs.Exprs.{work_of, so_far, part_built, part_turn, part_reads, xor_built, values_long}
+use Rattle.engine_parts.proofs.Exprs.{work_of, so_far, part_built, part_turn, part_reads, xor_built, values_long}
 use Rattle.ste_model.proofs.Values.{values_of}
-use Rattle.ste_engine.proofs.expr.+build.Goals as goal
+use Rattle.engine_parts.proofs.expr.+build.Goals as goal
 
 built_var : (v : VarId) → symbolic_value (Var v) ≡ record { value = λ bits. get_or bits v.0 false; work = (λ bits. get_or bits v.0 false) ∷ [] }
 built_var v = ap symbolic_value (sym (rolls-Var v)) ∙ fold-roll-Expr SymbolicValue symbolic_step _

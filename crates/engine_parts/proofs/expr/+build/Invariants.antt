@@ -3,8 +3,8 @@ use Rattle.std.specs.Prelude.{IsTrue}
 use Rattle.net_core.specs.Work.{always, never, conjunction, disjunction}
 use Rattle.ste_model.specs.Expressions.{symbolic_value, exclusive_disjunction, joined, reads}
 use Rattle.dual_rail.specs.private.Parts.{Reached}
-use Rattle.ste_engine.proofs.Exprs.{work_of, so_far}
-use Rattle.ste_engine.proofs.expr.+build.Given as goal
+use Rattle.engine_parts.proofs.Exprs.{work_of, so_far}
+use Rattle.engine_parts.proofs.expr.+build.Given as goal
 
 abbrev pub decreases-build : goal.decreases-build
 decreases-build g l = goal.size-build g l

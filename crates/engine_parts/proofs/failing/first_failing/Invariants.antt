@@ -1,6 +1,6 @@
 use Rattle.std.proofs.Common.{◌≡◌, drop}
-use Rattle.ste_engine.specs.private.Places.{first_failing}
-use Rattle.ste_engine.proofs.failing.first_failing.Given as goal
+use Rattle.engine_parts.specs.Failing.{first_failing}
+use Rattle.engine_parts.proofs.failing.first_failing.Given as goal
 
 -- the rest decides
 abbrev pub invariant-loop-c : goal.invariant-loop-c

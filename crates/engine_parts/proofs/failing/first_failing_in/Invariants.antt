@@ -1,7 +1,7 @@
 use Rattle.std.proofs.Common.{◌≡◌, drop}
 use Rattle.sym_step.specs.private.Frames.{nets_of}
-use Rattle.ste_engine.specs.private.Places.{first_failing}
-use Rattle.ste_engine.proofs.failing.first_failing_in.Given as goal
+use Rattle.engine_parts.specs.Failing.{first_failing}
+use Rattle.engine_parts.proofs.failing.first_failing_in.Given as goal
 
 -- the rest decides
 abbrev pub invariant-loop-c : goal.invariant-loop-c

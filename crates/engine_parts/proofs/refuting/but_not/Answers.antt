@@ -5,8 +5,8 @@ use Rattle.dd_nodes.proofs.Stores.{Means-keeps}
 use Rattle.net_core.specs.Work.{negation}
 use Rattle.dual_rail.specs.Rail.{Built, HasFunction}
 use Rattle.dual_rail.proofs.Works.{So-start, and_built, first, last, not_built, pass}
-use Rattle.ste_engine.specs.private.Finds.{except, except_work}
-use Rattle.ste_engine.proofs.find.but_not.Goals as goal
+use Rattle.engine_parts.specs.Refuting.{except, except_work}
+use Rattle.engine_parts.proofs.refuting.but_not.Goals as goal
 
 pub returns-in_err-not : goal.returns-in_err-not
 returns-in_err-not g c = λ f h mf mh.

@@ -5,9 +5,9 @@ use Rattle.dd_nodes.specs.Stores.{Store}
 use Rattle.dual_rail.specs.Rail.{HasFunction}
 use Rattle.dual_rail.proofs.Works.{Built-made, So-start}
 use Rattle.ste_model.specs.Work.{refutes}
-use Rattle.ste_engine.specs.private.Finds.{refutes_work}
-use Rattle.ste_engine.proofs.Found.{none_refuted}
-use Rattle.ste_engine.proofs.find.refuted.Goals as goal
+use Rattle.engine_parts.specs.Refuting.{refutes_work}
+use Rattle.engine_parts.proofs.Opposites.{none_refuted}
+use Rattle.engine_parts.proofs.refuting.refuted.Goals as goal
 
 pub returns-then-eq : goal.returns-then-eq
 returns-then-eq g c = λ w x mw mx.

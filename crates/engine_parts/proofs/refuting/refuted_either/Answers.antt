@@ -8,9 +8,9 @@ use Rattle.net_core.specs.Work.{conjunction, negation}
 use Rattle.dual_rail.specs.Rail.{HasFunction}
 use Rattle.dual_rail.proofs.Works.{Built-wider, So-start, first, last, more, or_built, pass}
 use Rattle.ste_model.specs.Work.{only_one, only_zero, refutes}
-use Rattle.ste_engine.specs.private.Finds.{both_except_work, opposite_except_work, refutes_work}
-use Rattle.ste_engine.proofs.Found.{high_in, low_in, refutes_in, refuted_one_left, refuted_zero_left}
-use Rattle.ste_engine.proofs.find.refuted_either.Goals as goal
+use Rattle.engine_parts.specs.Refuting.{both_except_work, opposite_except_work, refutes_work}
+use Rattle.engine_parts.proofs.Opposites.{high_in, low_in, refutes_in, refuted_one_left, refuted_zero_left}
+use Rattle.engine_parts.proofs.refuting.refuted_either.Goals as goal
 
 pub returns-in_err-low : goal.returns-in_err-low
 returns-in_err-low g c = λ w x mw mx.

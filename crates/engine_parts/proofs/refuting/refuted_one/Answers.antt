@@ -5,8 +5,8 @@ use Rattle.dd_nodes.proofs.Stores.{Means-keeps}
 use Rattle.net_core.specs.Work.{conjunction, negation}
 use Rattle.dual_rail.specs.Rail.{Built, HasFunction}
 use Rattle.dual_rail.proofs.Works.{So-start, and_built, first, last, more, not_built, pass}
-use Rattle.ste_engine.specs.private.Finds.{both_except_work, except}
-use Rattle.ste_engine.proofs.find.refuted_one.Goals as goal
+use Rattle.engine_parts.specs.Refuting.{both_except_work, except}
+use Rattle.engine_parts.proofs.refuting.refuted_one.Goals as goal
 
 pub returns-in_err-not : goal.returns-in_err-not
 returns-in_err-not g c = λ x f h mx mf mh.

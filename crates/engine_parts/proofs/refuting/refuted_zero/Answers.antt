@@ -5,8 +5,8 @@ use Rattle.dd_nodes.proofs.Stores.{Means-keeps}
 use Rattle.net_core.specs.Work.{conjunction, negation}
 use Rattle.dual_rail.specs.Rail.{Built, HasFunction}
 use Rattle.dual_rail.proofs.Works.{Built-wider, So-start, behind, first, last, not_built, pass}
-use Rattle.ste_engine.specs.private.Finds.{both_except_work, except, opposite_except_work}
-use Rattle.ste_engine.proofs.find.refuted_zero.Goals as goal
+use Rattle.engine_parts.specs.Refuting.{both_except_work, except, opposite_except_work}
+use Rattle.engine_parts.proofs.refuting.refuted_zero.Goals as goal
 
 pub returns-in_err-opposite : goal.returns-in_err-opposite
 returns-in_err-opposite g c = λ x f h mx mf mh.

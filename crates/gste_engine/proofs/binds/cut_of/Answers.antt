@@ -9,7 +9,7 @@ use Rattle.ste_model.specs.Expressions.{symbolic_value}
 use Rattle.ste_model.specs.GraphWork.{symbolic_bind}
 use Rattle.sym_step.specs.Step.{IsCutBy}
 use Rattle.gste_engine.specs.private.Given.{bind_work}
-use Rattle.ste_engine.proofs.Exprs.{value_means}
+use Rattle.engine_parts.proofs.Exprs.{value_means}
 use Rattle.gste_engine.proofs.binds.cut_of.Goals as goal
 
 pub returns-in_err-guard : goal.returns-in_err-guard

@@ -15,8 +15,8 @@ use Rattle.ste_model.specs.GraphTable.{enough}
 use Rattle.ste_model.specs.GraphWork.{graph_work}
 use Rattle.ste_model.specs.Report.{budget_report}
 use Rattle.ste_model.proofs.GraphNeeds.{one_graph_need}
-use Rattle.ste_engine.proofs.Kept.{held_cofactor}
-use Rattle.ste_engine.proofs.PlaceTurns.{spends_same}
+use Rattle.engine_parts.proofs.Cofactors.{held_cofactor}
+use Rattle.engine_parts.proofs.Nothing.{spends_same}
 use Rattle.gste_engine.specs.Engine.{IsGraphBudget, IsGraphKept}
 use Rattle.gste_engine.specs.declared.state.State.{State}
 use Rattle.gste_engine.specs.Tables.{AreConsequentsOver, HasStates, IsGraphOver}

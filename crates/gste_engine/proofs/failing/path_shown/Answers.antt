@@ -4,7 +4,7 @@ use Rattle.graph_path.specs.declared.hop.Hop.{Hop}
 use Rattle.graph_path.specs.Routes.{IsPathOf}
 use Rattle.dual_rail.proofs.Turns.{zip_long}
 use Rattle.net_core.specs.declared.raw.RawNet.{RawNet}
-use Rattle.ste_engine.specs.private.Places.{FailsBy}
+use Rattle.engine_parts.specs.Failing.{FailsBy}
 use Rattle.ste_model.specs.declared.task.Edge.{Edge}
 use Rattle.ste_model.specs.declared.task.Graph.{Graph}
 use Rattle.ste_model.specs.GraphHops.{AreEdgeHops, IsEdgeHop}

@@ -8,8 +8,8 @@ use Rattle.net_core.specs.Work.{conjunction, disjunction}
 use Rattle.dual_rail.specs.Rail.{HasFunction}
 use Rattle.dual_rail.proofs.Works.{Built-wider, So-start, first, last, pass}
 use Rattle.ste_model.specs.Work.{found_strong, refutes}
-use Rattle.ste_engine.specs.private.Finds.{refutes_work}
-use Rattle.ste_engine.proofs.Found.{refuted_left}
+use Rattle.engine_parts.specs.Refuting.{refutes_work}
+use Rattle.engine_parts.proofs.Opposites.{refuted_left}
 use Rattle.gste_engine.specs.private.EdgeFinds.{gated_add_work, gated_strong_work}
 use Rattle.gste_engine.proofs.found.add_strong.Goals as goal
 

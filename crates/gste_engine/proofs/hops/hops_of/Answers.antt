@@ -3,8 +3,8 @@ use Rattle.std.proofs.lemmas.List.{take_all}
 use Rattle.dd_nodes.specs.Stores.{Store}
 use Rattle.graph_path.specs.declared.hop.Hop.{Hop}
 use Rattle.net_core.specs.declared.raw.RawNet.{RawNet}
-use Rattle.ste_engine.specs.private.Places.{FailsBy}
-use Rattle.ste_engine.proofs.PlaceTurns.{nothing_more, nothing_yet}
+use Rattle.engine_parts.specs.Failing.{FailsBy}
+use Rattle.engine_parts.proofs.Nothing.{nothing_more, nothing_yet}
 use Rattle.ste_model.specs.declared.task.Edge.{Edge}
 use Rattle.ste_model.specs.GraphHops.{AreEdgeHops, IsEdgeHop}
 use Rattle.gste_engine.specs.declared.state.State.{State}

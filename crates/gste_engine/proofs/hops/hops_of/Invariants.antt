@@ -1,6 +1,6 @@
 use Rattle.std.proofs.Common.{ℕ, length, take}
 use Rattle.sym_step.specs.private.Frames.{IsFrame}
-use Rattle.ste_engine.specs.private.Places.{FailsBy, MakesNothing}
+use Rattle.engine_parts.specs.Failing.{FailsBy, MakesNothing}
 use Rattle.ste_model.specs.GraphHops.{AreEdgeHops}
 use Rattle.ste_model.specs.GraphWork.{SymbolicState}
 use Rattle.gste_engine.specs.Tables.{HasStates}

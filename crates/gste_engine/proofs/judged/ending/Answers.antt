@@ -8,7 +8,7 @@ use Rattle.net_core.specs.Work.{negation}
 use Rattle.dual_rail.specs.Rail.{Built, HasFunction}
 use Rattle.dual_rail.proofs.Turns.{within_two}
 use Rattle.dual_rail.proofs.Works.{Built-made, Built-wider, So-start, first, more, not_built, pass}
-use Rattle.ste_engine.specs.private.Finds.{except, except_work}
+use Rattle.engine_parts.specs.Refuting.{except, except_work}
 use Rattle.gste_engine.specs.private.EdgeFinds.{AreEndings, ending_work}
 use Rattle.gste_engine.proofs.judged.ending.Goals as goal
 

@@ -9,7 +9,7 @@ use Rattle.net_core.specs.Work.{SymbolicSet, sum}
 use Rattle.net_core.proofs.Ordered.{settled_by_order}
 use Rattle.dual_rail.specs.Rail.{Built}
 use Rattle.dual_rail.proofs.Works.{Built-made, Built-wider, So-start, first, more, pass}
-use Rattle.ste_engine.specs.declared.results.Results.{Results}
+use Rattle.engine_parts.specs.declared.results.Results.{Results}
 use Rattle.ste_model.specs.declared.task.Bind.{Bind}
 use Rattle.ste_model.specs.declared.task.Edge.{Edge}
 use Rattle.ste_model.specs.declared.task.Graph.{Graph}

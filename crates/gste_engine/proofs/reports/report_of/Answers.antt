@@ -1,7 +1,7 @@
 use Rattle.std.proofs.Common.{sym, ◌∙◌, ap, subst}
 use Rattle.dd_nodes.specs.Stores.{Store, function}
 use Rattle.net_core.specs.declared.raw.RawNet.{RawNet}
-use Rattle.ste_engine.specs.declared.results.Results.{Results}
+use Rattle.engine_parts.specs.declared.results.Results.{Results}
 use Rattle.ste_model.specs.declared.task.Graph.{Graph}
 use Rattle.ste_model.specs.GraphFound.{IsGraphVerdict}
 use Rattle.gste_engine.specs.Tables.{AreConsequentsOver}

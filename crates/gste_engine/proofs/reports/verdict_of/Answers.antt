@@ -1,7 +1,7 @@
 use Rattle.std.proofs.Common.{◌≡◌, refl, true, false}
 use Rattle.dd_nodes.specs.Stores.{Store}
 use Rattle.ste_model.specs.GraphFound.{IsGraphContradictory, IsGraphStrong, IsGraphWeak}
-use Rattle.ste_engine.proofs.Verdicts.{some_is, none_is, each_is, not_each}
+use Rattle.engine_parts.proofs.Verdicts.{some_is, none_is, each_is, not_each}
 use Rattle.gste_engine.proofs.reports.verdict_of.Goals as goal
 
 pub returns-then-not-is_false : goal.returns-then-not-is_false

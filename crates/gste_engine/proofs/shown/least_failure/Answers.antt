@@ -2,8 +2,8 @@ use Rattle.std.proofs.Common.{ℕ, Bool, List, sym, ap, subst}
 use Rattle.std.specs.Prelude.{IsTrue}
 use Rattle.dd_nodes.specs.Stores.{Store, function}
 use Rattle.net_core.specs.declared.raw.RawNet.{RawNet}
-use Rattle.ste_engine.specs.private.Places.{FailsBy, MakesNothing}
-use Rattle.ste_engine.proofs.PlaceTurns.{nothing_done, nothing_more}
+use Rattle.engine_parts.specs.Failing.{FailsBy, MakesNothing}
+use Rattle.engine_parts.proofs.Nothing.{nothing_done, nothing_more}
 use Rattle.ste_model.specs.declared.task.Graph.{Graph}
 use Rattle.ste_model.specs.GraphFound.{IsGraphFound}
 use Rattle.ste_model.specs.GraphReport.{IsGraphPlace}

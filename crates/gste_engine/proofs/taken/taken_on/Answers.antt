@@ -12,7 +12,7 @@ use Rattle.ste_base.specs.declared.id.NodeId.{NodeId}
 use Rattle.ste_model.specs.declared.task.Edge.{Edge}
 use Rattle.ste_model.specs.Edges.{asked_on}
 use Rattle.sym_step.specs.declared.cut.Cut.{Cut}
-use Rattle.ste_engine.specs.private.Places.{first_failing}
+use Rattle.engine_parts.specs.Failing.{first_failing}
 use Rattle.gste_engine.specs.private.Taken.{IsStepOn, fixed_bind}
 use Rattle.gste_engine.proofs.EdgeFails.{contradicted, is_taken, some_sets}
 use Rattle.gste_engine.proofs.FixedSteps.{cuts_as, nodes_inside}

@@ -7,7 +7,7 @@ use Rattle.dual_rail.specs.Rail.{HasFunction}
 use Rattle.dual_rail.proofs.Works.{Built-made, Built-wider, So-start, first, more, pass}
 use Rattle.ste_model.specs.Expressions.{symbolic_value}
 use Rattle.ste_engine.specs.private.Asks.{IsAsk, quint_work}
-use Rattle.ste_engine.proofs.Exprs.{value_means}
+use Rattle.engine_parts.proofs.Exprs.{value_means}
 use Rattle.ste_engine.proofs.asks.ask_of.Goals as goal
 
 pub returns-in_err-guard : goal.returns-in_err-guard

@@ -18,10 +18,10 @@ use Rattle.sym_step.specs.private.Frames.{IsFrame}
 use Rattle.sym_step.proofs.Framing.{frame_keeps}
 use Rattle.ste_engine.specs.Engine.{IsBudget, IsKept}
 use Rattle.ste_engine.specs.private.Firsts.{AreFirsts}
-use Rattle.ste_engine.proofs.Kept.{held_cofactor}
-use Rattle.ste_engine.proofs.PlaceTurns.{spends_same}
+use Rattle.engine_parts.proofs.Cofactors.{held_cofactor}
+use Rattle.engine_parts.proofs.Nothing.{spends_same}
 use Rattle.ste_engine.proofs.Shows.{results_tell}
-use Rattle.ste_engine.proofs.Verdicts.{short}
+use Rattle.ste_engine.proofs.Short.{short}
 use Rattle.ste_engine.proofs.engine.check_ste_from.Goals as goal
 
 pub results-requires-clause-frame : goal.results-requires-clause-frame

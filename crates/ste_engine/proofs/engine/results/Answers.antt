@@ -21,7 +21,7 @@ use Rattle.sym_step.specs.declared.frame.Frame.{Frame}
 use Rattle.sym_step.specs.private.Frames.{bare, next_of, nets_of}
 use Rattle.sym_step.proofs.Cutting.{Demands-keep}
 use Rattle.sym_step.proofs.Framing.{frame_keeps}
-use Rattle.ste_engine.specs.declared.failing.Failure.TheVariants.{Strong, Weak}
+use Rattle.engine_parts.specs.declared.failing.Failure.TheVariants.{Strong, Weak}
 use Rattle.ste_engine.specs.declared.results.Found.{Found}
 use Rattle.ste_engine.specs.declared.timeline.Timeline.{Timeline}
 use Rattle.ste_engine.specs.declared.turn.Turned.{Turned}
@@ -33,7 +33,8 @@ use Rattle.ste_engine.proofs.FirstPlaces.{first_place, told_or_new}
 use Rattle.ste_engine.proofs.Kept.{kept_refs}
 use Rattle.ste_engine.proofs.Lines.{IsNextLine, Line-keeps, ant_within, con_within, next_line}
 use Rattle.ste_engine.proofs.Asked.{Asks-keep}
-use Rattle.ste_engine.proofs.Times.{IsTurnedAt, ReachedAt, ant_in, con_in, empty_sum, firsts_are, last_in, reached_next, strong_sum, time_call, time_turn, turned_refs, weak_sum}
+use Rattle.engine_parts.proofs.FirstSets.{firsts_are}
+use Rattle.ste_engine.proofs.Times.{IsTurnedAt, ReachedAt, ant_in, con_in, empty_sum, last_in, reached_next, strong_sum, time_call, time_turn, turned_refs, weak_sum}
 use Rattle.ste_engine.proofs.engine.results.Goals as goal
 
 on_ok : {T E P : Type 0} (r : Result T E) → P → OnOk r P

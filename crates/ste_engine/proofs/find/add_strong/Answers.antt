@@ -8,8 +8,9 @@ use Rattle.net_core.specs.Work.{disjunction}
 use Rattle.dual_rail.specs.Rail.{HasFunction}
 use Rattle.dual_rail.proofs.Works.{Built-wider, So-start, first, last, pass}
 use Rattle.ste_model.specs.Work.{found_strong, refutes}
-use Rattle.ste_engine.specs.private.Finds.{add_work, refutes_work, strong_work}
-use Rattle.ste_engine.proofs.Found.{refuted_left}
+use Rattle.engine_parts.specs.Refuting.{refutes_work}
+use Rattle.ste_engine.specs.private.Finds.{add_work, strong_work}
+use Rattle.engine_parts.proofs.Opposites.{refuted_left}
 use Rattle.ste_engine.proofs.find.add_strong.Goals as goal
 
 pub returns-in_err-found : goal.returns-in_err-found

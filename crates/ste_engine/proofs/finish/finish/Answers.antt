@@ -9,7 +9,8 @@ use Rattle.net_core.specs.Work.{negation}
 use Rattle.dual_rail.specs.Rail.{HasFunction}
 use Rattle.dual_rail.proofs.Turns.{within_two}
 use Rattle.dual_rail.proofs.Works.{Built-made, Built-wider, So-start, first, more, pass}
-use Rattle.ste_engine.specs.private.Finds.{AreLast, except, except_work, last_weak, last_work}
+use Rattle.engine_parts.specs.Refuting.{except, except_work}
+use Rattle.ste_engine.specs.private.Finds.{AreLast, last_weak, last_work}
 use Rattle.ste_engine.proofs.finish.finish.Goals as goal
 
 pub returns-in_err-strong : goal.returns-in_err-strong

@@ -1,7 +1,7 @@
 use Rattle.std.proofs.Common.{◌≡◌, refl, true, false}
 use Rattle.dd_nodes.specs.Stores.{Store}
 use Rattle.ste_model.specs.Found.{IsStrong, IsWeak, IsContradictory}
-use Rattle.ste_engine.proofs.Verdicts.{some_is, none_is, each_is, not_each}
+use Rattle.engine_parts.proofs.Verdicts.{some_is, none_is, each_is, not_each}
 use Rattle.ste_engine.proofs.finish.verdict_of.Goals as goal
 
 pub returns-then-not-is_false : goal.returns-then-not-is_false

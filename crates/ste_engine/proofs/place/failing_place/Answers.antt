@@ -15,14 +15,16 @@ use Rattle.sym_step.specs.declared.made.Step.{Step}
 use Rattle.sym_step.specs.Step.{IsCutBy, IsStep, rails_at}
 use Rattle.sym_step.specs.private.Frames.{next_of, nets_of, step_of}
 use Rattle.sym_step.proofs.Cutting.{Demands-keep}
-use Rattle.ste_engine.specs.declared.failing.Failure.{Failure}
-use Rattle.ste_engine.specs.private.Places.{fixed_asks, fixed_quint, fixed_task}
+use Rattle.engine_parts.specs.declared.failing.Failure.{Failure}
+use Rattle.engine_parts.specs.Failing.{fixed_quint}
+use Rattle.ste_engine.specs.private.Places.{fixed_asks, fixed_task}
 use Rattle.ste_engine.specs.private.Times.{IsTimeline}
-use Rattle.ste_engine.proofs.FirstFails.{IsTold, first_is}
+use Rattle.engine_parts.proofs.FirstFails.{IsTold, first_is}
 use Rattle.ste_engine.proofs.FixedTasks.{constant_table, fixed_are, fixed_inside}
 use Rattle.ste_engine.proofs.Lines.{IsNextLine, Line-keeps, ant_within, con_within, next_line}
-use Rattle.ste_engine.proofs.PlaceTurns.{IsPlaceAt, not_some, nothing_more, nothing_yet, place_begins, place_ends, place_is, place_next, step_built, step_goes, step_makes}
-use Rattle.ste_engine.proofs.Times.{firsts_are}
+use Rattle.engine_parts.proofs.Nothing.{nothing_more, nothing_yet}
+use Rattle.ste_engine.proofs.PlaceTurns.{IsPlaceAt, not_some, place_begins, place_ends, place_is, place_next, step_built, step_goes, step_makes}
+use Rattle.engine_parts.proofs.FirstSets.{firsts_are}
 use Rattle.ste_engine.proofs.place.failing_place.Goals as goal
 
 pub fixed_line-requires : goal.fixed_line-requires

@@ -3,7 +3,7 @@ use Rattle.dd_nodes.specs.Stores.{Store, function}
 use Rattle.net_core.specs.declared.raw.RawNet.{RawNet}
 use Rattle.ste_model.specs.declared.task.Assertion.{Assertion}
 use Rattle.ste_model.specs.Found.{IsVerdictOf}
-use Rattle.ste_engine.specs.declared.results.Results.{Results}
+use Rattle.engine_parts.specs.declared.results.Results.{Results}
 use Rattle.ste_engine.specs.private.Firsts.{AreFirsts}
 use Rattle.ste_engine.specs.private.Reports.{IsFailureOf}
 use Rattle.ste_engine.proofs.reports.report_of.Goals as goal

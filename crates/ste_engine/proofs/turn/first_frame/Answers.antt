@@ -4,8 +4,8 @@ use Rattle.dual_rail.specs.declared.rails.Rails.{Rails}
 use Rattle.dual_rail.specs.Rail.{AreRefs}
 use Rattle.net_core.specs.Sets.{first_set}
 use Rattle.ste_model.specs.Work.{constant_set}
-use Rattle.ste_engine.specs.private.Turns.{first_rails}
-use Rattle.ste_engine.proofs.Times.{firsts_are, zip_refs}
+use Rattle.engine_parts.specs.Latches.{first_rails}
+use Rattle.engine_parts.proofs.FirstSets.{firsts_are, zip_refs}
 use Rattle.ste_engine.proofs.turn.first_frame.Goals as goal
 
 pub starting-requires : goal.starting-requires

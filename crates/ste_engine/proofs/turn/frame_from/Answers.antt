@@ -7,8 +7,8 @@ use Rattle.net_core.specs.Sets.{first_set}
 use Rattle.ste_model.specs.Work.{constant_set}
 use Rattle.sym_step.specs.declared.frame.Frame.{Frame}
 use Rattle.sym_step.specs.private.Frames.{IsFrame}
-use Rattle.ste_engine.specs.private.Turns.{first_rails}
-use Rattle.ste_engine.proofs.Times.{firsts_are, zip_refs}
+use Rattle.engine_parts.specs.Latches.{first_rails}
+use Rattle.engine_parts.proofs.FirstSets.{firsts_are, zip_refs}
 use Rattle.ste_engine.proofs.turn.frame_from.Goals as goal
 
 pub returns-in_ok-first-in-Some-clause-frame : goal.returns-in_ok-first-in-Some-clause-frame

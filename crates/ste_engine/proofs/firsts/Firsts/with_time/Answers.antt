@@ -2,7 +2,7 @@ use Rattle.std.proofs.Common.{Option, sym, subst}
 use Rattle.std.specs.Prelude.{IfSome}
 use Rattle.ste_base.specs.declared.id.NodeId.{NodeId}
 use Rattle.sym_step.specs.private.Frames.{nets_of}
-use Rattle.ste_engine.specs.declared.failing.Failure.TheVariants.{Strong, Weak}
+use Rattle.engine_parts.specs.declared.failing.Failure.TheVariants.{Strong, Weak}
 use Rattle.ste_engine.specs.private.Firsts.{IsFirstAt}
 use Rattle.ste_engine.proofs.FirstPlaces.{clear_at, old_or_clear}
 use Rattle.ste_engine.proofs.firsts.Firsts.with_time.Goals as goal

@@ -1,19 +1,10 @@
--- From the functions of the results to the verdict, and from what calls leave to what the engine answers.
-use Rattle.std.proofs.Common.{◌≡◌, ◌≢◌, ℕ, zero, suc, ◌<◌, ◌+◌, Bool, true, false, List, [], ◌∷◌, length, arith, sym, ap, refl, subst, ◌∙◌, inl, inr, All}
-use Rattle.std.specs.Prelude.{◌⊎◌, IsSome}
-use Rattle.std.specs.List.{AllPairs}
+-- From the functions of the results to the verdict.
+use Rattle.std.proofs.Common.{◌≡◌, ℕ, zero, suc, Bool, true, false, List, [], ◌∷◌, length, arith, sym, ap, refl, subst, ◌∙◌, inl, inr}
+use Rattle.std.specs.Prelude.{◌⊎◌}
 use Rattle.dd_nodes.specs.declared.node.Ref.{Ref}
 use Rattle.dd_nodes.specs.Diagram.{Function}
 use Rattle.dd_nodes.specs.Stores.{Store, function}
-use Rattle.dd_nodes.specs.Spending.{Spends}
-use Rattle.dd_nodes.proofs.Spending.{too_few}
-use Rattle.dd_nodes.proofs.Stores.{IsGood}
-use Rattle.net_core.specs.declared.raw.RawNet.{RawNet}
-use Rattle.net_core.specs.Work.{SymbolicSet}
-use Rattle.ste_model.specs.declared.task.Assertion.{Assertion}
 use Rattle.ste_model.specs.Assignments.{EachAssignment, SomeAssignment, Tells}
-use Rattle.ste_model.specs.Need.{IsNeed, IsWholeTable}
-use Rattle.ste_model.specs.Work.{task_work}
 
 -- some assignment has the bit, or none has
 both_halves : (v : ℕ) (f : Function) → ((bits : List Bool) × (length bits ≡ v) × (f (false ∷ bits) ≡ true)) ⊎ ((bits : List Bool) → length bits ≡ v → f (false ∷ bits) ≡ false)
@@ -55,10 +46,3 @@ module _ (t : Store) (r : Ref) (P : List Bool → Type 0) (is : Tells t.vars (fu
 
   pub not_each : (((bits : List Bool) → length bits ≡ t.vars → function t r bits ≡ true) → ⊥) → ¬ EachAssignment t.vars P
   not_each some each = some (λ bits l. (is bits l).1 (each bits l))
-
--- where steps are out, fewer were left than the assertion needs
-pub short : (net : RawNet) (task : Assertion) (s t : Store) → IsGood t → AllPairs (λ a b. a ≢ b) t.made → All (λ r. IsSome (t.held r)) t.made
-    → ((table : ℕ → ℕ → SymbolicSet) → IsWholeTable net s.vars task table → Spends (task_work net task table) s t (Unit {0}))
-    → (need : ℕ) → IsNeed net s.vars task need → s.limit < length s.made + need
-short net task s t d apart held left need (table, whole, is) =
-    subst (λ n. s.limit < length s.made + n) (sym is) (too_few (task_work net task table) s t (Unit {0}) d apart held (left table whole) tt)

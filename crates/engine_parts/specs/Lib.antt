@@ -1,0 +1,4 @@
+pub mod Failing
+pub mod Latches
+pub mod Refuting
+pub mod Reporting
