@@ -1,8 +1,7 @@
 //! What `run` writes and answers for words of every kind: the counts of a net, simulations, options, refusals of words.
 
-use crate::fixture::{Failing, Fixture, NONE, NOTHING, compare};
-use crate::hierarchies::TWICE;
-use crate::tests::{INVERTER, INVERTS};
+use program_fixture::texts::{INVERTER, INVERTS, TWICE};
+use program_fixture::{Failing, Fixture, NONE, NOTHING, run_on};
 use std::alloc::{AllocError, Global};
 use std::process::Abort;
 use std::test::Fail;
@@ -17,6 +16,21 @@ const LATCH: &str = ".model l\n.inputs d\n.outputs q\n.latch d q 1\n.end\n";
 
 const TWO_TASKS: &str = ".ste e\n.end\n.ste f\n.end\n";
 
+/// Runs the program on a fixture, and compares what it answers and writes.
+fn compare(
+    rt: &(impl Abort + Threads + Sync),
+    alloc: Global,
+    fixture: &mut Fixture,
+    status: Status,
+    out: &str,
+    err: &str,
+    what: &str,
+) {
+    let found = run_on(rt, alloc, fixture, &NoGate);
+    let written = (found, fixture.out(), fixture.err());
+    assert_eq!(rt; written, (status, out.as_bytes(), err.as_bytes()), "{what}");
+}
+
 /// Runs the program on the files `n` and `s`, and compares what it answers and writes.
 fn expect(
     rt: &(impl Abort + Threads + Sync),
@@ -30,7 +44,7 @@ fn expect(
 ) -> Result<(), AllocError> {
     let files = &[("n", net.as_bytes()), ("s", second.as_bytes())];
     let mut fixture = Fixture::new(alloc, words, files, 200, 200, NOTHING)?;
-    compare(rt, alloc, &mut fixture, &NoGate, status, out, err, second);
+    compare(rt, alloc, &mut fixture, status, out, err, second);
     Ok(())
 }
 
@@ -319,16 +333,7 @@ fn a_large_file(rt: HostRuntime) -> Result<(), Fail> {
         NOTHING,
     )?;
     let out = "model inv\nnets 2\ninputs 1\nfree 0\ngates 1\nlatches 0\n";
-    compare(
-        &rt,
-        alloc,
-        &mut fixture,
-        &NoGate,
-        Status::Passed,
-        out,
-        "",
-        out,
-    );
+    compare(&rt, alloc, &mut fixture, Status::Passed, out, "", out);
     Ok(())
 }
 
@@ -354,16 +359,7 @@ fn a_long_simulation(rt: HostRuntime) -> Result<(), Fail> {
     let files = &[("n", LONG.as_bytes()), ("s", inputs.as_bytes())];
     let mut fixture = Fixture::new(alloc, "sim n s", files, 20000, 500, NOTHING)?;
     let what = "a long simulation";
-    compare(
-        &rt,
-        alloc,
-        &mut fixture,
-        &NoGate,
-        Status::Passed,
-        &out,
-        "",
-        what,
-    );
+    compare(&rt, alloc, &mut fixture, Status::Passed, &out, "", what);
     Ok(())
 }
 
@@ -380,16 +376,7 @@ fn expect_fault(
 ) -> Result<(), AllocError> {
     let files = &[("n", net.as_bytes()), ("s", second.as_bytes())];
     let mut fixture = Fixture::new(alloc, words, files, 200, 200, failing)?;
-    compare(
-        rt,
-        alloc,
-        &mut fixture,
-        &NoGate,
-        Status::Faulted,
-        "",
-        err,
-        err,
-    );
+    compare(rt, alloc, &mut fixture, Status::Faulted, "", err, err);
     Ok(())
 }
 

@@ -1,7 +1,7 @@
 //! Tasks shared out to workers: the same reports for any number of them, the number of shared nodes, and that two workers meet.
 
-use crate::fixture::{Fixture, NOTHING, run_on};
-use crate::tests::{INVERTER, INVERTS};
+use program_fixture::texts::{INVERTER, INVERTS};
+use program_fixture::{Fixture, NOTHING, run_on};
 use std::alloc::{AllocError, Global};
 use std::process::Abort;
 use std::sync::atomic::{AtomicU64, Ordering};

@@ -1,23 +1,15 @@
-//! Tests of the stores of nodes, of the operations on diagrams, of the questions to them, and of sets of bits as pairs of
-//! diagrams. Nothing else is here, so that each crate below is proved once.
+//! Tests of the operations on diagrams, of the questions to them, and of sets of bits as pairs of diagrams. Nothing else is
+//! here, so that each crate below is proved once.
 #![tactic(auto)]
 
 #[cfg(test)]
 mod bound;
 #[cfg(test)]
-mod growing_store;
-#[cfg(test)]
-mod made_once;
-#[cfg(test)]
 mod operations;
-#[cfg(test)]
-mod plain_store;
 #[cfg(test)]
 mod questions;
 #[cfg(test)]
 mod rails;
-#[cfg(test)]
-mod shared_table;
 #[cfg(test)]
 mod shelf;
 #[cfg(test)]

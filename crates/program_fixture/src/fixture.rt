@@ -3,7 +3,6 @@
 ghost use Rattle.std.specs.Prelude.{◌<◌};
 
 use std::alloc::{AllocError, Global};
-use std::process::Abort;
 use std::thread::Threads;
 use ste_io::{MemoryFiles, MemorySink};
 use ste_program::run::{Status, run};
@@ -87,11 +86,11 @@ impl Fixture {
 }
 
 /// Runs the program on a fixture.
-pub fn run_on(
-    rt: &(impl Abort + Threads + Sync),
+pub fn run_on<R: Threads + Sync, G: Gate + Sync>(
+    rt: &R,
     alloc: Global,
     fixture: &mut Fixture,
-    gate: &(impl Gate + Sync),
+    gate: &G,
 ) -> Status {
     run(
         rt,
@@ -102,21 +101,4 @@ pub fn run_on(
         &mut fixture.errors,
         gate,
     )
-}
-
-/// Runs the program on a fixture, and compares what it answers and writes.
-pub fn compare(
-    rt: &(impl Abort + Threads + Sync),
-    alloc: Global,
-    fixture: &mut Fixture,
-    gate: &(impl Gate + Sync),
-    status: Status,
-    out: &str,
-    err: &str,
-    what: &str,
-) {
-    let found = run_on(rt, alloc, fixture, gate);
-    assert_eq!(rt; fixture.out(), out.as_bytes(), "{what}");
-    assert_eq!(rt; fixture.err(), err.as_bytes(), "{what}");
-    assert_eq!(rt; found, status, "{what}");
 }

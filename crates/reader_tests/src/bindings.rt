@@ -7,11 +7,12 @@ use crate::words::add_word;
 use assert_syntax::read_tasks;
 use blif_lines::logical_lines;
 use bool_expr::{Expr, value};
+use net_core::Resolve;
 use std::alloc::{AllocError, Global};
 use std::test::Fail;
 use ste_base::{Name, NodeId};
 use ste_model::{Bind, Edge, Quint, Task, Tasks};
-use task_binding::{BindFault, Resolve, bind_tasks};
+use task_binding::{BindFault, bind_tasks};
 
 /// Names of three nets: `a`, `n/b` and `=`.
 struct Three {

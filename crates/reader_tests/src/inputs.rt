@@ -7,12 +7,11 @@ ghost use Rattle.net_core.specs.Flat.{HasOneDriver, IsInRange};
 use crate::words::add_word;
 use blif_lines::logical_lines;
 use clock_step::{InputFault, read_inputs, simulate};
-use net_core::{Cover, Gate, Init, Latch, Lit, Net, RawNet, order};
+use net_core::{Cover, Gate, Init, Latch, Lit, Net, RawNet, Resolve, order};
 use std::alloc::{AllocError, Global};
 use std::process::Abort;
 use std::test::Fail;
 use ste_base::{Items, Name, NodeId};
-use task_binding::Resolve;
 
 /// Texts, and what they are answered with: the bits of q, w, r and q again at each time, or the fault.
 const ROWS: &[(&[u8], &[u8])] = &[

@@ -1,13 +1,11 @@
 //! Hierarchies: what is checked over their inner nets, and each refusal with its line.
 
 use crate::tests::expect;
+use program_fixture::texts::TWICE;
 use std::alloc::{AllocError, Global};
 use std::process::Abort;
 use std::test::Fail;
 use ste_program::run::Status;
-
-pub const TWICE: &str =
-    ".model top\n.inputs a\n.outputs y\n.subckt mid a=a b=a y=m\n.subckt mid a=m b=a y=y\n.end\n.model mid\n.inputs a b\n.outputs y\n.subckt nor2 p=a q=b r=n\n.names n y\n0 1\n.end\n.model nor2\n.inputs p q\n.outputs r\n.names p q r\n00 1\n.end\n";
 
 #[test]
 fn hierarchies_that_are_checked(rt: HostRuntime) -> Result<(), Fail> {

@@ -1,11 +1,7 @@
-//! Tests of the top call over files and sinks in memory: they compare what it writes and answers with answers from
-//! outside. Nothing else is here, so that `ste_program` itself is proved once.
+//! Tests of the top call on texts: over files and sinks in memory they compare what it writes and answers on netlists and
+//! tasks with answers from outside. Nothing else is here, so that `ste_program` itself is proved once.
 #![tactic(auto)]
 
-#[cfg(test)]
-mod commands;
-#[cfg(test)]
-mod fixture;
 #[cfg(test)]
 mod hierarchies;
 #[cfg(test)]
@@ -14,5 +10,3 @@ mod orders;
 mod task_files;
 #[cfg(test)]
 mod tests;
-#[cfg(test)]
-mod workers;

@@ -1,6 +1,7 @@
 //! Task files over small netlists: what is read of them, and each refusal with its line.
 
-use crate::tests::{INVERTER, INVERTS, LATCH, expect};
+use crate::tests::expect;
+use program_fixture::texts::{INVERTER, INVERTS, LATCH};
 use std::alloc::{AllocError, Global};
 use std::process::Abort;
 use std::test::Fail;

@@ -1,6 +1,7 @@
 //! What `run` writes and answers, on worked examples, faulty texts and failing files and sinks.
 
-use crate::fixture::{Failing, Fixture, NONE, NOTHING, compare, run_on};
+use program_fixture::texts::{INVERTER, INVERTS, LATCH};
+use program_fixture::{Failing, Fixture, NONE, NOTHING, run_on};
 use std::alloc::{AllocError, Global};
 use std::process::Abort;
 use std::test::Fail;
@@ -8,13 +9,6 @@ use std::thread::Threads;
 use ste_base::{NumberFault, read_number};
 use ste_program::run::Status;
 use work_pool::NoGate;
-
-pub const INVERTER: &str = ".model inv\n.inputs a\n.outputs y\n.names a y\n0 1\n.end\n";
-
-pub const INVERTS: &str =
-    ".vars p\n.ste t1\n.ant a = p from 0 to 1\n.con y = !p from 0 to 1\n.end\n";
-
-pub const LATCH: &str = ".model l\n.inputs d\n.outputs q\n.latch d q\n.end\n";
 
 const MUX: &str = ".model mux\n.inputs s a b\n.outputs y\n.names s a b y\n01- 1\n1-1 1\n.end\n";
 
@@ -29,6 +23,21 @@ const SHIFT: &str =
 
 const TOGGLE: &str = ".model toggle\n.inputs\n.outputs q\n.names q n\n0 1\n.latch n q\n.end\n";
 
+/// Runs the program on a fixture, and compares what it answers and writes.
+fn compare(
+    rt: &(impl Abort + Threads + Sync),
+    alloc: Global,
+    fixture: &mut Fixture,
+    status: Status,
+    out: &str,
+    err: &str,
+    what: &str,
+) {
+    let found = run_on(rt, alloc, fixture, &NoGate);
+    let written = (found, fixture.out(), fixture.err());
+    assert_eq!(rt; written, (status, out.as_bytes(), err.as_bytes()), "{what}");
+}
+
 /// Runs a check of the files `n` and `t`, and compares what it answers and writes.
 pub fn expect(
     rt: &(impl Abort + Threads + Sync),
@@ -41,7 +50,7 @@ pub fn expect(
 ) -> Result<(), AllocError> {
     let files = &[("n", net.as_bytes()), ("t", task.as_bytes())];
     let mut fixture = Fixture::new(alloc, "check n t", files, 200, 3, NOTHING)?;
-    compare(rt, alloc, &mut fixture, &NoGate, status, out, err, task);
+    compare(rt, alloc, &mut fixture, status, out, err, task);
     Ok(())
 }
 
@@ -416,7 +425,7 @@ fn what_fails(rt: HostRuntime) -> Result<(), Fail> {
     let files = &[("n", INVERTER.as_bytes()), ("t", INVERTS.as_bytes())];
     for (failing, room, status, out, err) in FAILING {
         let mut fixture = Fixture::new(alloc, "check n t", files, *room, 4, failing)?;
-        compare(&rt, alloc, &mut fixture, &NoGate, *status, out, err, err);
+        compare(&rt, alloc, &mut fixture, *status, out, err, err);
     }
     Ok(())
 }
@@ -442,16 +451,7 @@ fn expect_with(
 ) -> Result<(), AllocError> {
     let files = &[("n", INVERTER.as_bytes()), ("t", INVERTS.as_bytes()), file];
     let mut fixture = Fixture::new(alloc, "check n t", files, 100, 100, NOTHING)?;
-    compare(
-        rt,
-        alloc,
-        &mut fixture,
-        &NoGate,
-        Status::Refused,
-        "",
-        err,
-        err,
-    );
+    compare(rt, alloc, &mut fixture, Status::Refused, "", err, err);
     Ok(())
 }
 
@@ -486,7 +486,6 @@ fn an_output_that_fails_within_a_line(rt: HostRuntime) -> Result<(), Fail> {
         &rt,
         alloc,
         &mut fixture,
-        &NoGate,
         Status::Faulted,
         out,
         CANNOT_WRITE,

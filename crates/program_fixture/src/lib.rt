@@ -1,0 +1,8 @@
+//! What the tests of the top call stand on: words, files and sinks in memory for one run of the program, and texts that
+//! several tests use. Begin with `Fixture`.
+#![tactic(auto)]
+
+pub mod fixture;
+pub mod texts;
+
+pub use fixture::{Failing, Fixture, NONE, NOTHING, run_on};
