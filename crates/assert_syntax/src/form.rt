@@ -3,7 +3,7 @@
 use ste_base::{Name, Time};
 
 /// What is wrong with a faulty line.
-#[derive(Debug, Drop)]
+#[derive(Drop)]
 pub enum LineFault {
     /// It has no form, stands where it may not, or has a text for an expression that is none.
     Bad,
@@ -18,14 +18,14 @@ pub enum LineFault {
 }
 
 /// Which part of a task a clause belongs to: what is given, or what has to follow.
-#[derive(Clone, Copy, Debug, PartialEq, Eq)]
+#[derive(Clone, Copy, PartialEq, Eq)]
 pub enum Side {
     Antecedent,
     Consequent,
 }
 
 /// What a word says as a time.
-#[derive(Clone, Copy, Debug, PartialEq, Eq)]
+#[derive(Clone, Copy, PartialEq, Eq)]
 pub enum Moment {
     /// A time of at most 10,000.
     At(Time),
@@ -36,7 +36,7 @@ pub enum Moment {
 }
 
 /// The times of a clause.
-#[derive(Clone, Copy, Debug, PartialEq, Eq)]
+#[derive(Clone, Copy, PartialEq, Eq)]
 pub enum Span {
     /// The clause has none.
     Absent,
@@ -47,7 +47,7 @@ pub enum Span {
 }
 
 /// The guard of a clause.
-#[derive(Clone, Copy, Debug)]
+#[derive(Clone, Copy)]
 pub enum Guard<'a> {
     /// There is none: it is 1.
     Absent,
@@ -56,7 +56,7 @@ pub enum Guard<'a> {
 }
 
 /// A line of an antecedent or of a consequent, over the words of its line. The text of its value may be no expression.
-#[derive(Clone, Copy, Debug)]
+#[derive(Clone, Copy)]
 pub struct Clause<'a> {
     pub side: Side,
     pub node: &'a Name,
@@ -66,7 +66,7 @@ pub struct Clause<'a> {
 }
 
 /// What the words of a line spell, wherever the line stands, over these words.
-#[derive(Clone, Copy, Debug)]
+#[derive(Clone, Copy)]
 pub enum Form<'a> {
     /// A line that declares these variables.
     Vars(&'a [Name]),

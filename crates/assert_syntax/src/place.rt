@@ -7,7 +7,7 @@ ghost use Rattle.assert_syntax.specs.private.Held.{form_held};
 use crate::form::{Form, Span};
 
 /// Where in a task file a line stands, by the lines before it.
-#[derive(Clone, Copy, Debug, PartialEq, Eq)]
+#[derive(Clone, Copy, PartialEq, Eq)]
 pub enum Place {
     /// Before the first task.
     Start,

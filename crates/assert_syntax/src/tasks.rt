@@ -7,7 +7,7 @@ use ste_base::{Items, Name, Time};
 
 /// Where the guard is 1, the node has the value's bit at each time step from `from` up to, but not at, `to`. `line` is
 /// the number of its line.
-#[derive(Debug, Drop)]
+#[derive(Drop)]
 pub struct RawQuint {
     pub line: u32,
     pub guard: Expr,
@@ -18,7 +18,7 @@ pub struct RawQuint {
 }
 
 /// Where the guard is 1, the node has the value's bit at the edge's time step. `line` is the number of its line.
-#[derive(Debug, Drop)]
+#[derive(Drop)]
 pub struct RawBind {
     pub line: u32,
     pub guard: Expr,
@@ -28,7 +28,7 @@ pub struct RawBind {
 
 /// An edge of a graph: the number of its line, the places of its two ends among the vertices, and what it gives and
 /// asks, in order.
-#[derive(Debug, Drop)]
+#[derive(Drop)]
 pub struct RawEdge {
     pub line: u32,
     pub from: u32,
@@ -38,7 +38,7 @@ pub struct RawEdge {
 }
 
 /// A task: the number of its first line, its name, and whether latches begin with their initial values.
-#[derive(Debug, Drop)]
+#[derive(Drop)]
 pub enum RawTask {
     /// What is given and what has to follow, each in the order of the lines.
     Ste {
@@ -59,7 +59,7 @@ pub enum RawTask {
 }
 
 /// The tasks of a file, at most 256, and the variables that it declares, at most 1,000, each in order.
-#[derive(Debug, Drop)]
+#[derive(Drop)]
 pub struct RawTasks {
     pub vars: Items<Name>,
     pub tasks: Items<RawTask>,

@@ -8,7 +8,7 @@ use std::test::Fail;
 
 /// A list of hop numbers below 4: its length, and the numbers as digits to the base 4, the first one in front. Of lists of
 /// one length the least has the least code.
-#[derive(Clone, Copy, Debug, PartialEq, Eq)]
+#[derive(Clone, Copy, PartialEq, Eq)]
 struct Numbers {
     length: usize,
     code: u32,

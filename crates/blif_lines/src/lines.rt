@@ -8,7 +8,7 @@ use std::alloc::{AllocError, Global};
 use ste_base::{Items, Name};
 
 /// A logical line of a text.
-#[derive(Debug, Drop)]
+#[derive(Drop)]
 pub struct Line {
     /// The number of its first physical line, from 1.
     pub number: u32,

@@ -12,7 +12,7 @@ use std::alloc::{AllocError, Global};
 use ste_base::{Items, Name};
 
 /// A cover whose rows are being read.
-#[derive(Debug, Drop)]
+#[derive(Drop)]
 pub struct Pending {
     /// The number of its `.names` line.
     pub line: u32,
@@ -23,7 +23,7 @@ pub struct Pending {
 }
 
 /// What is read so far: the models that are ended, the one that is open, and its last cover, where rows may follow.
-#[derive(Debug, Drop)]
+#[derive(Drop)]
 pub struct Draft {
     pub models: Items<Model>,
     pub model: Option<Model>,

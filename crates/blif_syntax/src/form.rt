@@ -10,7 +10,7 @@ use net_core::Row;
 use ste_base::{Items, Name};
 
 /// What is wrong with a faulty line.
-#[derive(Debug, Drop)]
+#[derive(Drop)]
 pub enum LineFault {
     /// It has no form, or stands where it may not.
     Bad,
@@ -21,7 +21,7 @@ pub enum LineFault {
 }
 
 /// What the words of a line spell, wherever the line stands.
-#[derive(Debug, Drop)]
+#[derive(Drop)]
 pub enum Form {
     /// A line that is skipped unread.
     Skipped,
@@ -40,7 +40,7 @@ pub enum Form {
 }
 
 /// A line with its form.
-#[derive(Debug, Drop)]
+#[derive(Drop)]
 pub struct Entry {
     /// The line's number, from 1.
     pub line: u32,

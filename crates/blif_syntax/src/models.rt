@@ -6,7 +6,7 @@ use net_core::{Cover, Init};
 use ste_base::{Items, Name};
 
 /// When a latch takes a step, as its line says: it has no type, or the type `re` or `fe`.
-#[derive(Clone, Copy, Debug, PartialEq, Eq)]
+#[derive(Clone, Copy, PartialEq, Eq)]
 pub enum LatchKind {
     Plain,
     Rising,
@@ -14,7 +14,7 @@ pub enum LatchKind {
 }
 
 /// What a line of a model says.
-#[derive(Debug, Drop)]
+#[derive(Drop)]
 pub enum What {
     /// The words of an `.inputs` line, in order.
     Inputs(Items<Name>),
@@ -44,14 +44,14 @@ pub enum What {
 }
 
 /// What a line says, with the line's number, from 1.
-#[derive(Debug, Drop)]
+#[derive(Drop)]
 pub struct Item {
     pub line: u32,
     pub what: What,
 }
 
 /// A model: the number of its `.model` line, its name, which may be empty, and its items in order.
-#[derive(Debug, Drop)]
+#[derive(Drop)]
 pub struct Model {
     pub line: u32,
     pub name: Name,
@@ -59,7 +59,7 @@ pub struct Model {
 }
 
 /// The models of a netlist, in order. There is at least one, and the first is the top.
-#[derive(Debug, Drop)]
+#[derive(Drop)]
 pub struct Models {
     pub models: Items<Model>,
     ghost some: { 0 < length models },

@@ -3,7 +3,7 @@
 use std::marker::Model;
 
 /// What a command does.
-#[derive(Debug, Drop)]
+#[derive(Drop)]
 pub enum Action<'a> {
     /// Checks every task of the file `tasks` on the netlist of the file `net`.
     Check { net: &'a str, tasks: &'a str },
@@ -16,7 +16,7 @@ pub enum Action<'a> {
 }
 
 /// What the words ask for.
-#[derive(Debug, Drop)]
+#[derive(Drop)]
 pub struct Command<'a> {
     /// What is done.
     pub action: Action<'a>,

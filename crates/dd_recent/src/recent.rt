@@ -7,7 +7,7 @@ use dd_nodes::{Operator, Ref};
 use std::alloc::Global;
 
 /// What an operator makes of three references.
-#[derive(Clone, Copy, Debug, Drop)]
+#[derive(Clone, Copy, Drop)]
 pub struct Joined {
     pub operator: Operator,
     pub first: Ref,
@@ -28,7 +28,7 @@ const NOTHING: Joined = Joined {
 /// Some of the results that were put here. Each has one place, which the operator and the references give, and takes it
 /// from what stood there. Where many were put the places become more, and all is forgotten. It takes no memory before the
 /// first one.
-#[derive(Debug, Drop)]
+#[derive(Drop)]
 pub struct Recent {
     entries: Option<Vec<Joined>>,
     count: usize,

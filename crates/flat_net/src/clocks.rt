@@ -16,7 +16,7 @@ use ste_base::Name;
 
 /// A latch: its line, its output's net, whether its type is `re`, where it has one, and its
 /// control's net, where it has one.
-#[derive(Clone, Copy, Debug)]
+#[derive(Clone, Copy)]
 pub(crate) struct Clock {
     pub(crate) line: u32,
     pub(crate) net: u32,
@@ -87,7 +87,7 @@ fn controls_differ(one: Option<u32>, other: Option<u32>) -> bool
 }
 
 /// What latches have so far: the first type and the first control, where there are any.
-#[derive(Clone, Copy, Debug)]
+#[derive(Clone, Copy)]
 pub(crate) struct Clocks {
     pub(crate) rising: Option<bool>,
     pub(crate) control: Option<u32>,

@@ -2,7 +2,7 @@
 
 /// An edge under one assignment: the vertices at its ends, whether it is feasible, and whether, where it is, a consequent of
 /// it fails.
-#[derive(Clone, Copy, Debug, PartialEq, Eq, Drop)]
+#[derive(Clone, Copy, PartialEq, Eq, Drop)]
 pub struct Hop {
     pub from: u32,
     pub to: u32,

@@ -16,7 +16,7 @@ use ste_model::{Bind, Edge, Graph};
 use sym_step::GateRows;
 
 /// An expression over one variable p.
-#[derive(Clone, Copy, Debug, Drop)]
+#[derive(Clone, Copy, Drop)]
 pub enum Value {
     Zero,
     One,

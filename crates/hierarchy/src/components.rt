@@ -7,7 +7,7 @@ use std::alloc::{AllocError, Global};
 use ste_base::Items;
 
 /// How far the search has got with a model.
-#[derive(Clone, Copy, Debug, PartialEq, Eq)]
+#[derive(Clone, Copy, PartialEq, Eq)]
 enum State {
     /// It was not met yet.
     New,
@@ -18,7 +18,7 @@ enum State {
 }
 
 /// A use that is still to be followed: the place on the path of the model that uses, and the model that is used.
-#[derive(Clone, Copy, Debug, PartialEq, Eq)]
+#[derive(Clone, Copy, PartialEq, Eq)]
 struct Pending {
     place: usize,
     used: usize,

@@ -13,7 +13,7 @@ use std::alloc::{AllocError, Global};
 use ste_base::Name;
 
 /// What is counted: the nets, or the size.
-#[derive(Clone, Copy, Debug, PartialEq, Eq)]
+#[derive(Clone, Copy, PartialEq, Eq)]
 pub(crate) enum Measure {
     Nets,
     Size,

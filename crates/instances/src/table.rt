@@ -11,7 +11,7 @@ use std::alloc::{AllocError, Global};
 use ste_base::Items;
 
 /// An instance: the row of the instance above it, none for the top, its number there, and the number of its model.
-#[derive(Clone, Copy, Debug)]
+#[derive(Clone, Copy)]
 pub struct Row {
     pub above: Option<usize>,
     pub number: usize,

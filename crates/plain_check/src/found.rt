@@ -15,7 +15,7 @@ use ste_base::{Items, Time};
 use ste_model::{Bind, Quint};
 
 /// What is found under one assignment.
-#[derive(Clone, Copy, Debug, PartialEq, Eq)]
+#[derive(Clone, Copy, PartialEq, Eq)]
 pub enum Outcome {
     Contradictory,
     Strong,
@@ -44,7 +44,7 @@ impl Outcome {
 }
 
 /// How a value fails on a set: strongly where the set is exactly the opposite bit, weakly where it has both bits.
-#[derive(Clone, Copy, Debug, PartialEq, Eq)]
+#[derive(Clone, Copy, PartialEq, Eq)]
 pub enum Failure {
     Strong,
     Weak,

@@ -19,7 +19,7 @@ use ste_model::Graph;
 
 /// What a failure shows: the numbers of the path's edges, the time of its last edge, and the number of the first consequent
 /// of that edge that fails.
-#[derive(Debug, Drop)]
+#[derive(Drop)]
 pub struct Shown {
     pub path: Items<usize>,
     pub time: usize,
@@ -27,7 +27,7 @@ pub struct Shown {
 }
 
 /// What is found of a graph under one assignment, and for a failure what it shows.
-#[derive(Debug, Drop)]
+#[derive(Drop)]
 pub struct GraphFound {
     pub outcome: Outcome,
     pub shown: Option<Shown>,

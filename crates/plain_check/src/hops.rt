@@ -16,7 +16,7 @@ use ste_model::{Edge, Graph};
 
 /// What is known of an edge under one assignment: its ends, whether it is feasible, and whether some consequent of it is
 /// found strong, and found weak.
-#[derive(Clone, Copy, Debug, PartialEq, Eq)]
+#[derive(Clone, Copy, PartialEq, Eq)]
 pub struct Hop {
     pub from: u32,
     pub to: u32,

@@ -18,7 +18,7 @@ use ste_base::Items;
 use ste_model::{Edge, Graph};
 
 /// What a table says of a vertex: whether it is reached, and what each latch holds there.
-#[derive(Debug, Drop)]
+#[derive(Drop)]
 pub struct State {
     pub reached: bool,
     pub latches: Items<BitSet>,

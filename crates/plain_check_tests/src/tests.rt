@@ -95,7 +95,7 @@ fn first_values(rt: HostRuntime) -> Result<(), Fail> {
 }
 
 /// The bit that is asked for, over one variable p.
-#[derive(Clone, Copy, Debug, Drop)]
+#[derive(Clone, Copy, Drop)]
 enum Value {
     Zero,
     One,

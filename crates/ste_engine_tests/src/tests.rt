@@ -20,7 +20,7 @@ use ste_model::{Assertion, CubeList, Quint, Report, Run, Verdict};
 use sym_step::GateRows;
 
 /// An expression over two variables.
-#[derive(Clone, Copy, Debug, Drop)]
+#[derive(Clone, Copy, Drop)]
 enum Value {
     Zero,
     One,

@@ -5,7 +5,7 @@ ghost use Rattle.ste_io.specs.Outside.{FilesState, IsFetched, WhyNotFetched};
 use std::alloc::Global;
 
 /// Why a file was not fetched.
-#[derive(Clone, Copy, Debug, PartialEq, Eq)]
+#[derive(Clone, Copy, PartialEq, Eq)]
 pub enum FetchFault {
     /// Reading failed; a name that is not there is such a fault.
     Failed,

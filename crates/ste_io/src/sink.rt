@@ -3,7 +3,7 @@ ghost use Rattle.std.specs.Prelude.{◌≡◌, ◌≤◌, ◌<◌, length, take,
 ghost use Rattle.ste_io.specs.Outside.{SinkState, WriteFailed, took};
 
 /// The sink failed, and took nothing of the piece.
-#[derive(Clone, Copy, Debug, PartialEq, Eq)]
+#[derive(Clone, Copy, PartialEq, Eq)]
 pub struct SinkFailed;
 
 /// What takes bytes, as an output does.
@@ -20,7 +20,7 @@ pub trait Sink {
 }
 
 /// The sink failed after this many bytes.
-#[derive(Clone, Copy, Debug, PartialEq, Eq)]
+#[derive(Clone, Copy, PartialEq, Eq)]
 pub struct WriteFault {
     pub sent: usize,
 }

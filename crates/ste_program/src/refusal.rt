@@ -12,7 +12,7 @@ use ste_base::Name;
 use task_binding::BindFault;
 
 /// Which file of a command.
-#[derive(Clone, Copy, Debug, PartialEq, Eq)]
+#[derive(Clone, Copy, PartialEq, Eq)]
 pub enum File {
     /// The netlist's.
     Net,
@@ -22,7 +22,7 @@ pub enum File {
 
 /// Why there is no report. Each refusal has one line on the error sink. The faults that are carried are never want of memory,
 /// which is `OutOfMemory`.
-#[derive(Debug, Drop)]
+#[derive(Drop)]
 pub enum Refusal {
     /// The words are no command.
     Usage,

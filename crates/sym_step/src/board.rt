@@ -11,7 +11,7 @@ use dd_nodes::Ref;
 /// The sets of all nets; a mark for each gate, and behind these one for each latch, of which an input or the output has got
 /// another set; for each net which gates and latches these are; and whether all nets have a bit everywhere, which is so
 /// where `full` says it.
-#[derive(Debug, Drop)]
+#[derive(Drop)]
 pub struct Board {
     pub nets: Vec<NetRails>,
     pub due: Marks,

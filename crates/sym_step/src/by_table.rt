@@ -223,7 +223,7 @@ const MOST_STEPS: u32 = 1024;
 
 /// Scratch that the recursion by tables takes, and that is used again at the next gate: a stack of inputs' sets with their
 /// halves, and what was found. What it holds between gates says nothing.
-#[derive(Debug, Drop)]
+#[derive(Drop)]
 pub struct Scratch {
     pub stack: Vec<Rails>,
     pub met: Met,

@@ -21,7 +21,7 @@ const MOST_INPUTS: u32 = 3;
 /// For a cover of at most three inputs, whether its gate can be 0, and whether it can be 1, for each choice of constant
 /// sets of the inputs: a bit of a word for each choice. The digits of a choice to the base 4, from the lowest on, are the
 /// sets of the inputs, from the first on: 1 where a set has 0, and 2 more where it has 1.
-#[derive(Clone, Copy, Debug, Drop)]
+#[derive(Clone, Copy, Drop)]
 pub struct Choices {
     pub can0: u64,
     pub can1: u64,

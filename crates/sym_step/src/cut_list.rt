@@ -12,7 +12,7 @@ use std::marker::Model;
 /// Where the cuts of each net stand in a list: a mark for each net of which there is a cut, the place of its first one, and
 /// for each cut the place of the next one of the same net, or the number of cuts. The place of a net without a mark says
 /// nothing.
-#[derive(Debug, Drop)]
+#[derive(Drop)]
 pub struct CutLinks {
     pub marks: Vec<bool>,
     pub first: Vec<usize>,

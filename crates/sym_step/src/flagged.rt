@@ -11,7 +11,7 @@ use dd_nodes::Ref;
 use dual_rail::Rails;
 
 /// A set between its cuts. One that is `known` has exactly one bit under each assignment.
-#[derive(Clone, Copy, Debug, PartialEq, Eq, Drop)]
+#[derive(Clone, Copy, PartialEq, Eq, Drop)]
 pub struct FlaggedRails {
     pub rails: Rails,
     pub known: bool,

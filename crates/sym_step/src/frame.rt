@@ -28,7 +28,7 @@ use ste_base::{Items, NodeId};
 /// another it is listed which gates and latches read a net or drive it, and one is due only where an input or its output has
 /// another set than before, or its output is cut now or was before; any other keeps its output's set. A frame that begins
 /// anew has its lists laid by (`spare`). `vectors` are used again at each time.
-#[derive(Debug, Drop)]
+#[derive(Drop)]
 pub struct Frame {
     pub(crate) board: Board,
     pub(crate) asked: Vec<NodeId>,

@@ -320,7 +320,7 @@ fn by_rows<N: Nodes>(
 }
 
 /// What is clear of several nets: that each has some bit everywhere, and that each has exactly one.
-#[derive(Clone, Copy, Debug, PartialEq, Eq, Drop)]
+#[derive(Clone, Copy, PartialEq, Eq, Drop)]
 pub struct Filling {
     pub full: bool,
     pub known: bool,

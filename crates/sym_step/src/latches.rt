@@ -16,7 +16,7 @@ use std::alloc::AllocError;
 use ste_base::NodeId;
 
 /// The set that the output of a latch gets, before any cut of it, and the set that the latch's input had at the time before.
-#[derive(Clone, Copy, Debug, Drop)]
+#[derive(Clone, Copy, Drop)]
 pub struct LatchSet {
     pub output: NodeId,
     pub rails: Rails,

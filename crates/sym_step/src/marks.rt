@@ -15,7 +15,7 @@ const BLOCK: usize = 64;
 /// into blocks of 64, with a word of bits for each block, as are the latches. Where the bit of a place is 0 its gate has no
 /// mark, and where that of a latch is 0 the latch has none, so the next mark is found by words. A gate or latch takes a byte
 /// and a bit, and a gate 8 bytes more.
-#[derive(Debug, Drop)]
+#[derive(Drop)]
 pub struct Marks {
     pub(crate) flags: Vec<bool>,
     pub(crate) order: Vec<u32>,

@@ -10,7 +10,7 @@ use dual_rail::Rails;
 use std::alloc::{AllocError, Global};
 
 /// The set that was found for tables and the references of inputs, which begin at a place of a list.
-#[derive(Clone, Copy, Debug, Drop)]
+#[derive(Clone, Copy, Drop)]
 pub struct Entry {
     pub tables: Tables,
     pub begin: usize,
@@ -19,7 +19,7 @@ pub struct Entry {
 
 /// The sets that were found for one gate, and the references that they are for, all in one list. Each has a slot by its tables
 /// and references, and takes it from what stood there. It takes no memory before the first gate.
-#[derive(Debug, Drop)]
+#[derive(Drop)]
 pub struct Met {
     pub slots: Vec<u32>,
     pub entries: Vec<Entry>,

@@ -13,7 +13,7 @@ use net_core::Lit;
 
 /// The set of a net: it has 0 where `can0` is 1, 1 where `can1` is 1, and some bit where `some` is 1. For nearly all nets
 /// `some` is the constant 1. A net that is `known` has exactly one bit under each assignment.
-#[derive(Clone, Copy, Debug, PartialEq, Eq, Drop)]
+#[derive(Clone, Copy, PartialEq, Eq, Drop)]
 pub struct NetRails {
     pub can0: Ref,
     pub can1: Ref,

@@ -10,7 +10,7 @@ use ste_base::NodeId;
 
 /// A number in the list of a net, and the link to the next slot of this list. A link is 0 at the end of a list, or else one
 /// more than the place of a slot.
-#[derive(Clone, Copy, Debug, Drop)]
+#[derive(Clone, Copy, Drop)]
 pub struct Slot {
     number: u32,
     next: u32,
@@ -19,7 +19,7 @@ pub struct Slot {
 /// For each net a list of numbers of gates and latches, as of those that read it: a latch's number is that among the
 /// latches, counted on from the number of gates. All lists are chains through one vector of slots, and `heads` has the link to the
 /// first slot of each net's list. Where there are no heads, no net has a number in its list.
-#[derive(Debug, Drop)]
+#[derive(Drop)]
 pub struct Readers {
     heads: Vec<u32>,
     slots: Vec<Slot>,

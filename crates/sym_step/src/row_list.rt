@@ -15,7 +15,7 @@ use ste_base::Items;
 
 /// A list of rows over so many inputs. Contracts see the rows; what is stored of a row is its literals behind those that
 /// it shares with the row before, up to the last one that is no `-`: 4 bytes for each such literal and 4 for the row.
-#[derive(Debug, Drop)]
+#[derive(Drop)]
 pub struct RowList {
     width: u32,
     pieces: Items<Piece>,

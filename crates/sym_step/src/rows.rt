@@ -19,14 +19,14 @@ use std::marker::Model;
 use ste_base::Items;
 
 /// Both lists of rows of a cover: the rows that match where its bit is 1, and those that match where it is 0.
-#[derive(Debug, Drop)]
+#[derive(Drop)]
 pub struct CoverRows {
     pub on: RowList,
     pub off: RowList,
 }
 
 /// Both lists of rows of a cover, the set of its gate for each choice of constants, and its tables. Contracts see the lists.
-#[derive(Debug, Drop)]
+#[derive(Drop)]
 struct Kind {
     rows: CoverRows,
     choices: Choices,
@@ -69,7 +69,7 @@ impl Kind {
 /// Both lists of rows of every cover of a net, by the cover's number. The rows that a cover leaves out are found once,
 /// and all gates of the cover share them, as do covers that are the same, mostly: a netlist from a tool has a cover for
 /// each of its gates. Contracts see both lists of each cover.
-#[derive(Debug, Drop)]
+#[derive(Drop)]
 pub struct GateRows {
     kinds: Items<Kind>,
     numbers: Items<usize>,

@@ -17,7 +17,7 @@ pub const MOST_INPUTS: usize = 6;
 /// For a cover of at most six inputs, its tables: the choices of bits for which its gate is 0, and those for which it is 1, a
 /// bit of a word for each choice. The digits of a choice to the base 2, from the lowest on, are the inputs' bits, from the
 /// first on. Where there are fewer inputs, all choices that differ in other digits alone are treated alike.
-#[derive(Clone, Copy, Debug, PartialEq, Eq, Drop)]
+#[derive(Clone, Copy, PartialEq, Eq, Drop)]
 pub struct Tables {
     pub can0: u64,
     pub can1: u64,

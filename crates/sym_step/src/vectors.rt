@@ -8,7 +8,7 @@ use ste_base::NodeId;
 
 /// Vectors that one time fills and the next one fills again, so that a time takes no memory: where the cuts of each net stand,
 /// nets, sets of latches, and what the recursion for a gate takes. What they hold between times says nothing.
-#[derive(Debug, Drop)]
+#[derive(Drop)]
 pub struct Vectors {
     pub links: CutLinks,
     pub asked: Vec<NodeId>,

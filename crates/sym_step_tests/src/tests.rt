@@ -27,7 +27,7 @@ use ste_model::{Assertion, Quint, Verdict};
 use sym_step::{Cut, Frame, GateRows, Step, advance, step};
 
 /// A bit, or one of two variables.
-#[derive(Clone, Copy, Debug, Drop)]
+#[derive(Clone, Copy, Drop)]
 enum Bit {
     Zero,
     One,
@@ -36,7 +36,7 @@ enum Bit {
 }
 
 /// What is asked of a net at time 0.
-#[derive(Clone, Copy, Debug, Drop)]
+#[derive(Clone, Copy, Drop)]
 struct Asked {
     node: NodeId,
     guard: Bit,
