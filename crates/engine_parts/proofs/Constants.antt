@@ -2,13 +2,17 @@
 use Rattle.std.proofs.Common.{◌≡◌, ℕ, zero, suc, Bool, true, false, not, List, [], ◌∷◌, ◌++◌, map, length, Option, None, Some, refl, sym, ◌∙◌, ap, subst, arith, Contains, All, inl, inr}
 use Rattle.std.specs.Prelude.{◌==◌, ◌&&◌, ◌||◌, if◌then◌else◌, IsSome, slice_get, slice_index_or}
 use Rattle.std.proofs.lemmas.List.Elements.{Contains-append_right}
+use Rattle.bool_expr.specs.declared.expr.Expr.{Expr}
+use Rattle.bool_expr.specs.declared.expr.Expr.TheFolds.{fold-roll-Expr}
+use Rattle.bool_expr.specs.declared.expr.Expr.TheVariants.{Const, rolls-Const}
+use Rattle.bool_expr.specs.Value.{value_of, value_step}
 use Rattle.dd_nodes.specs.declared.node.Ref.{Ref}
 use Rattle.dd_nodes.specs.Diagram.{IsCofactor}
 use Rattle.dd_nodes.specs.Functions.{IsCofactorOf}
 use Rattle.dd_nodes.specs.Spending.{Spends}
 use Rattle.dd_nodes.specs.Stores.{Means, Store, function}
 use Rattle.dd_nodes.proofs.Members.{Contains-cons_cases, Contains-none}
-use Rattle.dd_nodes.proofs.Spending.{one_means, zero_means}
+use Rattle.dd_nodes.proofs.Spending.{Means-same, one_means, zero_means}
 use Rattle.dd_nodes.proofs.Stores.{IsGood}
 use Rattle.dd_nodes.proofs.Walks.{canonical}
 use Rattle.net_core.specs.declared.cover.Cover.{Cover}

@@ -1,5 +1,5 @@
 -- The first sets of the latches, and sets that have references.
-use Rattle.std.proofs.Common.{ℕ, Bool, true, false, List, [], ◌∷◌, map, All}
+use Rattle.std.proofs.Common.{Bool, true, false, List, [], ◌∷◌, map, All}
 use Rattle.std.specs.List.{AllZip}
 use Rattle.std.proofs.lemmas.List.Elements.{All-nil, All-cons}
 use Rattle.dd_nodes.specs.Stores.{Store}
