@@ -16,7 +16,6 @@ use Rattle.ste_model.specs.GraphNeed.{AreWholeRounds}
 use Rattle.ste_model.specs.GraphTable.{VertexState}
 use Rattle.ste_model.specs.GraphWork.{SymbolicState, state_at}
 use Rattle.ste_model.proofs.GraphNeeds.{one_graph_need}
-use Rattle.ste_model.proofs.Rounds.{long}
 use Rattle.gste_engine.specs.declared.state.State.{State}
 use Rattle.gste_engine.specs.Tables.{HasStates, IsState}
 use Rattle.gste_engine.specs.private.Sums.{never_state, unreached}

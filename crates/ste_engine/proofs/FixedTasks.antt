@@ -2,12 +2,9 @@
 use Rattle.std.proofs.Common.{◌≡◌, ℕ, zero, suc, ◌<◌, ◌≤◌, Bool, true, false, List, [], ◌∷◌, map, filter, refl, sym, ◌∙◌, ap, subst, All}
 use Rattle.std.specs.Prelude.{◌&&◌, fold, max, nat_le, nat_lt, if◌then◌else◌}
 use Rattle.std.proofs.lemmas.List.Elements.{All-nil, All-cons, All-head, All-tail}
-use Rattle.bool_expr.specs.declared.expr.Expr.{Expr}
-use Rattle.bool_expr.specs.declared.expr.Expr.TheFolds.{fold-roll-Expr}
-use Rattle.bool_expr.specs.declared.expr.Expr.TheVariants.{Const, rolls-Const}
-use Rattle.bool_expr.specs.Value.{value_of, value_step}
-use Rattle.dd_nodes.specs.Stores.{Means, Store}
-use Rattle.dd_nodes.proofs.Spending.{Means-same}
+use Rattle.bool_expr.specs.declared.expr.Expr.TheVariants.{Const}
+use Rattle.bool_expr.specs.Value.{value_of}
+use Rattle.dd_nodes.specs.Stores.{Store}
 use Rattle.dd_nodes.proofs.Stores.{IsGood}
 use Rattle.net_core.specs.declared.bit_set.BitSet.{BitSet}
 use Rattle.net_core.specs.declared.raw.Latch.{Latch}
@@ -25,7 +22,7 @@ use Rattle.ste_model.specs.Table.{latch_sets}
 use Rattle.ste_model.specs.Work.{constant_set, has_time, latches_at, symbolic_cut, symbolic_cuts_at}
 use Rattle.ste_engine.specs.declared.asks.Ask.{Ask}
 use Rattle.ste_engine.specs.private.Asks.{AreAsks}
-use Rattle.engine_parts.specs.Failing.{constant_ref, fixed_quint}
+use Rattle.engine_parts.specs.Failing.{fixed_quint}
 use Rattle.ste_engine.specs.private.Places.{fixed_asks, fixed_task}
 use Rattle.engine_parts.proofs.Constants.{AreConstantCuts, AreConstantSets, IsConstantFamily, const_is, const_means, const_value, set_of_bits}
 

@@ -1,12 +1,12 @@
 -- What is found: the functions of each part are among those of the whole, and one turn of the loop over consequents.
-use Rattle.std.proofs.Common.{◌≡◌, ℕ, zero, suc, ◌+◌, ◌<◌, ◌&&◌, ◌||◌, Bool, true, false, not, List, [], ◌∷◌, ◌++◌, length, take, get_or, map, refl, sym, ◌∙◌, ap, subst, arith, Contains, Result, ⊎_elim}
+use Rattle.std.proofs.Common.{◌≡◌, ℕ, zero, suc, ◌+◌, ◌<◌, false, List, [], ◌∷◌, ◌++◌, length, take, get_or, map, refl, sym, ◌∙◌, ap, subst, arith, Contains, Result}
 use Rattle.std.specs.List.{AllZip}
 use Rattle.std.proofs.lemmas.List.{get_or_default}
-use Rattle.std.proofs.lemmas.List.Elements.{Contains-append_cases, Contains-append_left, Contains-append_right}
+use Rattle.std.proofs.lemmas.List.Elements.{Contains-append_left, Contains-append_right}
 use Rattle.dd_nodes.specs.declared.node.Ref.{Ref}
 use Rattle.dd_nodes.specs.Diagram.{Function}
 use Rattle.dd_nodes.specs.Stores.{Store, IsRef, Keeps, Means, function}
-use Rattle.dd_nodes.proofs.Spending.{own, zero_means}
+use Rattle.dd_nodes.proofs.Spending.{own}
 use Rattle.dd_nodes.proofs.Stores.{IsGood}
 use Rattle.dd_ops.specs.declared.fault.OpFault.{OpFault}
 use Rattle.net_core.specs.Work.{SymbolicCut, SymbolicSet, chain, conjunction, disjunction, negation, whole}
@@ -20,7 +20,7 @@ use Rattle.sym_step.proofs.Cutting.{SymbolicCut-keeps, demand_at, demands_long}
 use Rattle.ste_model.specs.Work.{both_bits, consequent_work, consequents_work, found_strong, found_weak, only_one, only_zero, refutes, strong_findings, weak_findings}
 use Rattle.engine_parts.proofs.Opposites.{within_both, within_none}
 use Rattle.ste_engine.specs.declared.results.Found.{Found}
-use Rattle.engine_parts.specs.Refuting.{both_except_work, except, opposite_except_work, refutes_work}
+use Rattle.engine_parts.specs.Refuting.{both_except_work, opposite_except_work, refutes_work}
 use Rattle.ste_engine.specs.private.Finds.{AreFound, add_work, find_work, found_work, more_strong, more_weak, strong_work, weak_work}
 
 -- ---- parts of the work

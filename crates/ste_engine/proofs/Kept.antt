@@ -1,14 +1,11 @@
 -- Kept functions: each has a reference.
-use Rattle.std.proofs.Common.{◌≡◌, ℕ, zero, suc, ◌+◌, ◌<◌, Bool, List, [], ◌∷◌, ◌++◌, length, drop, sym, ◌∙◌, ap, subst, arith, Contains, ⊎_elim}
-use Rattle.std.proofs.lemmas.List.{length-append, length-drop}
+use Rattle.std.proofs.Common.{◌≡◌, ℕ, zero, suc, ◌<◌, List, [], ◌∷◌, ◌++◌, subst, arith, Contains, ⊎_elim}
 use Rattle.std.proofs.lemmas.List.Elements.{Contains-append_cases}
 use Rattle.bool_expr.specs.Value.{value_of}
 use Rattle.dd_nodes.specs.declared.node.Ref.{Ref}
-use Rattle.dd_nodes.specs.Diagram.{Function, Held, IsCofactor, IsDiagram, IsFrom, child, walk}
+use Rattle.dd_nodes.specs.Diagram.{Function}
 use Rattle.dd_nodes.specs.Stores.{Store, Means}
 use Rattle.dd_nodes.proofs.Members.{Contains-cons_cases, Contains-none}
-use Rattle.dd_nodes.proofs.Stores.{IsGood}
-use Rattle.dd_nodes.proofs.Walks.{IsFrom-less, child-from, value-from}
 use Rattle.net_core.specs.declared.raw.RawNet.{RawNet}
 use Rattle.net_core.specs.Work.{SymbolicSet}
 use Rattle.dual_rail.specs.declared.rails.Rails.{Rails}

@@ -1,15 +1,11 @@
 -- One time more under one assignment, and the place where it fails.
-use Rattle.std.proofs.Common.{◌≡◌, ◌≢◌, ℕ, suc, ◌+◌, ◌<◌, Bool, List, Option, None, Some, refl, sym, ◌∙◌, subst, arith, All, Result, Err, inl, inr}
+use Rattle.std.proofs.Common.{◌≡◌, ◌≢◌, ℕ, suc, ◌+◌, ◌<◌, Bool, List, Option, None, Some, refl, sym, subst, arith, All, Result, Err, inl, inr}
 use Rattle.std.specs.Prelude.{Any, IsSome}
 use Rattle.std.specs.List.{AllZip}
 use Rattle.std.proofs.lemmas.Bool.{cases_lt}
 use Rattle.dd_nodes.specs.declared.node.Ref.{Ref}
-use Rattle.dd_nodes.specs.Diagram.{Function}
-use Rattle.dd_nodes.specs.Functions.{IsCofactorOf}
-use Rattle.dd_nodes.specs.Spending.{Spends}
 use Rattle.dd_nodes.specs.Stores.{Store}
-use Rattle.dd_nodes.proofs.Spending.{Spends-then}
-use Rattle.dd_nodes.proofs.Stores.{Builds-nothing, IsGood, Keeps-trans}
+use Rattle.dd_nodes.proofs.Stores.{IsGood}
 use Rattle.dd_ops.specs.declared.fault.OpFault.{OpFault}
 use Rattle.dd_ops.specs.declared.fault.OpFault.TheVariants.{StepsOut}
 use Rattle.dual_rail.specs.declared.rails.Rails.{Rails}

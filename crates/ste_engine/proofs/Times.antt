@@ -1,32 +1,26 @@
 -- The times of an assertion, one after another.
-use Rattle.std.proofs.Common.{◌≡◌, ℕ, zero, suc, ◌+◌, ◌<◌, Bool, true, false, List, [], ◌∷◌, ◌++◌, map, drop, refl, sym, ◌∙◌, ap, subst, arith, Contains, All, Result, inl, inr, ⊎_elim}
+use Rattle.std.proofs.Common.{◌≡◌, ℕ, zero, suc, ◌+◌, ◌<◌, List, [], ◌∷◌, ◌++◌, drop, refl, sym, ◌∙◌, ap, subst, arith, Contains, Result, inl, inr, ⊎_elim}
 use Rattle.std.specs.List.{AllZip}
 use Rattle.std.proofs.lemmas.Bool.{cases_lt}
-use Rattle.std.proofs.lemmas.List.Elements.{All-nil, All-cons, Contains-append_left, Contains-append_right, Contains-append_cases}
+use Rattle.std.proofs.lemmas.List.Elements.{Contains-append_left, Contains-append_right, Contains-append_cases}
 use Rattle.dd_nodes.specs.Diagram.{Function}
 use Rattle.dd_nodes.specs.Stores.{Store, Keeps, Means}
-use Rattle.dd_nodes.proofs.Spending.{one_means, zero_means}
 use Rattle.dd_nodes.proofs.Stores.{IsGood}
 use Rattle.dd_ops.specs.declared.fault.OpFault.{OpFault}
-use Rattle.net_core.specs.declared.raw.Init.{Init}
-use Rattle.net_core.specs.declared.raw.Init.TheVariants.{Zero, One, Free}
-use Rattle.net_core.specs.declared.raw.Latch.{Latch}
 use Rattle.net_core.specs.declared.raw.RawNet.{RawNet}
-use Rattle.net_core.specs.Sets.{first_set, init_set}
 use Rattle.net_core.specs.Work.{ArePossibleEach, SymbolicCut, SymbolicSet, chain, disjunction, negation, never, some_empty, sum, sums, time_work, whole}
 use Rattle.ste_model.specs.declared.task.Assertion.{Assertion}
 use Rattle.ste_model.specs.Asked.{depth}
 use Rattle.ste_model.specs.Need.{IsWholeTable}
-use Rattle.ste_model.specs.Work.{all_empty, all_strong, all_weak, consequents_work, constant_set, latches_at, over_times, quints_work, strong_findings, symbolic_asked_at, symbolic_cuts_at, task_work, weak_findings, work_at}
+use Rattle.ste_model.specs.Work.{all_empty, all_strong, all_weak, consequents_work, latches_at, over_times, quints_work, strong_findings, symbolic_asked_at, symbolic_cuts_at, task_work, weak_findings, work_at}
 use Rattle.dual_rail.specs.declared.rails.Rails.{Rails}
-use Rattle.dual_rail.specs.Rail.{AreRails, AreRefs, Built}
+use Rattle.dual_rail.specs.Rail.{AreRails, Built}
 use Rattle.dual_rail.proofs.Turns.{within_more}
-use Rattle.dual_rail.proofs.Works.{Built-wider, Rails-keep, SoFar, Within, behind, last, refs_of}
+use Rattle.dual_rail.proofs.Works.{Built-wider, Rails-keep, SoFar, Within, behind, last}
 use Rattle.sym_step.specs.declared.cut.Cut.{Cut}
 use Rattle.sym_step.specs.Step.{IsCutBy}
 use Rattle.ste_engine.specs.declared.turn.Turned.{Turned}
 use Rattle.ste_engine.specs.private.Finds.{AreFound, last_work}
-use Rattle.engine_parts.specs.Latches.{first_rails, init_rails}
 use Rattle.ste_engine.specs.private.Turns.{AreTurnedRefs, IsTurned, asked_by, turned_work}
 use Rattle.ste_engine.proofs.Family.{family_at}
 

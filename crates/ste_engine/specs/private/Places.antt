@@ -1,20 +1,11 @@
 -- For private functions. An assertion under one assignment, as one that reads no variables, and where it fails.
-use Rattle.std.specs.Prelude.{◌≡◌, ◌==◌, ◌&&◌, ℕ, suc, Bool, not, List, [], ◌∷◌, map, Option, None, Some, if◌then◌else◌}
-use Rattle.bool_expr.specs.declared.expr.Expr.TheVariants.{Const}
+use Rattle.std.specs.Prelude.{ℕ, suc, Bool, List, [], ◌∷◌, map}
 use Rattle.bool_expr.specs.Value.{value_of}
-use Rattle.dd_nodes.specs.declared.node.Ref.{Ref}
-use Rattle.dd_nodes.specs.Stores.{Store, Keeps}
-use Rattle.dual_rail.specs.declared.rails.Rails.{Rails}
-use Rattle.net_core.specs.declared.bit_set.BitSet.{BitSet}
 use Rattle.net_core.specs.declared.raw.RawNet.{RawNet}
-use Rattle.net_core.specs.Run.{Cut as AskedCut}
-use Rattle.ste_base.specs.declared.id.NodeId.{NodeId}
 use Rattle.ste_model.specs.declared.task.Assertion.{Assertion}
 use Rattle.ste_model.specs.declared.task.Quint.{Quint}
-use Rattle.ste_model.specs.Found.{FailsStrongly, FailsWeakly, IsStrong, IsWeak}
-use Rattle.sym_step.specs.declared.cut.Cut.{Cut}
-use Rattle.sym_step.specs.Step.{rails_at}
-use Rattle.engine_parts.specs.Failing.{FailsBy, constant_ref, fixed_quint}
+use Rattle.ste_model.specs.Found.{IsStrong, IsWeak}
+use Rattle.engine_parts.specs.Failing.{constant_ref, fixed_quint}
 use Rattle.ste_engine.specs.declared.asks.Ask.{Ask}
 use Rattle.engine_parts.specs.declared.failing.Failure.{Failure}
 use Rattle.engine_parts.specs.declared.failing.Failure.TheVariants.{Strong, Weak}

@@ -3,14 +3,12 @@ use Rattle.std.specs.Prelude.{◌≡◌, ◌≢◌, ◌⊎◌, ℕ, Bool, List, 
 use Rattle.dd_nodes.specs.Stores.{Store, function}
 use Rattle.net_core.specs.declared.raw.RawNet.{RawNet}
 use Rattle.ste_base.specs.declared.id.NodeId.{NodeId}
-use Rattle.ste_model.specs.declared.report.Guards.{Guards}
 use Rattle.ste_model.specs.declared.run.Run.{Run}
 use Rattle.ste_model.specs.declared.task.Assertion.{Assertion}
 use Rattle.ste_model.specs.declared.task.Task.TheVariants.{Ste}
 use Rattle.ste_model.specs.declared.verdict.Verdict.{Verdict}
 use Rattle.ste_model.specs.declared.verdict.Verdict.TheVariants.{Strong, Weak}
 use Rattle.ste_model.specs.Assignments.{Tells}
-use Rattle.ste_model.specs.Cubes.{cube_list}
 use Rattle.ste_model.specs.Found.{FailsStrongly, FailsWeakly, IsContradictory, IsStrong, IsWeak}
 use Rattle.ste_model.specs.Report.{IsDue, IsPrintedUnder, IsShown}
 use Rattle.ste_model.specs.Shown.{IsBindable}

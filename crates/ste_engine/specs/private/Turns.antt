@@ -1,12 +1,9 @@
 -- For private functions. What one time leaves, and what all times leave.
-use Rattle.std.specs.Prelude.{◌<◌, ℕ, Bool, List, ◌∷◌, ◌++◌, map, Contains, if◌then◌else◌}
+use Rattle.std.specs.Prelude.{◌<◌, ℕ, List, ◌∷◌, ◌++◌, map, Contains}
 use Rattle.std.specs.List.{AllZip}
 use Rattle.dd_nodes.specs.declared.node.Ref.{Ref}
 use Rattle.dd_nodes.specs.Diagram.{Function}
 use Rattle.dd_nodes.specs.Stores.{Store, IsRef, Means}
-use Rattle.net_core.specs.declared.raw.Init.{Init}
-use Rattle.net_core.specs.declared.raw.Init.TheVariants.{Zero, One, Free}
-use Rattle.net_core.specs.declared.raw.Latch.{Latch}
 use Rattle.net_core.specs.declared.raw.RawNet.{RawNet}
 use Rattle.net_core.specs.Work.{SymbolicAsked, SymbolicCut, SymbolicSet, disjunction, some_empty, time_work}
 use Rattle.dual_rail.specs.declared.rails.Rails.{Rails}
