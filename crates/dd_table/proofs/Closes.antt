@@ -1,12 +1,13 @@
 -- What a table has at its end.
-use Rattle.std.proofs.Common.{◌≡◌, ℕ, ◌/◌, ◌<◌, ◌≤◌, List, length, ap, arith}
+use Rattle.std.proofs.Common.{◌≡◌, ℕ, ◌/◌, ◌<◌, ◌≤◌, List, length, sym, ap, ◌∙◌, subst, arith}
 use mathlib.Core.Option.{some}
 use lib.ListN.{get_elem?}
 use Rattle.std.specs.FinMap.{len}
 use Rattle.atomic_table.specs.Table.{Final, Seen}
 use Rattle.dd_table.specs.declared.views.View.{View}
 use Rattle.dd_table.specs.declared.rule.Sizes.{Sizes}
-use Rattle.dd_table.specs.Rules.{taken_slots, RulesHold}
+use Rattle.dd_table.specs.Rules.{taken_slots, KeepsRules, RulesHold}
+use Rattle.dd_table.specs.Sessions.{SessionValue, Shows, CountsTaken}
 use Rattle.dd_table.proofs.Sums.{at_most_sum, sum_le, sum_rest_le}
 use Rattle.dd_table.proofs.OneView.{sizes_of}
 use Rattle.dd_table.proofs.Counts.{held_at_most}
@@ -34,3 +35,21 @@ closes k id v ws xs live f =
     let q = h.used in
     let d = held_at_most k.vars k.slots s.words v view in
     record { half = omega arith; used = omega arith; held = omega arith; whole = λ e. omega arith }
+
+-- the taken slots at the end are those of words that keep the rules, by the view of one seat
+pub counts_taken : (k : Sizes) (id : ℕ) (v : View) (s : SessionValue) (ws : List ℕ) (xs : List Unit) (n : ℕ) → 0 < v.slots → Final (Seen (RulesHold k) id v) ws xs → Shows v s → n ≡ taken_slots ws → CountsTaken s n
+counts_taken k id v s ws xs n live f shown is =
+    let t = f.0 in
+    let h = f.1.0 in
+    let sizes = sizes_of k.vars k.slots t.words v (h.views id v f.1.1) live in
+    let over : KeepsRules s.vars k.slots t.words t.views = subst (λ (x : ℕ). KeepsRules x k.slots t.words t.views) (sym sizes.0 ∙ shown.vars) h in
+    record {
+      words = t.words;
+      views = t.views;
+      rules = subst (λ (y : ℕ). KeepsRules s.vars y t.words t.views) (sym sizes.1 ∙ shown.slots) over;
+      seat = id;
+      view = v;
+      here = f.1.1;
+      shown = shown;
+      is = is ∙ sym (ap taken_slots f.2);
+    }

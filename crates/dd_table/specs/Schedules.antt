@@ -9,6 +9,7 @@ use Rattle.dd_table.specs.declared.rule.Sizes.{Sizes}
 use Rattle.dd_table.specs.Layout.{node_in_word, walk_slot}
 use Rattle.dd_table.specs.Views.{made_view, found_view, met_view, giving_view, given_view, joined_view, spent_view, first_view}
 use Rattle.dd_table.specs.Rules.{KeepsRules}
+use Rattle.dd_table.specs.Sessions.{SessionValue, Shows, gives_quota, gets_quota, session_union}
 use Rattle.dd_table.specs.Tells.{MayMake, HasWalked, TryTells, LookTells, ReadTells}
 
 -- one step of one seat, which comes first: it writes a word to the n-th slot of its walk, finds it there, passes a slot
@@ -111,6 +112,14 @@ exchanged_state s id slot w v =
 abbrev pub loaded_state : TableState → ℕ → View → TableState
 loaded_state s id v = (s.0, slice_set s.1 id v)
 
+-- the state after a split of a seat, which gives up q of its steps; the new seat comes last
+abbrev pub split_state : TableState → ℕ → ℕ → View → TableState
+split_state s id q v = (s.0, slice_set s.1 id (giving_view q v) ++ given_view q v ∷ [])
+
+-- the state after a join of two seats, whose views are v and u
+abbrev pub joined_state : TableState → ℕ → ℕ → View → View → TableState
+joined_state s id other v u = (s.0, slice_set (slice_set s.1 id (joined_view v u)) other spent_view)
+
 -- law: an operation of the code, under its conditions, is one of the moves, whatever it is told
 pub record OperationsAreMoves : Type 0 where
   pub try : (s : TableState) (id w n : ℕ) (v u : View) → Sees s id v → Seeks v w n → length v.made < v.limit
@@ -122,3 +131,12 @@ pub record OperationsAreMoves : Type 0 where
   pub read : (s : TableState) (id slot : ℕ) (v u : View) → Sees s id v
       → ReadTells slot (v, []) (slice_index s.0 slot) (u, [])
       → IsMove s (loaded_state s id u)
+  -- a fork: the views of both seats show what it makes of the session
+  pub fork : (s : TableState) (id q : ℕ) (v : View) (k : SessionValue) → Sees s id v → Shows v k
+      → q + length k.made ≤ k.limit
+      → IsMove s (split_state s id q v)
+      × Shows (giving_view q v) (gives_quota q k) × Shows (given_view q v) (gets_quota q k)
+  -- a merge: the view of the seat that is left shows the union of the sessions
+  pub merge : (s : TableState) (id other : ℕ) (v u : View) (k j : SessionValue) → Sees s id v → Sees s other u
+      → ¬ (other ≡ id) → Shows v k → Shows u j
+      → IsMove s (joined_state s id other v u) × Shows (joined_view v u) (session_union k j)

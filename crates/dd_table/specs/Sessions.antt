@@ -1,5 +1,7 @@
 -- Meaning: what contracts see of a session, and the store of nodes that it is.
 use Rattle.std.specs.Prelude.{◌≡◌, ◌≢◌, ℕ, ◌+◌, ◌-◌, ◌<◌, ◌≤◌, List, [], ◌∷◌, ◌++◌, length, Some, None, ◌⊎◌, refl}
+use mathlib.Core.Option.{some}
+use lib.ListN.{get_elem?}
 use Rattle.std.specs.Coded.{Coded, code_by, coded×, coded_ℕ, coded_list}
 use Rattle.std.specs.Ordering.{nat_cmp}
 use Rattle.std.specs.FinMap as map
@@ -14,7 +16,8 @@ use Rattle.dd_nodes.specs.Plain.{var_or}
 use Rattle.dd_table.specs.Codes.{ref, ref_code, node_code}
 use Rattle.dd_table.specs.Layout.{node_in_word, walk_slot}
 use Rattle.dd_table.specs.Views.{union}
-use Rattle.dd_table.specs.Rules.{count_of, IsHeldChild}
+use Rattle.dd_table.specs.Rules.{count_of, taken_slots, IsHeldChild, KeepsRules}
+use Rattle.dd_table.specs.declared.views.View.{View}
 
 -- a session: its table, the numbers of variables and slots, the nodes that it holds by the numbers of their references,
 -- the references that it made, and how many it may make
@@ -64,6 +67,25 @@ gets_quota q k = record k { made = []; limit = q }
 -- two sessions of one table in one
 abbrev pub session_union : SessionValue → SessionValue → SessionValue
 session_union k j = record k { held = union k.held j.held; made = k.made ++ j.made; limit = k.limit + j.limit }
+
+-- the view shows the session: its numbers, what it holds and made, and how many it may make
+pub record Shows (v : View) (k : SessionValue) : Type 0 where
+  pub vars : v.vars ≡ k.vars
+  pub slots : v.slots ≡ k.slots
+  pub held : v.held ≡ k.held
+  pub made : v.made ≡ k.made
+  pub limit : v.limit ≡ k.limit
+
+-- so many slots are taken, of some words that keep the rules with some views, one of which shows the session
+pub record CountsTaken (k : SessionValue) (count : ℕ) : Type 0 where
+  pub words : List ℕ
+  pub views : List View
+  pub rules : KeepsRules k.vars k.slots words views
+  pub seat : ℕ
+  pub view : View
+  pub here : get_elem? views seat ≡ some view
+  pub shown : Shows view k
+  pub is : count ≡ taken_slots words
 
 -- the node may be made: its children differ, and each is a constant, or held with a greater variable
 pub record IsMakeable (k : SessionValue) (n : Node) : Type 0 where

@@ -1,6 +1,6 @@
 //! What a session does on its table: `make_node`, `read_node`, `split_off` and `take_in`.
 
-ghost use Rattle.std.specs.Prelude.{◌≡◌, ◌≢◌, ℕ, ◌<◌, ◌≤◌, ◌+◌, length, IfSome, IfNone};
+ghost use Rattle.std.specs.Prelude.{◌≡◌, ◌≢◌, ℕ, ◌<◌, ◌≤◌, ◌+◌, length, true, IfSome, IfNone};
 ghost use Rattle.std.specs.FinMap as map;
 ghost use Rattle.dd_nodes.specs.declared.node.Node.{Node};
 ghost use Rattle.dd_table.specs.Sessions.{IsMakeable, MkGives, IsGoodSession, IsOutFor, CountsWalk};
@@ -15,8 +15,8 @@ use dd_nodes::{Node, Ref, Steps};
 use std::marker::Brand;
 use std::sync::ledger::{Blank, Ledger};
 
-/// The reference of a node whose children differ, or none where it is not held and no step is left. Each slot is looked at
-/// by one compare-exchange or one load where `once` says so.
+/// The reference of a node whose children differ, or none where it is not held and no step is left. Each operation on the
+/// table is a counted step: one a slot, a compare-exchange or a load, where `once` says so.
 fn make<L: Ledger>(
     table: &SharedTable,
     session: &mut Session,
@@ -28,8 +28,10 @@ fn make<L: Ledger>(
     requires may { IsMakeable session.old node }
     ensures some { IfSome result (λ r. MkGives session.old session.new node r.0) }
     ensures none { IfNone result ((session.new ≡ session.old) × IsOutFor session.old node) }
-    ensures found { IfSome result (λ r. CountsWalk session.old.slots node r.0 steps.old steps.new) }
-    ensures cost { (steps.old < steps.new) × (steps.new ≤ steps.old + session.old.slots) }
+    ensures found { once ≡ true → IfSome result
+        (λ r. CountsWalk session.old.slots node r.0 steps.old steps.new) }
+    ensures cost { once ≡ true →
+        (steps.old < steps.new) × (steps.new ≤ steps.old + session.old.slots) }
 {
     let left = session.used < session.limit;
     let word = word_of_node(node);
@@ -62,8 +64,10 @@ pub(crate) fn make_node<L: Ledger>(
     ensures some { IfSome result (λ r. MkGives session.old session.new node r.0) }
     ensures none { IfNone result ((session.new ≡ session.old) × IsOutFor session.old node) }
     ensures good { IsGoodSession session.new }
-    ensures found { IfSome result (λ r. CountsWalk session.old.slots node r.0 steps.old steps.new) }
-    ensures cost { (steps.old < steps.new) × (steps.new ≤ steps.old + session.old.slots) }
+    ensures found { once ≡ true → IfSome result
+        (λ r. CountsWalk session.old.slots node r.0 steps.old steps.new) }
+    ensures cost { once ≡ true →
+        (steps.old < steps.new) × (steps.new ≤ steps.old + session.old.slots) }
 {
     let made = make(table, session, node, once, steps);
     session.shown();

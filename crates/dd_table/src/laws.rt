@@ -20,7 +20,8 @@ pub fn seats_agree()
     ensures { SeatsAgree }
 {}
 
-/// Each compare-exchange and each load of the code is one of the steps that the other laws speak of, whatever it finds.
+/// Each compare-exchange and each load of the code is one of the steps that the other laws speak of, whatever it finds; and
+/// so is a fork, and a merge, by what their clauses say of sessions.
 pub fn operations_are_moves()
     ensures { OperationsAreMoves }
 {}

@@ -16,9 +16,9 @@ fn next(at: u32, slots: u32) -> u32
     if at + 1 == slots { 0 } else { at + 1 }
 }
 
-/// Walks from the home of the word on, one counted step a slot, until it finds the word or an empty slot. Where a step
-/// is left it writes the word to the empty slot, and gives the slot and whether it wrote. A counted step is one
-/// compare-exchange or one load where `once` says so; else there are both at an empty slot.
+/// Walks from the home of the word on, until it finds the word or an empty slot. Where a step is left it writes the word to
+/// the empty slot, and gives the slot and whether it wrote. Each operation on the table is a counted step: where `once` says
+/// so there is one a slot, a compare-exchange or a load; else there are both at an empty slot.
 pub(crate) fn search<L: Ledger>(
     words: &TableWords,
     seat: &mut TableSeat,
@@ -37,16 +37,16 @@ pub(crate) fn search<L: Ledger>(
     ensures table { seat.new.table_id ≡ seat.old.table_id }
     ensures empty { seat.new.me.1 ≡ seat.old.me.1 }
     ensures ends { SearchEnds word seat.old.me.0 seat.new.me.0 result }
-    ensures found { IfSome result (λ p. CameTo slots word p.0 steps.old steps.new) }
-    ensures cost { (steps.old < steps.new) × (steps.new ≤ steps.old + slots) }
+    ensures found { once ≡ true →
+        IfSome result (λ p. CameTo slots word p.0 steps.old steps.new) }
+    ensures cost { once ≡ true → (steps.old < steps.new) × (steps.new ≤ steps.old + slots) }
 {
     let mut at = home_of_word(word, slots);
     for n in 0..slots {
-        steps.tick();
         let found = if left {
-            try_at(words, seat, word, at as usize, once)
+            try_at(words, seat, word, at as usize, once, steps)
         } else {
-            look(words, seat, word, at as usize)
+            look(words, seat, word, at as usize, steps)
         };
         if found == word {
             return Some((at, false));

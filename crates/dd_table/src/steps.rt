@@ -1,6 +1,6 @@
 //! The single steps on the table, each one compare-exchange or one load of one word, and two of them in a row. Begin with `try_word`.
 
-ghost use Rattle.std.specs.Prelude.{◌≡◌, ◌≢◌, ℕ, ◌<◌, ◌≤◌, ◌+◌, ◌/◌, [], length};
+ghost use Rattle.std.specs.Prelude.{◌≡◌, ◌≢◌, ℕ, ◌<◌, ◌≤◌, ◌+◌, ◌/◌, [], length, true};
 ghost use Rattle.std.specs.FinMap.{get};
 ghost use Rattle.dd_nodes.specs.declared.node.Node.{Node};
 ghost use Rattle.dd_table.specs.Layout.{most_slots};
@@ -11,7 +11,9 @@ ghost use Rattle.dd_table.specs.Tells.{IsSound, HoldsNothing, IsHeldByOne};
 use crate::rule::{GivesQuota, Looks, NodeTable, Quota, Reads, Sizes, Sought, TakesIn, Tries};
 use crate::views::View;
 use atomic_table::{Seat, Shared};
+use dd_nodes::Steps;
 use std::marker::Brand;
+use std::sync::ledger::Ledger;
 
 /// The words of a table.
 pub(crate) type TableWords = Shared<(), View, Sizes, NodeTable>;
@@ -19,8 +21,14 @@ pub(crate) type TableWords = Shared<(), View, Sizes, NodeTable>;
 /// A seat of a table.
 pub(crate) type TableSeat = Seat<(), View>;
 
-/// A compare-exchange from 0 to the word, at the next slot on its walk. It gives the word that was there.
-fn try_word(words: &TableWords, seat: &mut TableSeat, word: u64, slot: usize) -> u64
+/// A compare-exchange from 0 to the word, at the next slot on its walk, as one counted step. It gives the word that was there.
+fn try_word<L: Ledger>(
+    words: &TableWords,
+    seat: &mut TableSeat,
+    word: u64,
+    slot: usize,
+    steps: &mut Steps<L>,
+) -> u64
     requires table { seat.old.table_id ≡ words.now.table_id }
     requires size { seat.old.me.0.slots ≡ words.now.table_id.words }
     requires live { 0 < seat.old.me.0.slots }
@@ -29,12 +37,20 @@ fn try_word(words: &TableWords, seat: &mut TableSeat, word: u64, slot: usize) ->
     requires next { ComesNext seat.old.me.0 word slot }
     ensures table { seat.new.table_id ≡ seat.old.table_id }
     ensures told { TryTells slot word seat.old.me result seat.new.me }
+    ensures count { steps.new ≡ steps.old + 1 }
 {
+    steps.tick();
     words.compare_exchange::<Tries>(seat, slot, 0, word)
 }
 
-/// A load at the next slot on the walk of the word that is named.
-fn look_for<W: Sought>(words: &TableWords, seat: &mut TableSeat, word: u64, slot: usize) -> u64
+/// A load at the next slot on the walk of the word that is named, as one counted step.
+fn look_for<W: Sought, L: Ledger>(
+    words: &TableWords,
+    seat: &mut TableSeat,
+    word: u64,
+    slot: usize,
+    steps: &mut Steps<L>,
+) -> u64
     requires named { word ≡ W.word }
     requires table { seat.old.table_id ≡ words.now.table_id }
     requires size { seat.old.me.0.slots ≡ words.now.table_id.words }
@@ -43,13 +59,21 @@ fn look_for<W: Sought>(words: &TableWords, seat: &mut TableSeat, word: u64, slot
     requires next { ComesNext seat.old.me.0 word slot }
     ensures table { seat.new.table_id ≡ seat.old.table_id }
     ensures told { LookTells slot word seat.old.me result seat.new.me }
+    ensures count { steps.new ≡ steps.old + 1 }
 {
     let _ = word;
+    steps.tick();
     words.load::<Looks<W>>(seat, slot)
 }
 
-/// A load at the next slot on the walk of the word.
-pub(crate) fn look(words: &TableWords, seat: &mut TableSeat, word: u64, slot: usize) -> u64
+/// A load at the next slot on the walk of the word, as one counted step.
+pub(crate) fn look<L: Ledger>(
+    words: &TableWords,
+    seat: &mut TableSeat,
+    word: u64,
+    slot: usize,
+    steps: &mut Steps<L>,
+) -> u64
     requires table { seat.old.table_id ≡ words.now.table_id }
     requires size { seat.old.me.0.slots ≡ words.now.table_id.words }
     requires live { 0 < seat.old.me.0.slots }
@@ -57,38 +81,20 @@ pub(crate) fn look(words: &TableWords, seat: &mut TableSeat, word: u64, slot: us
     requires next { ComesNext seat.old.me.0 word slot }
     ensures table { seat.new.table_id ≡ seat.old.table_id }
     ensures told { LookTells slot word seat.old.me result seat.new.me }
+    ensures count { steps.new ≡ steps.old + 1 }
 {
-    look_for::<Brand>(words, seat, word, slot)
+    look_for::<Brand, L>(words, seat, word, slot, steps)
 }
 
 /// A load at the next slot on the walk of the word, and only where the slot is empty a compare-exchange from 0 to the word. It
 /// gives the word that was there. A word that stands in the table already is found without a compare-exchange, which takes
 /// several times as long as a load.
-fn look_and_try(words: &TableWords, seat: &mut TableSeat, word: u64, slot: usize) -> u64
-    requires table { seat.old.table_id ≡ words.now.table_id }
-    requires size { seat.old.me.0.slots ≡ words.now.table_id.words }
-    requires live { 0 < seat.old.me.0.slots }
-    requires may { MayMake seat.old.me.0 word }
-    requires left { length seat.old.me.0.made < seat.old.me.0.limit }
-    requires next { ComesNext seat.old.me.0 word slot }
-    ensures table { seat.new.table_id ≡ seat.old.table_id }
-    ensures told { TryTells slot word seat.old.me result seat.new.me }
-{
-    let seen = look(words, seat, word, slot);
-    if seen != 0 {
-        return seen;
-    }
-    try_word(words, seat, word, slot)
-}
-
-/// Writes the word to the next slot on its walk, where this is empty, by a compare-exchange alone where `once` says so, and
-/// else behind a load. It gives the word that was there.
-pub(crate) fn try_at(
+fn look_and_try<L: Ledger>(
     words: &TableWords,
     seat: &mut TableSeat,
     word: u64,
     slot: usize,
-    once: bool,
+    steps: &mut Steps<L>,
 ) -> u64
     requires table { seat.old.table_id ≡ words.now.table_id }
     requires size { seat.old.me.0.slots ≡ words.now.table_id.words }
@@ -99,10 +105,37 @@ pub(crate) fn try_at(
     ensures table { seat.new.table_id ≡ seat.old.table_id }
     ensures told { TryTells slot word seat.old.me result seat.new.me }
 {
+    let seen = look(words, seat, word, slot, steps);
+    if seen != 0 {
+        return seen;
+    }
+    try_word(words, seat, word, slot, steps)
+}
+
+/// Writes the word to the next slot on its walk, where this is empty, by a compare-exchange alone where `once` says so, and
+/// else behind a load. It gives the word that was there.
+pub(crate) fn try_at<L: Ledger>(
+    words: &TableWords,
+    seat: &mut TableSeat,
+    word: u64,
+    slot: usize,
+    once: bool,
+    steps: &mut Steps<L>,
+) -> u64
+    requires table { seat.old.table_id ≡ words.now.table_id }
+    requires size { seat.old.me.0.slots ≡ words.now.table_id.words }
+    requires live { 0 < seat.old.me.0.slots }
+    requires may { MayMake seat.old.me.0 word }
+    requires left { length seat.old.me.0.made < seat.old.me.0.limit }
+    requires next { ComesNext seat.old.me.0 word slot }
+    ensures table { seat.new.table_id ≡ seat.old.table_id }
+    ensures told { TryTells slot word seat.old.me result seat.new.me }
+    ensures count { once ≡ true → steps.new ≡ steps.old + 1 }
+{
     if once {
-        try_word(words, seat, word, slot)
+        try_word(words, seat, word, slot, steps)
     } else {
-        look_and_try(words, seat, word, slot)
+        look_and_try(words, seat, word, slot, steps)
     }
 }
 

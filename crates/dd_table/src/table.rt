@@ -7,7 +7,7 @@ ghost use Rattle.dd_nodes.specs.Diagram.{Function};
 ghost use Rattle.dd_nodes.specs.Functions.{node_count};
 ghost use Rattle.dd_table.specs.Layout.{most_vars, most_slots};
 ghost use Rattle.dd_table.specs.Rules.{taken_slots};
-ghost use Rattle.dd_table.specs.Sessions.{AreHeld, store_of};
+ghost use Rattle.dd_table.specs.Sessions.{AreHeld, CountsTaken, store_of};
 
 use crate::rule::{NodeTable, Sizes};
 use crate::session::Session;
@@ -78,6 +78,11 @@ impl SharedTable {
     /// it. A session that has all steps made them all.
     pub fn close(self, session: Session) -> u32
         requires { session.table ≡ self }
+
+        // The number of taken slots of words that keep the rules, with views of which one shows this session.
+        ensures taken { CountsTaken session result }
+
+        // So it has these bounds.
         ensures half { result ≤ session.slots / 2 }
         ensures used { length session.made ≤ result }
         ensures held { map.len session.held ≤ result }

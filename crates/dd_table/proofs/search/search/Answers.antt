@@ -15,7 +15,6 @@ loop-n-preserved g c =
     let slots_is : c.loop-n.seat.me.0.slots ≡ c.args.slots = i.seen.more.slots ∙ c.requires.slots.0 in
     let round = c.loop-n-test.true in
     let next_is = c.next-at.ensures.0 ∙ ap (λ (y : ℕ). (c.loop-n.at + 1) % y) (sym slots_is) in
-    let counted = let k = c.tick.ensures in let l = i.cost in let sum : c.tick.new.self ≡ c.args.steps.now + (c.loop-n.n + 1) = omega arith in sum in
     elim c.if-left.branch [
       | then-left w ↦
           let e = w.try_at-found.ensures in
@@ -28,7 +27,7 @@ loop-n-preserved g c =
             table = ap (λ (x : TableSeat). x.table_id) seat_is ∙ e.table ∙ i.table;
             empty = ap (λ (x : TableSeat). x.me.1) seat_is ∙ e.told.0 ∙ i.empty;
             in_range = c.next-at.ensures.1;
-            cost = counted;
+            cost = λ yes. let k = e.count yes in let m = w.steps-is in let l = i.cost yes in let sum : c.if-left.steps ≡ c.args.steps.now + (c.loop-n.n + 1) = omega arith in sum;
             seen = advances c.args.word c.loop-n.n c.loop-n.at w.try_at-found.result c.next-at.result _ c.loop-n.seat.me.0 c.if-left.seat.me.0
                 i.seen (omega arith) met new told next_is;
           }
@@ -43,7 +42,7 @@ loop-n-preserved g c =
             table = ap (λ (x : TableSeat). x.table_id) seat_is ∙ e.table ∙ i.table;
             empty = ap (λ (x : TableSeat). x.me.1) seat_is ∙ e.told.0 ∙ i.empty;
             in_range = c.next-at.ensures.1;
-            cost = counted;
+            cost = λ yes. let k = e.count in let m = w.steps-is in let l = i.cost yes in let sum : c.if-left.steps ≡ c.args.steps.now + (c.loop-n.n + 1) = omega arith in sum;
             seen = advances c.args.word c.loop-n.n c.loop-n.at w.look-found.result c.next-at.result _ c.loop-n.seat.me.0 c.if-left.seat.me.0
                 i.seen (omega arith) met new told next_is;
           }

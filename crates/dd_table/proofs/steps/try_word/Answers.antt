@@ -4,7 +4,7 @@ use Rattle.dd_table.proofs.Tries.{tries}
 use Rattle.dd_table.proofs.steps.try_word.Goals as goal
 
 pub compare_exchange-requires : goal.compare_exchange-requires
-compare_exchange-requires c =
+compare_exchange-requires g c =
     let v = c.args.seat.now.me.0 in
     let slot = c.args.slot in
     let w = c.requires.next in

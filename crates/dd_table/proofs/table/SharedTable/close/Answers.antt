@@ -1,9 +1,23 @@
 use Rattle.std.proofs.Common.{◌≡◌, ℕ, ◌/◌, length, sym, ap, ◌∙◌, arith}
 use Rattle.std.specs.FinMap.{len}
 use Rattle.dd_table.specs.Sessions.{SessionValue}
-use Rattle.dd_table.proofs.Closes.{closes}
+use Rattle.dd_table.proofs.Closes.{closes, counts_taken}
 use Rattle.dd_table.proofs.HeldNodes.{nodes_taken}
 use Rattle.dd_table.proofs.table.SharedTable.close.Goals as goal
+
+pub returns-clause-taken : goal.returns-clause-taken
+returns-clause-taken c =
+    let i = c.session.invariant in
+    let is = c.session.view_is in
+    counts_taken _ _ c.session.inside.seat.me.0 c.args.session _ _ _ (let a = i.two in let b = i.slots in omega arith) c.close_with-closed.ensures.values.2
+    (record {
+      vars = i.vars ∙ ap (λ (k : SessionValue). k.vars) is;
+      slots = i.slots ∙ ap (λ (k : SessionValue). k.slots) is;
+      held = ap (λ (k : SessionValue). k.held) is;
+      made = ap (λ (k : SessionValue). k.made) is;
+      limit = i.limit ∙ ap (λ (k : SessionValue). k.limit) is;
+    })
+    c.count_taken-count.ensures
 
 pub returns-clause-half : goal.returns-clause-half
 returns-clause-half c =
