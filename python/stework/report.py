@@ -7,7 +7,7 @@ from __future__ import annotations
 import enum
 import re
 from dataclasses import dataclass
-from typing import Dict, Iterable, List, Mapping, NamedTuple, Optional, Tuple
+from typing import Dict, Iterable, Iterator, List, Mapping, NamedTuple, Optional, Tuple
 
 from .blif import expand
 from .errors import ReportError
@@ -177,14 +177,17 @@ class _Lines:
         self.at += m is not None
         return m
 
-    def take_all(self, pattern: re.Pattern[str]) -> List[re.Match[str]]:
-        """The next lines, as long as the pattern fits them."""
-        found = []
+    def take_all(self, pattern: re.Pattern[str]) -> Iterator[re.Match[str]]:
+        """The next lines, as long as the pattern fits them; `at` is then the number of the line, counted from 1."""
         m = self.take(pattern)
         while m:
-            found.append(m)
+            yield m
             m = self.take(pattern)
-        return found
+
+    def require_next(self, *patterns: re.Pattern[str]) -> None:
+        """ReportError where there is a next line, and none of the patterns fits it."""
+        if self.at < len(self.lines) and not any(pattern.fullmatch(self.lines[self.at]) for pattern in patterns):
+            raise ReportError(self.at + 1, f"unknown line {self.lines[self.at]!r}")
 
 
 def _cubes(text: str, line: int) -> Cubes:
@@ -223,16 +226,16 @@ def read_report(text: str) -> Tuple[List[Result], Optional[int]]:
     if text and not text.endswith("\n"):
         raise ReportError(text.count("\n") + 1, "the last line does not end")
     lines, results = _Lines(text), []
-    for head in iter(lambda: lines.take(_HEAD), None):
+    for head in lines.take_all(_HEAD):
         first = lines.at
         result = _result(head, lines)
+        lines.require_next(_HEAD, _NODES)
         fault = result.fault()
         if fault:
             raise ReportError(first, fault)
         results.append(result)
     shared = lines.take(_NODES)
-    if lines.at < len(lines.lines):
-        raise ReportError(lines.at + 1, f"unknown line {lines.lines[lines.at]!r}")
+    lines.require_next()
     nodes = int(shared[1]) if shared else None
     again = write_report(results, nodes).split("\n")[:-1]
     for number, (one, other) in enumerate(zip(lines.lines, again), 1):
