@@ -27,7 +27,10 @@ def main() -> int:
                 path = words.out / f"{_file_name(result.name, taken)}.vcd"
                 path.write_text(vcd(result), encoding="utf-8", errors="surrogateescape")
                 print(path)
-    except (OSError, ReportError) as e:
+    except OSError as e:
+        print(f"stework vcd: {e.filename}: {e.strerror}", file=sys.stderr)
+        return 2
+    except ReportError as e:
         print(f"stework vcd: {e}", file=sys.stderr)
         return 2
     return 0

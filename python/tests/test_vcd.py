@@ -176,6 +176,6 @@ class Command(Case):
         (self.folder / "r").write_text("t: passed\n")
         (self.folder / "s").write_text(RUN)
         self.assertEqual(self.run_it("vcd", "r"), (2, "", "stework vcd: report:1: unknown line 't: passed'\n"))
-        self.assertEqual(self.run_it("vcd", "none"), (2, "", "stework vcd: [Errno 2] No such file or directory: 'none'\n"))
-        self.assertEqual(self.run_it("vcd", "s", "--out", "none"), (2, "", "stework vcd: [Errno 2] No such file or directory: 'none/g.vcd'\n"))
+        self.assertEqual(self.run_it("vcd", "none"), (2, "", "stework vcd: none: No such file or directory\n"))
+        self.assertEqual(self.run_it("vcd", "s", "--out", "none"), (2, "", "stework vcd: none/g.vcd: No such file or directory\n"))
         self.assertEqual(self.run_it()[0], 2)
