@@ -1,6 +1,7 @@
 """With the program itself. `support.program` says when these are skipped."""
 from __future__ import annotations
 
+import os
 import pathlib
 import random
 import re
@@ -38,6 +39,8 @@ class Program(Case):
     def setUp(self) -> None:
         super().setUp()
         self.program = program()
+        self.addCleanup(os.chdir, os.getcwd())
+        os.chdir(TOP)
 
     def example(self, name: str, **modules: types.ModuleType) -> Any:
         """A file of the examples, as a module."""
