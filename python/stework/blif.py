@@ -12,7 +12,7 @@ from typing import Dict, FrozenSet, Iterable, Iterator, List, NamedTuple, Option
 from .errors import TaskError
 from .limits import MOST_NETS
 
-Path = Union[str, "os.PathLike[str]"]
+PathLike = Union[str, "os.PathLike[str]"]
 _BIT = re.compile(r"(.+)\[(0|[1-9][0-9]*)\]")
 _RANGE = re.compile(r"(.+)\[(0|[1-9][0-9]*):(0|[1-9][0-9]*)\]")
 _INNER = re.compile(r"(0|[1-9][0-9]*)/.")
@@ -21,8 +21,10 @@ _INNER = re.compile(r"(0|[1-9][0-9]*)/.")
 def expand(nets: Union[str, Sequence[str]]) -> Tuple[str, ...]:
     """The names of single nets, the most significant first: `d[1:0]` is d[1], d[0], and `d[0:1]` is d[0], d[1]. A list is put
     together in its order, as Verilog's {a, b} is. Any other text is one net."""
-    if not isinstance(nets, str):
+    if isinstance(nets, (list, tuple)):
         return tuple(name for part in nets for name in expand(part))
+    if not isinstance(nets, str):
+        raise TaskError(f"{nets!r} is no name of a net, and no list of names")
     m = _RANGE.fullmatch(nets)
     if not m:
         return (nets,)
@@ -79,7 +81,7 @@ class Netlist(NamedTuple):
     instances: int
 
     @staticmethod
-    def read(path: Path) -> Netlist:
+    def read(path: PathLike) -> Netlist:
         """Scan the file. TaskError where it cannot be read."""
         try:
             with open(path, "rb") as file:

@@ -95,7 +95,7 @@ class Clauses:
         self.netlist, self.origin = netlist, caller()
         self.clauses: List[Clause] = []
 
-    def add(self: Self, side: Side, nets: Nets, value: Value, when: Bit, times: Optional[range]) -> Self:
+    def _add(self: Self, side: Side, nets: Nets, value: Value, when: Bit, times: Optional[range]) -> Self:
         """Add a clause."""
         names = tuple(word("net", name) for name in expand(nets))
         if not names:

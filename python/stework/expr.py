@@ -131,13 +131,11 @@ def _chain(op: Op, args: Sequence[Bool]) -> Bool:
     flat = [b for a in args for b in (a.args if a.op is op else (a,))]
     rest = [b for b in flat if b.op is not Op.CONSTANT]
     constants = [int(b.name) for b in flat if b.op is Op.CONSTANT]
+    whole = Bool(op, tuple(rest)) if len(rest) > 1 else rest[0] if rest else constant(op is Op.AND)
     if op is Op.XOR:
-        whole = rest[0] if len(rest) == 1 else Bool(op, tuple(rest)) if rest else ZERO
         return ~whole if sum(constants) % 2 else whole
-    neutral = 1 if op is Op.AND else 0
-    if 1 - neutral in constants or not rest:
-        return constant(neutral if not rest and 1 - neutral not in constants else 1 - neutral)
-    return rest[0] if len(rest) == 1 else Bool(op, tuple(rest))
+    decides = 0 if op is Op.AND else 1
+    return constant(decides) if decides in constants else whole
 
 
 def all_of(bits: Iterable[Bit]) -> Bool:

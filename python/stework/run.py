@@ -6,10 +6,10 @@ import re
 import shutil
 import subprocess
 import tempfile
-from pathlib import Path as _Path
-from typing import Any, BinaryIO, Dict, Iterator, List, Mapping, NamedTuple, Optional, Sequence, Tuple
+from pathlib import Path
+from typing import Any, Dict, Iterator, List, Mapping, NamedTuple, Optional, Sequence, Tuple
 
-from .blif import Path
+from .blif import PathLike
 from .clauses import Clause, Line, text_of
 from .errors import Fault, OutOfMemory, Refused, ReportError, SteworkError, TaskError, TimedOut
 from .expr import Bool
@@ -36,7 +36,7 @@ class Answer(NamedTuple):
 
 
 class Results(Mapping[str, Result]):
-    """The results by task name, in the order of the tasks."""
+    """The results by task name, in the order of the tasks. `missing` has the names of the tasks of which nothing was told."""
 
     def __init__(self, results: Mapping[str, Result], variables: Mapping[str, Bool], missing: Sequence[str] = ()) -> None:
         self._results, self._variables, self.missing = dict(results), dict(variables), tuple(missing)
@@ -73,7 +73,7 @@ class Results(Mapping[str, Result]):
 
 def find_program() -> str:
     """The program: $STEWORK, or the one that is built in the repository of this package, or `stework` on the path."""
-    built = _Path(__file__).resolve().parents[2] / "crates" / "stework" / "out" / "stework"
+    built = Path(__file__).resolve().parents[2] / "crates" / "stework" / "out" / "stework"
     found = os.environ.get("STEWORK") or (str(built) if built.is_file() else shutil.which("stework"))
     if not found:
         raise Fault("no program: set STEWORK to it, or put `stework` on the path")
@@ -82,28 +82,26 @@ def find_program() -> str:
 
 def run_part(part: Part) -> Answer:
     """Run the program once, in a folder of its own. Done again it answers the same, but perhaps for budgets."""
-    with tempfile.TemporaryDirectory(prefix="stework-") as folder:
-        _Path(folder, "NET").write_bytes(part.net)
-        _Path(folder, "TASKS").write_bytes(part.text.encode("utf-8", "surrogateescape"))
-        words = [part.program, "check", *part.options, "--", "NET", "TASKS"]
-        with open(_Path(folder, "out"), "w+b") as out, open(_Path(folder, "err"), "w+b") as err:
-            try:
-                done = subprocess.run(words, cwd=folder, stdin=subprocess.DEVNULL, stdout=out, stderr=err,
-                                      timeout=part.timeout, check=False)
-            except subprocess.TimeoutExpired:
-                return Answer(None, "", f"no answer within {part.timeout:g} s")
-            except OSError as e:
-                raise Fault(f"cannot run {part.program}: {e.strerror}") from None
-            return Answer(done.returncode, _written(out), _written(err))
+    words = [part.program, "check", *part.options, "--", "NET", "TASKS"]
+    try:
+        with tempfile.TemporaryDirectory(prefix="stework-") as folder:
+            room = Path(folder)
+            (room / "NET").write_bytes(part.net)
+            (room / "TASKS").write_bytes(part.text.encode("utf-8", "surrogateescape"))
+            # Files and not pipes: what a program that was ended leaves running may hold a pipe open.
+            with open(room / "out", "wb") as out, open(room / "err", "wb") as err:
+                status = subprocess.run(words, cwd=room, stdin=subprocess.DEVNULL, stdout=out, stderr=err, timeout=part.timeout,
+                                        check=False).returncode
+            told = [(room / name).read_bytes().decode("utf-8", "surrogateescape") for name in ("out", "err")]
+            return Answer(status, *told)
+    except subprocess.TimeoutExpired:
+        return Answer(None, "", f"no answer within {part.timeout:g} s")
+    except OSError as e:
+        raise Fault(f"cannot run {part.program}: {e.strerror}") from None
 
 
-def _written(stream: BinaryIO) -> str:
-    stream.seek(0)
-    return stream.read().decode("utf-8", "surrogateescape")
-
-
-def check(net: Path, tasks: Tasks, *, workers: int = 4, steps: int = 1_000_000, cubes: int = 8, wave: bool = False,
-          timeout: Optional[float] = None, program: Optional[Path] = None) -> Results:
+def check(net: PathLike, tasks: Tasks, *, workers: int = 4, steps: int = 1_000_000, cubes: int = 8, wave: bool = False,
+          timeout: Optional[float] = None, program: Optional[PathLike] = None) -> Results:
     """Check every task on the netlist, a BLIF file, and give the results in the order of the tasks.
 
     `workers` (1 to 64) are threads of a run of the program, and `steps` (1 to 16,000,000) node steps of each task; of a list at
@@ -122,10 +120,10 @@ def check(net: Path, tasks: Tasks, *, workers: int = 4, steps: int = 1_000_000, 
     size = min(MOST_TASKS, MOST_STEPS // steps)
     files = tasks.files(size)          # what is wrong in any task is told before the first is run
     variables = tasks.variables()
-    options = (f"--workers={workers:d}", f"--steps={steps:d}", f"--cubes={cubes:d}") + ("--wave",) * wave
+    options = (f"--workers={workers:d}", f"--steps={steps:d}", f"--cubes={cubes:d}") + (("--wave",) if wave else ())
     path = os.path.abspath(program or find_program())
     try:
-        bytes_of_net = _Path(net).read_bytes()
+        bytes_of_net = Path(net).read_bytes()
     except OSError as e:
         raise Fault(f"cannot read {os.fspath(net)}: {e.strerror}") from None
     every = list(tasks.tasks.values())
@@ -145,7 +143,7 @@ def check(net: Path, tasks: Tasks, *, workers: int = 4, steps: int = 1_000_000, 
     return results
 
 
-def unasked(net: Path, tasks: Tasks, **options: Any) -> List[Tuple[Clause, Verdict]]:
+def unasked(net: PathLike, tasks: Tasks, **options: Any) -> List[Tuple[Clause, Verdict]]:
     """The consequents, bit by bit, that are not seen to ask anything: that one alone, and the wrong way round, is no failure.
 
     With the verdict PASS it holds the wrong way round too, as its guard is never 1, or no run gets there; with CONTRADICTORY
@@ -207,8 +205,7 @@ def failure(answer: Answer, lines: Sequence[Line], net: str) -> SteworkError:
         return Refused(usage[1])
     if answer.status == 2 and not answer.out and refusal:
         file, number, message = refusal.groups()
-        line = int(number) if number else None
-        written = file == "TASKS" and line is not None and line <= len(lines)
-        return Refused(message, {"NET": net, "TASKS": "tasks"}.get(file), line,
-                       lines[line - 1].origin if written and line else None)
+        origins = {line: written.origin for line, written in enumerate(lines, 1)} if file == "TASKS" else {}
+        at = int(number) if number else None
+        return Refused(message, {"NET": net, "TASKS": "tasks"}.get(file), at, origins.get(at or 0))
     return Fault(f"status {answer.status}: {answer.err.rstrip(chr(10)) or 'nothing is told'}")

@@ -8,11 +8,11 @@ from __future__ import annotations
 from dataclasses import replace
 from typing import Dict, Iterable, Iterator, List, Optional, Set, Tuple, Union
 
-from .blif import Netlist, Path
+from .blif import Netlist, PathLike
 from .clauses import Clause, Clauses, Line, Nets, Side, Value, last_word, require_sayable, text_of
 from .errors import Origin, TaskError, caller
 from .expr import Bit, Bool, Op, Vector, counted, variables
-from .limits import MOST_EDGES, MOST_TIME, MOST_VARIABLES, MOST_VERTICES
+from .limits import MOST_EDGES, MOST_TASKS, MOST_TIME, MOST_VARIABLES, MOST_VERTICES
 from .report import Result
 
 Times = Union[int, range]
@@ -45,11 +45,11 @@ class Assertion(Clauses):
 
     def ant(self, nets: Nets, value: Value, at: Times, when: Bit = 1) -> Assertion:
         """Put the value in at these time steps, where `when` is 1."""
-        return self.add(Side.ANTECEDENT, nets, value, when, _times(at))
+        return self._add(Side.ANTECEDENT, nets, value, when, _times(at))
 
     def con(self, nets: Nets, value: Value, at: Times, when: Bit = 1) -> Assertion:
         """Expect the value at these time steps, where `when` is 1."""
-        return self.add(Side.CONSEQUENT, nets, value, when, _times(at))
+        return self._add(Side.CONSEQUENT, nets, value, when, _times(at))
 
     @property
     def depth(self) -> int:
@@ -92,11 +92,11 @@ class Edge(Clauses):
 
     def ant(self, nets: Nets, value: Value, when: Bit = 1) -> Edge:
         """Put the value in in this step, where `when` is 1."""
-        return self.add(Side.ANTECEDENT, nets, value, when, None)
+        return self._add(Side.ANTECEDENT, nets, value, when, None)
 
     def con(self, nets: Nets, value: Value, when: Bit = 1) -> Edge:
         """Expect the value in this step, where `when` is 1."""
-        return self.add(Side.CONSEQUENT, nets, value, when, None)
+        return self._add(Side.CONSEQUENT, nets, value, when, None)
 
 
 class Graph:
@@ -112,10 +112,11 @@ class Graph:
     def edge(self, tail: str, head: str) -> Edge:
         """A new edge, from `tail` to `head`. Edges are numbered from 0, in the order of the calls."""
         edge = Edge(tail, head, self.netlist)
-        self.edges.append(edge)
-        self._vertices.update((tail, head))
-        if len(self.edges) > MOST_EDGES or len(self._vertices) > MOST_VERTICES:
+        vertices = self._vertices | {tail, head}
+        if len(self.edges) == MOST_EDGES or len(vertices) > MOST_VERTICES:
             raise TaskError(f"{self.name!r} has more than {MOST_VERTICES} vertices or {MOST_EDGES} edges")
+        self.edges.append(edge)
+        self._vertices = vertices
         return edge
 
     def parts(self) -> List[Clauses]:
@@ -177,7 +178,7 @@ class Tasks:
     bit comes first, so that the least assignment of a failure has the least number.
     """
 
-    def __init__(self, net: Union[Netlist, Path, None] = None, order: Iterable[Union[Bool, Vector]] = ()) -> None:
+    def __init__(self, net: Union[Netlist, PathLike, None] = None, order: Iterable[Union[Bool, Vector]] = ()) -> None:
         self.netlist = net if net is None or isinstance(net, Netlist) else Netlist.read(net)
         self.order = [b for o in order for b in (o.bits[::-1] if isinstance(o, Vector) else (o,))]
         for b in self.order:
@@ -189,16 +190,16 @@ class Tasks:
     def ste(self, name: str, reset: bool = False) -> Assertion:
         """A new assertion."""
         task = Assertion(name, reset, self.netlist)
-        self._add(task)
+        self._register(task)
         return task
 
     def gste(self, name: str, start: str, reset: bool = False) -> Graph:
         """A new graph."""
         task = Graph(name, start, reset, self.netlist)
-        self._add(task)
+        self._register(task)
         return task
 
-    def _add(self, task: Task) -> None:
+    def _register(self, task: Task) -> None:
         if task.name in self.tasks:
             raise TaskError(f"two tasks {task.name!r}: the other is at {self.tasks[task.name].origin}")
         self.tasks[task.name] = task
@@ -236,10 +237,12 @@ class Tasks:
                         yield clause.guard, clause.origin
 
     def files(self, size: int) -> List[List[Line]]:
-        """The lines of task files of `size` tasks each, the last perhaps of fewer. All declare the variables of all tasks, so
+        """The lines of task files of `size` tasks each (1 to 256), the last perhaps of fewer. All declare the variables of all tasks, so
         that cubes and least assignments hang on no other task of the file."""
         if not self.tasks:
             raise TaskError("no task", self.origin)
+        if not 1 <= size <= MOST_TASKS:
+            raise TaskError(f"{counted(size, 'task')} in a file: from 1 to {MOST_TASKS}")
         names = list(self.variables())
         head = [Line(" ".join([".vars", *names]), self.origin)] if names else []
         tasks = [list(self._lines(task)) for task in self.tasks.values()]
@@ -251,8 +254,8 @@ class Tasks:
         return task.lines()
 
     def text(self) -> str:
-        """The task file with all tasks."""
-        return "".join(map(text_of, self.files(max(1, len(self.tasks)))))
+        """The task file with all tasks, of which there are at most 256."""
+        return text_of(self.files(len(self.tasks))[0])
 
     def failing(self, result: Result) -> List[Tuple[Clause, int]]:
         """The consequents that fail at the net and the time that the result names, under its least assignment, each with the
@@ -281,5 +284,5 @@ class Tasks:
                     require_sayable(~value, clause.origin)
                     name = f"{task.name}.{len(source)}"
                     source[name] = replace(clause, nets=(net,), values=(~value,))
-                    other._add(task.asking(name, clause, source[name]))
+                    other._register(task.asking(name, clause, source[name]))
         return other, source

@@ -50,12 +50,12 @@ class Page(unittest.TestCase):
 
     def test_commands(self) -> None:
         tried: List[str] = []
+        environment = {**os.environ, "PYTHONPATH": "python", "STEWORK": program()}
         for asked, shown in commands(PAGE.read_text()):
             words = asked.split(" ")
             if words[0] not in ("cat", "python3") or ("pytest" in words and not importlib.util.find_spec("pytest")):
                 continue
             with self.subTest(asked):
-                environment = {**os.environ, "PYTHONPATH": "python", "STEWORK": program() if words[0] == "python3" else ""}
                 words[0] = sys.executable if words[0] == "python3" else words[0]
                 done = subprocess.run(words, stdout=subprocess.PIPE, stderr=subprocess.STDOUT, env=environment, check=False)
                 self.same(shown, done.stdout.decode())
