@@ -82,11 +82,6 @@ class Clause:
         for net, value in zip(self.nets, self.values):
             yield Line(f"{self.side.value} {net} = {value}{guard}{times}", self.origin)
 
-    @property
-    def asks(self) -> bool:
-        """It is a consequent whose guard is not the constant 0."""
-        return self.side is Side.CONSEQUENT and self.guard.name != "0"
-
 
 class Clauses:
     """What an assertion and an edge of a graph have alike: clauses, in the order of the calls."""

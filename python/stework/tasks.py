@@ -249,7 +249,7 @@ class Tasks:
         return [head + [line for lines in tasks[at:at + size] for line in lines] for at in range(0, len(tasks), size)]
 
     def _lines(self, task: Task) -> Iterator[Line]:
-        if not any(clause.asks for part in task.parts() for clause in part.clauses):
+        if not any(clause.side is Side.CONSEQUENT for part in task.parts() for clause in part.clauses):
             raise TaskError(f"{task.name!r} has no consequent: it would pass whatever the netlist does", task.origin)
         return task.lines()
 

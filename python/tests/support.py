@@ -1,6 +1,7 @@
 """What several tests need: the program, netlists, and programs that stand in for it."""
 from __future__ import annotations
 
+import functools
 import os
 import pathlib
 import stat
@@ -21,7 +22,13 @@ def program() -> str:
     try:
         return os.path.abspath(find_program())
     except Fault as e:
+        _say_once(f"{e}; the tests that need it are skipped")
         raise unittest.SkipTest(str(e))
+
+
+@functools.lru_cache(maxsize=None)
+def _say_once(words: str) -> None:
+    print(words, file=sys.stderr)
 
 
 class Case(unittest.TestCase):

@@ -181,9 +181,7 @@ class TaskFiles(Case):
                 (["x", f"y[{low + width}:{low + 2}]"] if width > 1 else "x", ["x", *(f"y[{low + k}]" for k in range(width, 1, -1))][:width]),
             ])
             value = maker.constant(width) if rng.random() < 0.3 else maker.word(width, 2)
-            guard = maker.bit(2)
-            if str(guard.made) == "0":
-                guard = Made(1, lambda env: 1)
+            guard = maker.constant(1) if rng.random() < 0.2 else maker.bit(2)
             options: Dict[str, Any] = {} if rng.random() < 0.3 else {"when": guard.made}
             start, stop = rng.randint(0, 50), rng.randint(51, 100)
             if is_timed:

@@ -62,7 +62,6 @@ WRONG: Tuple[Tuple[Callable[[Tasks], Any], str], ...] = (
     (lambda t: (t.ste("a").con("x", 1, at=0), t.files(0)), "0 tasks in a file: from 1 to 256"),
     (lambda t: check("n", t), "no task"),
     (lambda t: (t.ste("a").ant("x", 1, at=0), t.text()), "'a' has no consequent: it would pass whatever the netlist does"),
-    (lambda t: (t.ste("a").con("x", 1, at=0, when=0), t.text()), "'a' has no consequent: it would pass whatever the netlist does"),
     (lambda t: (t.gste("g", "v").edge("v", "v").ant("x", 1), t.text()), "'g' has no consequent: it would pass whatever the netlist does"),
     (lambda t: (t.gste("g", "v").edge("u", "v").con("x", 1), t.text()), "no path from 'v' to vertex 'u' of 'g': is it misspelt?"),
     (lambda t: (t.ste("a").con("x[1:0]", two_of_one_name(), at=0), t.text()),
@@ -85,7 +84,7 @@ class TaskFiles(Case):
         tasks.ste("one", reset=True).ant("d[1:0]", i, at=0).ant("e[0:1]", 1, at=range(1, 3), when=p).con(["a", "b[3]"], cat(p, q), at=2)
         g = tasks.gste("two", "v")
         g.edge("v", "w").ant("d[0]", 1).con("x", p & q, when=~p)
-        g.edge("w", "w")
+        g.edge("w", "w").con("y", 1, when=0)
         tasks.ste("three").con("mem[2][1:0]", bits("z", 2), at=9_999)
         tasks.gste("four", "reset", reset=True).edge("reset", "end").con("0/1/x", 0)
         return tasks
@@ -106,6 +105,7 @@ class TaskFiles(Case):
 .ant d[0] = 1
 .con x = p & q when !p
 .edge w w
+.con y = 1 when 0
 .end
 .ste three
 .con mem[2][1] = z1 from 9999 to 10000
@@ -215,11 +215,11 @@ class TaskFiles(Case):
 
     def test_each_consequent_alone_and_negated(self) -> None:
         other, source = self.tasks().negated()
-        self.assertEqual(list(source), ["one.0", "one.1", "two.2", "three.3", "three.4", "four.5"])
+        self.assertEqual(list(source), ["one.0", "one.1", "two.2", "two.3", "three.4", "three.5", "four.6"])
         file = read(other.text())
         self.assertEqual([task.name for task in file.tasks], list(source))
         self.assertEqual(file.variables, read(self.tasks().text()).variables)
-        for old, new in zip(("one", "one", "two", "three", "three", "four"), file.tasks):
+        for old, new in zip(("one", "one", "two", "two", "three", "three", "four"), file.tasks):
             before = next(task for task in read(self.tasks().text()).tasks if task.name == old)
             self.assertEqual((new.start, new.reset), (before.start, before.reset))
             self.assertEqual([c for c in new.clauses if c.side == ".ant"], [c for c in before.clauses if c.side == ".ant"])
