@@ -76,6 +76,10 @@ class Expressions(Case):
                 self.assertEqual(error.message, text)
                 self.assertEqual((error.origin.file, error.origin.line), (__file__, wrong.__code__.co_firstlineno))
 
+    def test_a_module_of_a_like_name_is_the_users(self) -> None:
+        error = self.error(TaskError, lambda: exec(compile("\nbit('1')", "mine.py", "exec"), {"__name__": "stework_of_mine", "bit": bit}))
+        self.assertEqual(error.origin, ("mine.py", 2))
+
     def test_values_of_vectors(self) -> None:
         a, b = bits("a", 3), bits("b", 3)
         for x, y in itertools.product(range(8), repeat=2):

@@ -71,6 +71,16 @@ class Program(Case):
         results = check(self.netlist(INVERTER), tasks, program=self.program)
         self.assertEqual((results.assignment("t"), results["t"].strong.cubes), ({"v": 5}, ({"v2": 1, "v1": 0, "v0": 1},)))
 
+    def test_names_of_any_bytes(self) -> None:
+        a, y = "\udcff\u00e9\u2028\\", "$y\x0b:\\z"
+        net = self.netlist(f".model m\n.inputs {a} clk\n.outputs {y}\n.names {a} {y}\n0 1\n.end\n")
+        tasks = Tasks(net)
+        tasks.ste("\x85\udcfe").ant(a, p, at=0).con(y, p, at=0)
+        (result,) = check(net, tasks, program=self.program).values()
+        assert result.run is not None
+        self.assertEqual((result.name, result.fails, list(result.run.nets)), ("\x85\udcfe", (y, 0), [a, y]))
+        self.assertEqual([bit for _, bit in tasks.failing(result)], [0])
+
     def test_a_refusal_has_its_line_of_python(self) -> None:
         tasks = Tasks()
         tasks.ste("t").con("y", 1, at=0).con("zz", 1, at=0)
@@ -88,6 +98,8 @@ class Program(Case):
     def test_the_memory(self) -> None:
         net = str(EXAMPLES / "ram16.blif")
         tasks = self.example("memory").memory(net)
+        self.assertEqual(tasks.text().count("\n"), 318)
+        self.assertIn(".ant mem[5][7] = u7 when !k3 & k2 & !k1 & k0 from 0 to 1\n", tasks.text())
         results = check(net, tasks, program=self.program, cubes=64)
         self.assertEqual([r.verdict for r in results.values()], [Verdict.PASS, Verdict.PASS, Verdict.WEAK])
         careless = results["careless"]

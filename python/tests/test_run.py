@@ -93,9 +93,12 @@ class Running(Case):
         return [json.loads(line) for line in (self.folder / "seen").read_text().splitlines()]
 
     def test_what_the_program_is_handed(self) -> None:
-        net, tasks, stand_in = self.netlist(NET), self.tasks(), self.stand_in(PASSES)
+        other = self.folder / "other.blif"
+        other.write_text(".model other\n.inputs y\n.end\n")
+        net, tasks, stand_in = self.netlist(NET), self.tasks(str(other)), self.stand_in(PASSES)
         for options, words in (({}, ["--workers=4", "--steps=1000000", "--cubes=8"]),
-                               ({"workers": True, "steps": 7, "cubes": 64, "wave": True}, ["--workers=1", "--steps=7", "--cubes=64", "--wave"])):
+                               ({"workers": 64, "steps": 7, "cubes": 64, "wave": True}, ["--workers=64", "--steps=7", "--cubes=64", "--wave"]),
+                               ({"workers": True, "steps": 8_000_000, "cubes": 1}, ["--workers=1", "--steps=8000000", "--cubes=1"])):
             results = check(net, tasks, program=stand_in, **options)  # type: ignore[arg-type]
             self.assertTrue(results.passed)
             seen = self.seen()[-1]

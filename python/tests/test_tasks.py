@@ -124,6 +124,11 @@ class TaskFiles(Case):
         tasks.ste("t").con("x", 1, at=0)
         self.assertEqual(tasks.text(), ".ste t\n.con x = 1 from 0 to 1\n.end\n")
 
+    def test_as_many_variables_as_there_may_be(self) -> None:
+        tasks = Tasks()
+        tasks.ste("t").con("x", bits("v", 999) == 0, at=0, when=p)
+        self.assertEqual(len(read(tasks.text()).variables), 1000)
+
     def test_files_of_some_tasks_each(self) -> None:
         whole = read(self.tasks().text())
         for size in range(1, 6):
