@@ -9,7 +9,7 @@ from typing import Any, Dict, List, Optional, Tuple
 from unittest import mock
 
 from stework import (Fault, Origin, OutOfMemory, Refused, ReportError, Results, SteworkError, TaskError, Tasks, TimedOut, Verdict, bit, bits, check,
-                     unasked)
+                     read_report, unasked)
 from stework.run import find_program
 
 from .reader import read
@@ -241,4 +241,9 @@ sys.exit(1)
         for kind in (Fault, OutOfMemory, Refused, ReportError, TaskError, TimedOut):
             self.assertTrue(issubclass(kind, SteworkError))
         self.assertTrue(issubclass(TaskError, ValueError))
-        self.assertEqual(len(Results({}, {})), 0)
+
+    def test_whether_all_passed(self) -> None:
+        for text, missing, passed in (("a: pass\nb: pass\n", [], True), ("a: pass\nb: pass\n", ["c"], False), ("a: pass\nb: budget\n", [], False),
+                                      ("a: contradictory antecedent\n  contradictory: 1\nb: pass\n", [], False)):
+            results = Results({result.name: result for result in read_report(text)[0]}, {}, missing)
+            self.assertEqual((results.passed, len(results), results.text), (passed, 2, text))
