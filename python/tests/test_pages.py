@@ -53,9 +53,11 @@ class Page(unittest.TestCase):
         environment = {**os.environ, "PYTHONPATH": "python", "STEWORK": program()}
         for asked, shown in commands(PAGE.read_text()):
             words = asked.split(" ")
-            if words[0] not in ("cat", "python3") or ("pytest" in words and not importlib.util.find_spec("pytest")):
+            if words[0] not in ("cat", "python3"):
                 continue
             with self.subTest(asked):
+                if "pytest" in words and not importlib.util.find_spec("pytest"):
+                    self.skipTest("pytest is not installed")
                 words[0] = sys.executable if words[0] == "python3" else words[0]
                 done = subprocess.run(words, stdout=subprocess.PIPE, stderr=subprocess.STDOUT, env=environment, check=False)
                 self.same(shown, done.stdout.decode())
