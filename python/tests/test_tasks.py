@@ -54,6 +54,7 @@ WRONG: Tuple[Tuple[Callable[[Tasks], Any], str], ...] = (
     (lambda t: t.ste("a").con("x", 1, at=-1), "at=-1: a time step, or a range of at least one, from 0 to 10000, with step 1"),
     (lambda t: t.ste("a").con("x", 1, at="0"), "at='0': a time step, or a range of at least one, from 0 to 10000, with step 1"),
     (lambda t: t.ste("a").con("x", deep(101), at=0), "<expression of 556 characters> is too deep: 101 levels of ! and brackets, of at most 100"),
+    (lambda t: t.ste("a").con("x", 1, at=0, when=deep(102)), "<expression of 566 characters> is too deep: 102 levels of ! and brackets, of at most 100"),
     (lambda t: Tasks(order=[p & q]), "order: <p & q> is no variable"),
     (lambda t: Tasks(order=[1]), "order: 1 is no variable"),
     (lambda t: Tasks("nowhere.blif"), "cannot read nowhere.blif: No such file or directory"),
