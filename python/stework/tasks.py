@@ -237,8 +237,8 @@ class Tasks:
                         yield clause.guard, clause.origin
 
     def files(self, size: int) -> List[List[Line]]:
-        """The lines of task files of `size` tasks each (1 to 256), the last perhaps of fewer. All declare the variables of all tasks, so
-        that cubes and least assignments hang on no other task of the file."""
+        """The lines of task files of `size` tasks each (1 to 256), the last perhaps of fewer. All declare the variables of all
+        tasks, so that cubes and least assignments do not hang on how the tasks are parted."""
         if not self.tasks:
             raise TaskError("no task", self.origin)
         if not 1 <= size <= MOST_TASKS:
