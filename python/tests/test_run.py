@@ -170,13 +170,11 @@ if "t2" in names: sys.stdout = sys.stderr = None; sys.exit(3)
         self.assertFalse(error.results.passed)
 
     def test_values_are_put_together(self) -> None:
-        out = "t: strong failure\n  strong: p\n  least: p=1 v1=0 v0=0\n  fails: y at 1\ng: budget\n"
         tasks = self.tasks()
         tasks.order = [p, *reversed(list(bits("v", 2)))]
-        for old, new, values in (("v1=0 v0=0", "v1=0 v0=0", {"p": 1, "v": 0}), ("p\n", "p & v1\n", {"p": 1, "v": 2}), ("p\n", "p & v0\n", {"p": 1, "v": 1})):
-            text = out.replace(old, new, 1)
-            for v in ("v0", "v1"):
-                text = text.replace(f"{v}=0", f"{v}={int(v in new and '&' in new)}")
+        for cube, least, values in (("p", "p=1 v1=0 v0=0", {"p": 1, "v": 0}), ("p & v1", "p=1 v1=1 v0=0", {"p": 1, "v": 2}),
+                                    ("p & v0", "p=1 v1=0 v0=1", {"p": 1, "v": 1}), ("!p & v1 & v0", "p=0 v1=1 v0=1", {"p": 0, "v": 3})):
+            text = f"t: strong failure\n  strong: {cube}\n  least: {least}\n  fails: y at 1\ng: budget\n"
             results = check(self.netlist(NET), tasks, program=self.stand_in(f"sys.stdout.write({text!r}); sys.exit(1)"))
             self.assertEqual((results.assignment("t"), list(results.assignment("t"))), (values, ["p", "v"]))
             self.assertEqual((results.assignment("g"), results["g"].verdict, results.passed, results.text), ({}, Verdict.BUDGET, False, text))
