@@ -145,6 +145,7 @@ class Waves(Case):
         rows = "".join(f"    n{k}: {k % 2}\n" for k in range(9000))
         (result,), _ = read_report(f"t: strong failure\n  strong: 1\n  least:\n  fails: n7 at 0\n  run:\n{rows}")
         self.assertEqual(values(vcd(result)), {**{f"n{k}": str(k % 2) for k in range(9000)}, "stework_fails": "1"})
+        self.assertRegex(vcd(result), r"\A[!-~ \n]+\Z")
 
     def test_no_run(self) -> None:
         (result,), _ = read_report("t: pass\n")
