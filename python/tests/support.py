@@ -31,6 +31,15 @@ def _say_once(words: str) -> None:
     print(words, file=sys.stderr)
 
 
+TOLD = """
+import sys
+
+def told(*lines):
+    for line in lines:
+        sys.stdout.buffer.write((line + "\\n").encode("latin-1"))
+"""
+
+
 class Case(unittest.TestCase):
     """A test with a folder of its own, `self.folder`."""
     maxDiff = None
@@ -47,9 +56,10 @@ class Case(unittest.TestCase):
         return str(path)
 
     def stand_in(self, body: str) -> str:
-        """A program of these lines of Python; `sys` is there, and `told(line, ..)` writes lines to the output."""
+        """A program of these lines of Python; `sys` is there, and `told(line, ..)` writes lines to the output, with a byte for
+        each character."""
         path = self.folder / "stand_in"
-        path.write_text(f"#!{sys.executable} -IS\nimport sys\ndef told(*lines): sys.stdout.write(''.join(l + '\\n' for l in lines))\n{body}\n")
+        path.write_text(f"#!{sys.executable} -IS\n{TOLD}\n{body}\n")
         path.chmod(path.stat().st_mode | stat.S_IXUSR)
         return str(path)
 

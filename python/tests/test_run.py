@@ -21,7 +21,7 @@ p = bit("p")
 # A program that tells `pass` of each task, and writes down what it was handed.
 PASSES = """
 import json, os, pathlib
-tasks = pathlib.Path(sys.argv[-1]).read_bytes().decode()
+tasks = pathlib.Path(sys.argv[-1]).read_bytes().decode("latin-1")
 names = [line.split()[1] for line in tasks.split("\\n") if line.startswith((".ste ", ".gste "))]
 seen = {"words": sys.argv[1:], "net": pathlib.Path(sys.argv[-2]).read_bytes().decode("latin-1"), "tasks": tasks, "folder": os.getcwd()}
 with open(pathlib.Path(__file__).parent / "seen", "a") as file: file.write(json.dumps(seen) + "\\n")
@@ -96,16 +96,19 @@ class Running(Case):
         other = self.folder / "other.blif"
         other.write_text(".model other\n.inputs y\n.end\n")
         net, tasks, stand_in = self.netlist(NET), self.tasks(str(other)), self.stand_in(PASSES)
+        tasks.ste("\udcff\u00e9").con("y", 1, at=0)
         for options, words in (({}, ["--workers=4", "--steps=1000000", "--cubes=8"]),
                                ({"workers": 64, "steps": 7, "cubes": 64, "wave": True}, ["--workers=64", "--steps=7", "--cubes=64", "--wave"]),
-                               ({"workers": True, "steps": 8_000_000, "cubes": 1}, ["--workers=1", "--steps=8000000", "--cubes=1"])):
+                               ({"workers": True, "steps": 5_000_000, "cubes": 1}, ["--workers=1", "--steps=5000000", "--cubes=1"])):
             results = check(net, tasks, program=stand_in, **options)  # type: ignore[arg-type]
             self.assertTrue(results.passed)
             seen = self.seen()[-1]
             self.assertEqual(seen["words"], ["check", *words, "--", "NET", "TASKS"])
-            self.assertEqual((seen["net"].encode("latin-1"), seen["tasks"]), ((self.folder / "n.blif").read_bytes(), tasks.text()))
+            self.assertEqual(seen["net"].encode("latin-1"), (self.folder / "n.blif").read_bytes())
+            self.assertEqual(seen["tasks"].encode("latin-1"), tasks.text().encode("utf-8", "surrogateescape"))
             self.assertFalse(os.path.exists(seen["folder"]))
-        self.assertEqual((list(results), results.text, results.missing), (["t", "g"], "t: pass\ng: pass\n", ()))
+        self.assertEqual((list(results), results.missing), (["t", "g", "\udcff\u00e9"], ()))
+        self.assertEqual(results.text, "t: pass\ng: pass\n\udcff\u00e9: pass\n")
 
     def test_more_tasks_than_a_file_takes(self) -> None:
         net, stand_in = self.netlist(NET), self.stand_in(PASSES)
@@ -229,6 +232,8 @@ told("t.2: strong failure", "  strong: p", "  least: p=1", "  fails: z at 0")
 sys.exit(1)
 """)
         self.assertEqual([clause.nets for clause, _ in unasked(self.netlist(NET), tasks, program=stand_in)], [("y[0]",)])
+        self.assertEqual(len(unasked(self.netlist(NET), tasks, program=self.stand_in(PASSES), workers=2)), 3)
+        self.assertIn("--workers=2", self.seen()[0]["words"])
 
     def test_an_origin_is_told_from_the_working_folder_on(self) -> None:
         self.assertEqual(str(Origin(os.path.join(os.getcwd(), "a", "b.py"), 3)), os.path.join("a", "b.py") + ":3")
