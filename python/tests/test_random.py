@@ -265,7 +265,7 @@ class Reports(Case):
         if verdict in (Verdict.STRONG, Verdict.WEAK):
             least = list(zip(variables, every[kinds.index("strong" if verdict is Verdict.STRONG else "weak")]))
             time, is_graph = rng.randint(0, 3), rng.random() < 0.5
-            path = [rng.randint(0, 12) for _ in range(time + 1)] if is_graph else []
+            path = [rng.choice([0, 1, 12, 9_999]) for _ in range(time + 1)] if is_graph else []
             rows = [(net, "".join(rng.choice("01") for _ in range(time + 1 + (0 if is_graph else 2)))) for net in rng.sample(NAMES, rng.randint(1, 4))]
             lines.append("  least:" + "".join(f" {v}={bit}" for v, bit in least))
             lines += ["  path: " + " ".join(map(str, path))] if path else []

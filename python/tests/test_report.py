@@ -27,7 +27,7 @@ e: pass
 f: weak failure
   weak: 1
   least: p=0 i1=0 i0=0
-  fails: \u2028\udcff at 10
+  fails: \u2028\udcff at 9999
 g:: strong failure
   strong: 1
   least:
@@ -127,7 +127,7 @@ class Reports(Case):
             a.run["d[2:0]"]
         self.assertEqual((b.least, b.path, b.fails, b.run, b.strong), (None, (), None, None, Cubes()))
         self.assertEqual((c.contradictory, e.contradictory), (Cubes(({},)), Cubes(({"p": 0}, {"p": 1, "i1": 1}))))
-        self.assertEqual((f.fails, f.weak, g.least), (Place("\u2028\udcff", 10), Cubes(({},)), {}))
+        self.assertEqual((f.fails, f.weak, g.least), (Place("\u2028\udcff", 9999), Cubes(({},)), {}))
         self.assertEqual(list(g.run.nets.items()), [("0/n", "1"), ("$a.cc:3:x", "1")])
 
     def test_no_task(self) -> None:
