@@ -6,7 +6,6 @@ of pytest where it is installed.
 from __future__ import annotations
 
 import doctest
-import importlib.util
 import os
 import re
 import subprocess
@@ -56,7 +55,8 @@ class Page(unittest.TestCase):
             if words[0] not in ("cat", "python3"):
                 continue
             with self.subTest(asked):
-                if "pytest" in words and not importlib.util.find_spec("pytest"):
+                if "pytest" in words and subprocess.run([sys.executable, "-m", "pytest", "--version"], stderr=subprocess.DEVNULL,
+                                                        stdout=subprocess.DEVNULL, check=False).returncode:
                     self.skipTest("pytest is not installed")
                 words[0] = sys.executable if words[0] == "python3" else words[0]
                 done = subprocess.run(words, stdout=subprocess.PIPE, stderr=subprocess.STDOUT, env=environment, check=False)
