@@ -73,9 +73,9 @@ class Page(unittest.TestCase):
         self.assertEqual((outcome.failed, "".join(told)), (0, ""))
 
     def test_the_table_of_mistakes(self) -> None:
-        rows = re.findall(r"^\| `((?:t|g|i|bit)[.\[(].*?)` \| (.*) \|$", PAGE.read_text(), re.MULTILINE)
+        rows = re.findall(r"^\| `((?:t|g|i|bit)[.\[(].*?)` \| (?:`` (.*) ``|`(.*)`) \|$", PAGE.read_text(), re.MULTILINE)
         self.assertGreater(len(rows), 10)
-        for written, told in rows:
+        for written, *told in rows:
             with self.subTest(written):
                 tasks = Tasks("examples/ram16.blif")
                 names = {"t": tasks.ste("t"), "g": tasks.gste("g", "start"), "i": bits("i", 4), "p": bit("p"), "bit": bit, "bits": bits}
@@ -83,4 +83,4 @@ class Page(unittest.TestCase):
                     eval(written, names)
                     del tasks.tasks["t"]
                     tasks.text()
-                self.assertEqual(raised.exception.message, told.replace("\\|", "|"))
+                self.assertEqual(raised.exception.message, "".join(told).replace("\\|", "|"))
