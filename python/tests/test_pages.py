@@ -1,7 +1,8 @@
-"""docs/PYTHON.md: its commands write what stands behind them, its sessions print what they show, and its table of mistakes has the words that are told.
+"""docs/PYTHON.md: its commands write what stands behind them, its sessions print what they show, and its table of mistakes has the
+words that are told.
 
-A command is a line `    $ ..` of an indented block, and what it writes is the lines behind it. `...` stands for any text. Of commands `cat` and `python3` are tried; those
-of pytest where it is installed.
+A command is a line `    $ ..` of an indented block, and what it writes is the lines behind it. `...` stands for any text. Of
+commands `cat` and `python3` are tried, and that of pytest where this is installed.
 """
 from __future__ import annotations
 
