@@ -2,6 +2,7 @@
 from __future__ import annotations
 
 import enum
+import functools
 import re
 from dataclasses import dataclass
 from typing import Iterable, Iterator, List, NamedTuple, Optional, Sequence, Tuple, TypeVar, Union
@@ -75,12 +76,13 @@ class Clause:
     times: Optional[range]
     origin: Origin
 
-    def lines(self) -> Iterator[Line]:
-        """A line for each net, in their order."""
+    @functools.cached_property
+    def lines(self) -> Tuple[Line, ...]:
+        """A line for each net, in their order; made once, as many tasks may share a clause."""
         guard = "" if self.guard.name == "1" else f" when {self.guard}"
         times = "" if self.times is None else f" from {self.times.start} to {self.times.stop}"
-        for net, value in zip(self.nets, self.values):
-            yield Line(f"{self.side.value} {net} = {value}{guard}{times}", self.origin)
+        return tuple(Line(f"{self.side.value} {net} = {value}{guard}{times}", self.origin)
+                     for net, value in zip(self.nets, self.values))
 
 
 class Clauses:
@@ -107,4 +109,4 @@ class Clauses:
     def clause_lines(self) -> Iterator[Line]:
         """The lines of the clauses."""
         for clause in self.clauses:
-            yield from clause.lines()
+            yield from clause.lines
