@@ -119,6 +119,7 @@ class TaskFiles(Case):
 """)
         self.assertEqual([task.name for task in read(text).tasks], ["one", "two", "three", "four"])
         self.assertEqual(self.tasks().text(), text)
+        self.assertEqual(pickle.loads(pickle.dumps(self.tasks())).text(), text)
 
     def test_no_variables(self) -> None:
         tasks = Tasks()
