@@ -121,6 +121,10 @@ class TaskFiles(Case):
         self.assertEqual(self.tasks().text(), text)
         self.assertEqual(pickle.loads(pickle.dumps(self.tasks())).text(), text)
 
+    def test_how_many_time_steps(self) -> None:
+        t = Tasks().ste("t")
+        self.assertEqual((t.depth, t.con("x", 1, at=1).depth, t.ant("x", 1, at=range(1, 5)).depth, t.con("x", 1, at=0).depth), (0, 2, 5, 5))
+
     def test_no_variables(self) -> None:
         tasks = Tasks()
         tasks.ste("t").con("x", 1, at=0)

@@ -148,9 +148,10 @@ class Waves(Case):
         self.assertRegex(vcd(result), r"\A[!-~ \n]+\Z")
 
     def test_no_run(self) -> None:
-        (result,), _ = read_report("t: pass\n")
-        with self.assertRaisesRegex(ValueError, "^t: pass, without a run$"):
-            vcd(result)
+        for text, verdict in (("t: pass\n", "pass"), ("t: weak failure\n  weak: 1\n  least:\n  fails: y at 0\n", "weak failure")):
+            (result,), _ = read_report(text)
+            with self.assertRaisesRegex(ValueError, f"^t: {verdict}, without a run$"):
+                vcd(result)
 
 
 class Command(Case):
