@@ -1,0 +1,96 @@
+"""Runs as waves: VCD, which GTKWave and others read. Begin with `vcd`."""
+from __future__ import annotations
+
+import re
+from typing import Dict, Iterator, List, NamedTuple, Set
+
+from .blif import has_no_gap, vector_of, vectors
+from .report import Result, Run
+
+
+class _Signal(NamedTuple):
+    """A net, or the bits of a vector: its name with its indices, and the rows of its bits, the most significant first."""
+    name: str
+    rows: List[str]
+
+    def at(self, time: int) -> str:
+        """The bits at a time step."""
+        return "".join(row[time] for row in self.rows)
+
+
+class _Scope:
+    """The signals of one instance, and the instances in it."""
+
+    def __init__(self) -> None:
+        self.signals: List[_Signal] = []
+        self.instances: Dict[str, _Scope] = {}
+
+
+def _shown(name: str) -> str:
+    """The name as GTKWave takes it: to it a `:` is that of a range, and `$end` ends a line."""
+    return re.sub(r":|^\$(?=end$)", "_", name)
+
+
+def _top_scope(run: Run) -> _Scope:
+    """The nets by instance (0/1/x is x in 1 in 0), with the bits of a vector put together where they are all there."""
+    top, nets = _Scope(), run.nets
+    wide = vectors(nets)
+    done: Set[str] = set()
+    for name in nets:
+        base = (vector_of(name) or (name, 0))[0]
+        *path, local = base.split("/")
+        scope = top
+        while path and path[0].isdigit():
+            scope = scope.instances.setdefault(path.pop(0), _Scope())
+        local = _shown("/".join([*path, local]))
+        indices = wide.get(base, [])
+        if len(indices) < 2 or not has_no_gap(indices) or base in nets:
+            scope.signals.append(_Signal(local + name[len(base):], [nets[name]]))
+        elif base not in done:
+            done.add(base)
+            scope.signals.append(_Signal(f"{local} [{indices[0]}:{indices[-1]}]", [nets[f"{base}[{i}]"] for i in indices]))
+    return top
+
+
+def _code(number: int) -> str:
+    """The number as VCD's short name of a signal: printed characters, from `!` to `~`."""
+    code = ""
+    while True:
+        number, digit = divmod(number, 94)
+        code += chr(33 + digit)
+        if not number:
+            return code
+
+
+def _declarations(name: str, scope: _Scope, declared: List[_Signal]) -> Iterator[str]:
+    """The lines that declare a scope; its signals go to the end of `declared`, and their codes go by their places there."""
+    yield f"$scope module {name} $end"
+    for signal in scope.signals:
+        yield f"$var wire {len(signal.rows)} {_code(len(declared))} {signal.name} $end"
+        declared.append(signal)
+    for inner, instance in scope.instances.items():
+        yield from _declarations(inner, instance, declared)
+    yield "$upscope $end"
+
+
+def vcd(result: Result) -> str:
+    """The run of a failed task as VCD, the same text each time. One time step is 1 ns. The signal `stework_fails` is 1 in the
+    step in which the task fails; a comment at the head has task, verdict, net and time. ValueError where there is no run."""
+    if result.run is None or result.fails is None:
+        raise ValueError(f"{result.name}: {result.verdict.value}, without a run")
+    steps = range(result.run.steps)
+    top = _top_scope(result.run)
+    top.signals.insert(0, _Signal("stework_fails", ["".join(str(int(t == result.fails.time)) for t in steps)]))
+    declared: List[_Signal] = []
+    lines = [f"$comment {result.name}: {result.verdict.value}, fails: {_shown(result.fails.net)} at {result.fails.time} $end",
+             "$comment 1 ns is one time step $end",
+             "$timescale 1 ns $end",
+             *_declarations("run", top, declared),
+             "$enddefinitions $end"]
+    for time in steps:
+        lines.append(f"#{time}")
+        for number, signal in enumerate(declared):
+            bits = signal.at(time)
+            if time == 0 or bits != signal.at(time - 1):
+                lines.append(f"{bits}{_code(number)}" if len(bits) == 1 else f"b{bits} {_code(number)}")
+    return "\n".join([*lines, f"#{len(steps)}", ""])
