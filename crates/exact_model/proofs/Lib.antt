@@ -1,0 +1,5 @@
+pub mod Exactly
+pub mod Single
+pub mod DecidedRuns
+pub mod CellLists
+pub mod ChoiceRuns

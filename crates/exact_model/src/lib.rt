@@ -1,0 +1,33 @@
+//! What two-valued runs say of assertions: exact findings, verdict and report; and the law that pass is exactly holding. Begin
+//! with `specs/Exact.antt`.
+#![tactic(auto)]
+
+ghost use Rattle.exact_model.specs.Choices.{RunsAreChoices};
+ghost use Rattle.exact_model.specs.Decided.{DecidedSaysRuns};
+ghost use Rattle.exact_model.specs.Exact.{ExactPassIsHolding, OneExactVerdict, SetsAreSafe};
+
+/// An assertion holds exactly where its exact verdict is pass.
+pub fn exact_pass_is_holding()
+    ensures { ExactPassIsHolding }
+{}
+
+/// An assertion has one exact verdict at most.
+pub fn one_exact_verdict()
+    ensures { OneExactVerdict }
+{}
+
+/// What passes by sets of bits passes exactly, and what is contradictory by sets is exactly so.
+pub fn sets_are_safe()
+    ensures { SetsAreSafe }
+{}
+
+/// Where the antecedent decides each choice, an assignment is strong by sets exactly where it is so by runs, and contradictory by sets
+/// exactly where it is so by runs; and it is never weak.
+pub fn decided_says_runs()
+    ensures { DecidedSaysRuns }
+{}
+
+/// Each list of bits is the choices of exactly one run of an assertion's depth.
+pub fn runs_are_choices()
+    ensures { RunsAreChoices }
+{}
