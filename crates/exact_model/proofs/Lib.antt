@@ -3,3 +3,6 @@ pub mod Single
 pub mod DecidedRuns
 pub mod CellLists
 pub mod ChoiceRuns
+pub mod Readings
+pub mod Breaking
+pub mod ExactFindings

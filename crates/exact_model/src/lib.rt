@@ -4,6 +4,7 @@
 
 ghost use Rattle.exact_model.specs.Choices.{RunsAreChoices};
 ghost use Rattle.exact_model.specs.Decided.{DecidedSaysRuns};
+ghost use Rattle.exact_model.specs.ExactNeed.{ExactResultsAreFindings};
 ghost use Rattle.exact_model.specs.Exact.{ExactPassIsHolding, OneExactVerdict, SetsAreSafe};
 
 /// An assertion holds exactly where its exact verdict is pass.
@@ -30,4 +31,9 @@ pub fn decided_says_runs()
 /// Each list of bits is the choices of exactly one run of an assertion's depth.
 pub fn runs_are_choices()
     ensures { RunsAreChoices }
+{}
+
+/// The functions of the exact results tell under which assignments an assertion is exactly strong and exactly contradictory.
+pub fn exact_results_are_findings()
+    ensures { ExactResultsAreFindings }
 {}
