@@ -6,3 +6,4 @@ pub mod ChoiceRuns
 pub mod Readings
 pub mod Breaking
 pub mod ExactFindings
+pub mod ExactNeeds

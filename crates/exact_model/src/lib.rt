@@ -4,7 +4,7 @@
 
 ghost use Rattle.exact_model.specs.Choices.{RunsAreChoices};
 ghost use Rattle.exact_model.specs.Decided.{DecidedSaysRuns};
-ghost use Rattle.exact_model.specs.ExactNeed.{ExactResultsAreFindings};
+ghost use Rattle.exact_model.specs.ExactNeed.{ExactResultsAreFindings, OneExactNeed};
 ghost use Rattle.exact_model.specs.Exact.{ExactPassIsHolding, OneExactVerdict, SetsAreSafe};
 
 /// An assertion holds exactly where its exact verdict is pass.
@@ -36,4 +36,9 @@ pub fn runs_are_choices()
 /// The functions of the exact results tell under which assignments an assertion is exactly strong and exactly contradictory.
 pub fn exact_results_are_findings()
     ensures { ExactResultsAreFindings }
+{}
+
+/// The exact check of an assertion needs exactly one number of steps.
+pub fn one_exact_need()
+    ensures { OneExactNeed }
 {}
