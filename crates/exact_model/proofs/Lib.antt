@@ -7,3 +7,4 @@ pub mod Readings
 pub mod Breaking
 pub mod ExactFindings
 pub mod ExactNeeds
+pub mod ExactCounts

@@ -5,6 +5,7 @@
 ghost use Rattle.exact_model.specs.Choices.{RunsAreChoices};
 ghost use Rattle.exact_model.specs.Decided.{DecidedSaysRuns};
 ghost use Rattle.exact_model.specs.ExactNeed.{ExactResultsAreFindings, OneExactNeed};
+ghost use Rattle.exact_model.specs.ExactSamples.{ExactSamplesAreCounted};
 ghost use Rattle.exact_model.specs.Exact.{ExactPassIsHolding, OneExactVerdict, SetsAreSafe};
 
 /// An assertion holds exactly where its exact verdict is pass.
@@ -41,4 +42,9 @@ pub fn exact_results_are_findings()
 /// The exact check of an assertion needs exactly one number of steps.
 pub fn one_exact_need()
     ensures { OneExactNeed }
+{}
+
+/// The exact work functions of six small assertions have 6, 5, 25, 11, 2 and 7 nodes.
+pub fn exact_samples_are_counted()
+    ensures { ExactSamplesAreCounted }
 {}
