@@ -8,3 +8,4 @@ pub mod Breaking
 pub mod ExactFindings
 pub mod ExactNeeds
 pub mod ExactCounts
+pub mod ExactReports

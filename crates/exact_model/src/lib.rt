@@ -5,6 +5,7 @@
 ghost use Rattle.exact_model.specs.Choices.{RunsAreChoices};
 ghost use Rattle.exact_model.specs.Decided.{DecidedSaysRuns};
 ghost use Rattle.exact_model.specs.ExactNeed.{ExactResultsAreFindings, OneExactNeed};
+ghost use Rattle.exact_model.specs.ExactReport.{OneExactReportOf};
 ghost use Rattle.exact_model.specs.ExactSamples.{ExactSamplesAreCounted};
 ghost use Rattle.exact_model.specs.Exact.{ExactPassIsHolding, OneExactVerdict, SetsAreSafe};
 
@@ -47,4 +48,9 @@ pub fn one_exact_need()
 /// The exact work functions of six small assertions have 6, 5, 25, 11, 2 and 7 nodes.
 pub fn exact_samples_are_counted()
     ensures { ExactSamplesAreCounted }
+{}
+
+/// An assertion has one exact report at most.
+pub fn one_exact_report_of()
+    ensures { OneExactReportOf }
 {}
