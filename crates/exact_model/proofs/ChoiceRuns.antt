@@ -27,13 +27,13 @@ use Rattle.exact_model.proofs.CellLists.{Agree, agree_at, all_choices, bits_agre
 -- ---- first values
 
 -- the bit that a latch begins with, where it is to be this one if it may be
-abbrev first_bit : Bool → Init → Bool → Bool
+abbrev pub first_bit : Bool → Init → Bool → Bool
 first_bit false start bit = bit
 first_bit true init.Zero bit = false
 first_bit true init.One bit = true
 first_bit true init.Free bit = bit
 
-may_start : (reset : Bool) (start : Init) (bit : Bool) → IsTrue reset → IsInitial start (first_bit reset start bit)
+pub may_start : (reset : Bool) (start : Init) (bit : Bool) → IsTrue reset → IsInitial start (first_bit reset start bit)
 may_start false start bit on = absurd (cc on)
 may_start true init.Zero bit on = refl
 may_start true init.One bit on = refl
@@ -54,10 +54,10 @@ free_or_one true init.Free = inl refl
 
 -- ---- what drives a net
 
-some_latch : Latch
+pub some_latch : Latch
 some_latch = record { input = record { 0 = 0 }; output = record { 0 = 0 }; init = init.Free }
 
-is_undriven : (net : RawNet) (id : ℕ) (s : Source) → Facts net id s → IsTrue (is_open s) → IsUndriven net id
+pub is_undriven : (net : RawNet) (id : ℕ) (s : Source) → Facts net id s → IsTrue (is_open s) → IsUndriven net id
 is_undriven net id source.Input f h = record { by_gate = f.0; by_latch = f.1 }
 is_undriven net id source.Free f h = record { by_gate = f.0; by_latch = f.1 }
 is_undriven net id (source.Gate g) f h = absurd (cc h)
@@ -75,7 +75,7 @@ undriven_open net id (source.Latch l) f none = let d = some_of net.latches l f.0
 
 -- ---- a run with these choices
 
-zip_each : (f g : Latch → Bool) (latches : List Latch) → AllZip (λ latch bit. f latch ≡ bit) latches (map g latches) → All (λ latch. f latch ≡ g latch) latches
+pub zip_each : (f g : Latch → Bool) (latches : List Latch) → AllZip (λ latch bit. f latch ≡ bit) latches (map g latches) → All (λ latch. f latch ≡ g latch) latches
 zip_each f g [] h k d l = absurd (omega arith)
 zip_each f g (latch ∷ latches) h zero d l = h.0
 zip_each f g (latch ∷ latches) h (suc k) d l = zip_each f g latches h.1 k d (omega arith)

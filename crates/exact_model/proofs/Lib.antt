@@ -9,3 +9,4 @@ pub mod ExactFindings
 pub mod ExactNeeds
 pub mod ExactCounts
 pub mod ExactReports
+pub mod Printing

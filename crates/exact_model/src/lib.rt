@@ -2,6 +2,7 @@
 //! with `specs/Exact.antt`.
 #![tactic(auto)]
 
+ghost use Rattle.exact_model.specs.Bindable.{BindableIsFree, PrintedIsLeast};
 ghost use Rattle.exact_model.specs.Choices.{RunsAreChoices};
 ghost use Rattle.exact_model.specs.Decided.{DecidedSaysRuns};
 ghost use Rattle.exact_model.specs.ExactNeed.{ExactResultsAreFindings, OneExactNeed};
@@ -53,4 +54,15 @@ pub fn exact_samples_are_counted()
 /// An assertion has one exact report at most.
 pub fn one_exact_report_of()
     ensures { OneExactReportOf }
+{}
+
+/// Under a bindable antecedent sets of bits say when an assignment is exactly contradictory, and what is strong by sets is exactly
+/// strong.
+pub fn bindable_is_free()
+    ensures { BindableIsFree }
+{}
+
+/// The printed run of a strong assignment is the counterexample with the least choices.
+pub fn printed_is_least()
+    ensures { PrintedIsLeast }
 {}
