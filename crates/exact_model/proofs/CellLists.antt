@@ -110,7 +110,10 @@ join p xs ys on off fill_xs fill_ys bits long =
     let f : ℕ → ℕ → Bool = λ t id. if p t id then front.0 t id else back.0 t id in
     let same_front = bits_agree xs f front.0 (All-weaker (λ c. p c.time c.net ≡ true) (Agree f front.0) (λ c e. ap (λ b. if b then front.0 c.time c.net else back.0 c.time c.net) e) xs on) in
     let same_back = bits_agree ys f back.0 (All-weaker (λ c. p c.time c.net ≡ false) (Agree f back.0) (λ c e. ap (λ b. if b then front.0 c.time c.net else back.0 c.time c.net) e) ys off) in
-    (f, map-append (λ (c : Cell). f c.time c.net) xs ys ∙ ap (λ bs. bs ++ bits_at ys f) (same_front ∙ front.1) ∙ ap (λ bs. take (length xs) bits ++ bs) (same_back ∙ back.1) ∙ take-append-drop (length xs) bits)
+    (f, put f (take (length xs) bits) (drop (length xs) bits) (same_front ∙ front.1) (same_back ∙ back.1) ∙ take-append-drop (length xs) bits)
+  where
+    put : (g : ℕ → ℕ → Bool) (one two : List Bool) → bits_at xs g ≡ one → bits_at ys g ≡ two → bits_at (xs ++ ys) g ≡ one ++ two
+    put g one two e f = map-append (λ (c : Cell). g c.time c.net) xs ys ∙ ap (λ cs. cs ++ bits_at ys g) e ∙ ap (λ cs. one ++ cs) f
 
 fill_none : Fills []
 fill_none [] long = ((λ t id. false), refl)

@@ -1,8 +1,8 @@
 -- Runs and their choices, one to one.
-use Rattle.std.proofs.Common.{◌≡◌, ◌≢◌, ℕ, zero, suc, ◌<◌, Bool, true, false, not, List, [], ◌∷◌, map, length, get_or, arith, refl, sym, ◌∙◌, ap, subst, inl, inr}
+use Rattle.std.proofs.Common.{◌≡◌, ◌≢◌, ℕ, zero, suc, ◌<◌, Bool, true, false, not, List, [], ◌∷◌, ◌+◌, map, drop, length, get_or, arith, refl, sym, ◌∙◌, ap, subst, inl, inr}
 use Rattle.std.specs.Prelude.{All, IsTrue, Option, Some, slice_get, ◌||◌, ◌⊎◌, if◌then◌else◌}
 use Rattle.std.specs.List.{AllZip}
-use Rattle.std.proofs.lemmas.List.{length-map}
+use Rattle.std.proofs.lemmas.List.{length-drop, length-map}
 use Rattle.std.proofs.lemmas.List.Elements.{All-contains}
 use Rattle.std.proofs.lemmas.Option.{slice_get-get_or}
 use Rattle.net_core.specs.declared.raw.Init.{Init}
@@ -15,6 +15,7 @@ use Rattle.net_core.specs.Flat.{HasOneDriver, IsInRange}
 use Rattle.net_core.specs.OneRun.{IsGivenRun}
 use Rattle.net_core.specs.Run.{IsInitial, IsSettled, IsUndriven, MayStart}
 use Rattle.net_core.specs.Source.{source_of}
+use Rattle.net_core.specs.Work.{Function}
 use Rattle.net_core.proofs.OneTime.{Facts, facts}
 use Rattle.net_core.proofs.Runs.{one_run}
 use Rattle.ste_model.specs.declared.task.Assertion.{Assertion}
@@ -22,6 +23,7 @@ use Rattle.ste_model.specs.Asked.{depth}
 use Rattle.ste_model.specs.Holds.{IsTaskRun}
 use Rattle.ste_model.proofs.OneShown.{starts_with}
 use Rattle.exact_model.specs.Choices.{Cell, RunsAreChoices, bits_at, choices, is_first_choice, is_free, is_open, starts_free}
+use Rattle.exact_model.specs.ExactWork.{AreExactBits}
 use Rattle.exact_model.proofs.CellLists.{Agree, agree_at, all_choices, bits_agree, cell, fill_choices, first_in, input_in}
 
 -- ---- first values
@@ -167,3 +169,36 @@ runs_are_choices = record {
   some = λ net task bits driver settled long. some_run net task driver settled bits long;
   same = λ net task one other range driver settled a b e. same_run net task one other range driver settled a b (agree_at (choices net task) one other e);
 }
+
+-- ---- the bits of all runs at once
+
+-- a list as long as asked for: cut, or with 0 behind it
+fit : ℕ → List Bool → List Bool
+fit zero bits = []
+fit (suc n) [] = false ∷ fit n []
+fit (suc n) (b ∷ bits) = b ∷ fit n bits
+
+fit_long : (n : ℕ) (bits : List Bool) → length (fit n bits) ≡ n
+unfolding fit
+fit_long zero bits = refl
+fit_long (suc n) [] = let h = fit_long n [] in omega arith
+fit_long (suc n) (b ∷ bits) = let h = fit_long n bits in omega arith
+
+fit_same : (n : ℕ) (bits : List Bool) → length bits ≡ n → fit n bits ≡ bits
+unfolding fit
+fit_same zero [] long = refl
+fit_same zero (b ∷ bits) long = absurd (omega arith)
+fit_same (suc n) [] long = absurd (omega arith)
+fit_same (suc n) (b ∷ bits) long = ap (λ bs. b ∷ bs) (fit_same n bits (omega arith))
+
+pub exact_bits : (net : RawNet) (vars : ℕ) (task : Assertion) → HasOneDriver net → IsSettled net → (bit : ℕ → ℕ → Function) × AreExactBits net vars task bit
+exact_bits net vars task driver settled =
+    let w : ℕ = length (choices net task) in
+    let made : (bits : List Bool) → (run : ℕ → ℕ → Bool) × IsTaskRun net task.reset (depth task) run × (bits_at (choices net task) run ≡ fit w (drop vars bits)) =
+        λ bits. runs_are_choices.some net task (fit w (drop vars bits)) driver settled (fit_long w (drop vars bits)) in (
+      λ t id bits. (made bits).0 t id,
+      record {
+        is_run = λ bits long. (made bits).1;
+        chosen = λ bits long. (made bits).2 ∙ fit_same w (drop vars bits) (simp length-drop (omega (arith, long)));
+      },
+    )

@@ -14,11 +14,16 @@ use Rattle.ste_model.specs.Holds.{RunMeets}
 use Rattle.ste_model.proofs.Due.{asks_of_nets}
 use Rattle.ste_model.proofs.Passes.{on_below}
 use Rattle.exact_model.specs.Choices.{Cell, bits_at, choices}
-use Rattle.exact_model.specs.Exact.{IsAllowed, IsExactlyContradictory, IsExactlyStrong}
-use Rattle.exact_model.specs.ExactNeed.{ExactResultsAreFindings, IsSoundFor}
+use Rattle.exact_model.specs.Exact.{IsAllowed, IsExactVerdictOf, IsExactlyContradictory, IsExactlyStrong, IsSoundFor, OneExactVerdict}
+use Rattle.exact_model.specs.ExactNeed.{ExactResultsAreFindings}
 use Rattle.exact_model.specs.ExactWork.{AreExactBits, all_broken, counter_where, exactly_contradictory_where, exactly_strong_where, met_where, some_bits, some_choices}
 use Rattle.exact_model.proofs.Breaking.{ant_ends, before, broken_is_not_met, con_ends, is_met, met_is, not_met_is_broken}
-use Rattle.exact_model.proofs.ChoiceRuns.{runs_are_choices}
+use Rattle.ste_model.specs.declared.verdict.Verdict.{Verdict}
+use Rattle.ste_model.specs.declared.verdict.Verdict.TheVariants.{Pass, Strong}
+use Rattle.ste_model.specs.Assignments.{SomeAssignment}
+use Rattle.ste_model.proofs.Decisions.{somewhere, tells_some}
+use Rattle.exact_model.proofs.ChoiceRuns.{exact_bits, runs_are_choices}
+use Rattle.exact_model.proofs.Exactly.{one_verdict_at_most}
 
 -- some list of so many bits is in the set
 some_bits_is : (n : ℕ) (set : List Bool → Bool) → IsTrue (some_bits n set) ↔ ((bits : List Bool) × (length bits ≡ n) × IsTrue (set bits))
@@ -134,3 +139,17 @@ module _ (net : RawNet) (vars : ℕ) (task : Assertion) (bit : ℕ → ℕ → F
 
 pub exact_results_are_findings : ExactResultsAreFindings
 exact_results_are_findings = record { strong = strong_is; contradictory = contradictory_is }
+
+-- whether some assignment is exactly strong can be told
+verdict_by : (net : RawNet) (vars : ℕ) (task : Assertion) (told : Bool) → (IsTrue told ↔ SomeAssignment vars (IsExactlyStrong net task)) → (verdict : Verdict) × IsExactVerdictOf net vars task verdict
+verdict_by net vars task true tells = (Strong, tells.0 refl)
+verdict_by net vars task false tells = (Pass, λ some. absurd (cc (tells.1 some)))
+
+pub one_exact_verdict : OneExactVerdict
+one_exact_verdict = record {
+  some = λ net vars task sound.
+      let made = exact_bits net vars task sound.driver sound.settled in
+      let where_strong = exactly_strong_where net vars task made.0 in
+      verdict_by net vars task (somewhere vars where_strong) (tells_some vars where_strong (IsExactlyStrong net task) (strong_is net vars task made.0 sound made.1));
+  same = one_verdict_at_most;
+}

@@ -25,40 +25,7 @@ use Rattle.exact_model.specs.Choices.{bits_at, choices}
 use Rattle.exact_model.specs.Exact.{IsOverNet}
 use Rattle.exact_model.specs.ExactNeed.{IsExactNeed, OneExactNeed}
 use Rattle.exact_model.specs.ExactWork.{AreExactBits, all_broken, all_differ, bit_functions, counter_where, cover_functions, differs, exact_work, exactly_contradictory_where, exactly_strong_where, gates_functions, is_broken, literal_factors, met_where, row_factors, rows_functions, some_bits, some_choices}
-use Rattle.exact_model.proofs.ChoiceRuns.{runs_are_choices}
-
--- ---- there are exact bits
-
--- a list as long as asked for: cut, or with 0 behind it
-fit : ℕ → List Bool → List Bool
-fit zero bits = []
-fit (suc n) [] = false ∷ fit n []
-fit (suc n) (b ∷ bits) = b ∷ fit n bits
-
-fit_long : (n : ℕ) (bits : List Bool) → length (fit n bits) ≡ n
-unfolding fit
-fit_long zero bits = refl
-fit_long (suc n) [] = let h = fit_long n [] in omega arith
-fit_long (suc n) (b ∷ bits) = let h = fit_long n bits in omega arith
-
-fit_same : (n : ℕ) (bits : List Bool) → length bits ≡ n → fit n bits ≡ bits
-unfolding fit
-fit_same zero [] long = refl
-fit_same zero (b ∷ bits) long = absurd (omega arith)
-fit_same (suc n) [] long = absurd (omega arith)
-fit_same (suc n) (b ∷ bits) long = ap (λ bs. b ∷ bs) (fit_same n bits (omega arith))
-
-pub exact_bits : (net : RawNet) (vars : ℕ) (task : Assertion) → HasOneDriver net → IsSettled net → (bit : ℕ → ℕ → Function) × AreExactBits net vars task bit
-exact_bits net vars task driver settled =
-    let w : ℕ = length (choices net task) in
-    let made : (bits : List Bool) → (run : ℕ → ℕ → Bool) × IsTaskRun net task.reset (depth task) run × (bits_at (choices net task) run ≡ fit w (drop vars bits)) =
-        λ bits. runs_are_choices.some net task (fit w (drop vars bits)) driver settled (fit_long w (drop vars bits)) in (
-      λ t id bits. (made bits).0 t id,
-      record {
-        is_run = λ bits long. (made bits).1;
-        chosen = λ bits long. (made bits).2 ∙ fit_same w (drop vars bits) (simp length-drop (omega (arith, long)));
-      },
-    )
+use Rattle.exact_model.proofs.ChoiceRuns.{exact_bits, runs_are_choices}
 
 -- ---- gates
 

@@ -1,6 +1,6 @@
 -- An assertion has one exact report at most.
-use Rattle.std.proofs.Common.{◌≡◌, ℕ, suc, ◌<◌, Bool, true, false, not, List, length, map, get_or, Option, None, Some, arith, refl, sym, ◌∙◌, ap, subst, inl, inr}
-use Rattle.std.specs.Prelude.{All, Contains, IsTrue, slice_get}
+use Rattle.std.proofs.Common.{◌≡◌, ◌≢◌, ℕ, suc, ◌<◌, ◌≤◌, Bool, true, false, not, List, length, map, get_or, Option, None, Some, arith, refl, sym, ◌∙◌, ap, subst, inl, inr}
+use Rattle.std.specs.Prelude.{All, Contains, IsTrue, ◌⊎◌, slice_get}
 use Rattle.std.proofs.Math.Decide.{dec_lt}
 use Rattle.std.proofs.lemmas.List.{length-map}
 use Rattle.std.proofs.lemmas.List.Elements.{All-contains}
@@ -13,7 +13,7 @@ use Rattle.ste_model.specs.declared.report.Report.{Report}
 use Rattle.ste_model.specs.declared.run.Run.{Run}
 use Rattle.ste_model.specs.declared.task.Assertion.{Assertion}
 use Rattle.ste_model.specs.declared.verdict.Verdict.{Verdict}
-use Rattle.ste_model.specs.declared.verdict.Verdict.TheVariants.{Strong}
+use Rattle.ste_model.specs.declared.verdict.Verdict.TheVariants.{Pass, Weak, Strong, Vacuous, Budget}
 use Rattle.ste_model.specs.Asked.{cuts_at, depth}
 use Rattle.ste_model.specs.Assignments.{IsBefore}
 use Rattle.ste_model.specs.Breaks.{Breaks, BreaksAt}
@@ -24,10 +24,10 @@ use Rattle.ste_model.proofs.Orders.{assignments_are_ordered}
 use Rattle.ste_model.proofs.Reports.{one_list, same_parts}
 use Rattle.ste_model.proofs.RunData.{same_data}
 use Rattle.exact_model.specs.Choices.{Cell, bits_at, choices}
-use Rattle.exact_model.specs.Exact.{IsCounterexample, IsExactlyContradictory, IsExactlyStrong}
-use Rattle.exact_model.specs.ExactReport.{IsBrokenFirst, IsExactReportOf, IsExactlyShown, OneExactReportOf, ShowsExactly}
+use Rattle.exact_model.specs.Exact.{IsCounterexample, IsExactVerdictOf, IsExactlyContradictory, IsExactlyStrong}
+use Rattle.exact_model.specs.ExactReport.{ExactFailureBreaks, IsBrokenFirst, IsExactReportOf, IsExactlyShown, OneExactReportOf, ShowsExactly, TellsFailure}
 use Rattle.exact_model.proofs.ChoiceRuns.{runs_are_choices}
-use Rattle.exact_model.proofs.Exactly.{one_exact_verdict}
+use Rattle.exact_model.proofs.Exactly.{one_verdict_at_most}
 
 -- ---- the place
 
@@ -65,8 +65,7 @@ module _ (task : Assertion) (bits : List Bool) (run : ℕ → ℕ → Bool) wher
   same_node s t n m e a b =
           let moved : BreaksAt task bits run t n = subst (λ (u : ℕ). BreaksAt task bits run u n) e a in
           let here : slice_get (cuts_at task.con bits t) n ≡ Some a.cut = subst (λ (u : ℕ). slice_get (cuts_at task.con bits u) n ≡ Some a.cut) e a.here in
-          let both : Some a.cut ≡ Some moved.cut = sym here ∙ moved.here in
-          let first : a.cut ≡ moved.cut = cc both in
+          let first : a.cut ≡ moved.cut = cc in
           ap (λ (c : Cut). c.node) (first ∙ one_cut t n m moved b)
 
   one_place : (p q : NodeId × ℕ) → IsBrokenFirst task bits run p → IsBrokenFirst task bits run q → p ≡ q
@@ -117,10 +116,57 @@ module _ (net : RawNet) (vars : ℕ) (task : Assertion) (range : IsInRange net) 
 
 pub one_exact_report_of : OneExactReportOf
 one_exact_report_of net range driver settled vars cubes task one other a b =
-    let verdict : one.verdict ≡ other.verdict = one_exact_verdict net vars task one.verdict other.verdict a.judged b.judged in
+    let verdict : one.verdict ≡ other.verdict = one_verdict_at_most net vars task one.verdict other.verdict a.judged b.judged in
     let shown = same_shown net vars task range driver settled one other verdict a.shown b.shown in
     same_parts one other (a.named ∙ sym b.named) verdict
     (one_list cubes vars (IsExactlyStrong net task) one.guards.strong other.guards.strong a.strong b.strong)
     (one_list cubes vars (λ bits. ⊥) one.guards.weak other.guards.weak a.weak b.weak)
     (one_list cubes vars (IsExactlyContradictory net task) one.guards.contradictory other.guards.contradictory a.contradictory b.contradictory)
     shown.0 (a.path ∙ sym b.path) shown.1 shown.2
+
+-- ---- a failure
+
+no_break_before : (task : Assertion) (bits : List Bool) (run : ℕ → ℕ → Bool) (place : NodeId × ℕ) (is : IsBrokenFirst task bits run place) (t k : ℕ) (other : Cut) → slice_get (cuts_at task.con bits t) k ≡ Some other → Breaks (run t) other → (place.1 < t) ⊎ ((place.1 ≡ t) × (is.number ≤ k))
+no_break_before task bits run place is t k other e breaks = elim (dec_lt place.1 t) [
+  | yes later ↦ inl later
+  | no late ↦ elim (dec_lt t place.1) [
+    | yes earlier ↦ absurd (not_met (run t) (cuts_at task.con bits t) k other e breaks (is.earliest t earlier))
+    | no early ↦
+        let same : place.1 ≡ t = omega (arith, late, early) in
+        elim (dec_lt k is.number) [
+          | yes l ↦ absurd (is.here.first k other l (subst (λ (u : ℕ). slice_get (cuts_at task.con bits u) k ≡ Some other) (sym same) e)
+              (subst (λ (u : ℕ). Breaks (run u) other) (sym same) breaks))
+          | no l ↦ inr (same, omega (arith, l))
+        ]
+  ]
+]
+
+tells_failure : (net : RawNet) (vars : ℕ) (task : Assertion) (report : Report) → IsExactlyShown net vars task report → TellsFailure net task report
+tells_failure net vars task report shown = record {
+  bits = shown.bits;
+  least_is = shown.least_is;
+  told = shown.told;
+  run_is = shown.run_is;
+  counter = shown.counter;
+  place = shown.place;
+  fails_is = shown.fails_is;
+  number = shown.is_place.number;
+  cut = shown.is_place.here.cut;
+  here = shown.is_place.here.here;
+  node = shown.is_place.node;
+  broken = shown.is_place.here.broken;
+  none_before = no_break_before task shown.bits (run_of shown.told) shown.place shown.is_place;
+}
+
+strong_only : (net : RawNet) (vars : ℕ) (task : Assertion) (verdict : Verdict) → IsExactVerdictOf net vars task verdict → verdict ≢ Pass → verdict ≡ Strong
+strong_only net vars task Strong is other = refl
+strong_only net vars task Pass is other = absurd (other refl)
+strong_only net vars task Weak is other = absurd is
+strong_only net vars task Vacuous is other = absurd is
+strong_only net vars task Budget is other = absurd is
+
+pub exact_failure_breaks : ExactFailureBreaks
+exact_failure_breaks net vars cubes task report is other = elim is.shown [
+  | inl shown ↦ tells_failure net vars task report shown.1
+  | inr none ↦ absurd (none.0 (strong_only net vars task report.verdict is.judged other))
+]

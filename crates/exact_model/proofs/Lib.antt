@@ -10,3 +10,4 @@ pub mod ExactNeeds
 pub mod ExactCounts
 pub mod ExactReports
 pub mod Printing
+pub mod Widths

@@ -26,6 +26,7 @@ use Rattle.ste_model.specs.Asked.{asked_at, cuts_at, depth}
 use Rattle.ste_model.specs.Assignments.{IsBefore}
 use Rattle.ste_model.specs.Found.{IsContradictory, IsEmptySomewhere, IsStrong, IsTableOf, IsWeak}
 use Rattle.ste_model.specs.Holds.{IsTaskRun, RunMeets}
+use Rattle.ste_model.specs.Runs.{run_of}
 use Rattle.ste_model.specs.Shown.{IsFilled, IsFirst, IsOpen, IsPrinted}
 use Rattle.ste_model.proofs.Due.{due_breaks}
 use Rattle.ste_model.proofs.Tables.{some_table}
@@ -261,11 +262,31 @@ module _ (net : RawNet) (task : Assertion) (bits : List Bool) (run other : ℕ �
   pub none_before : ¬ IsBefore (bits_at (choices net task) other) (bits_at (choices net task) run)
   none_before before = not_before (choices net task) run other rises before.place before.earlier before.later
 
+printed_least : (net : RawNet) (task : Assertion) (bits : List Bool) (run other : ℕ → ℕ → Bool) → IsBoundOver net task → IsStrong net task bits → IsPrinted net task bits run → IsCounterexample net task bits other → ¬ IsBefore (bits_at (choices net task) other) (bits_at (choices net task) run)
+printed_least net task bits run other bound strong printed counter =
+    let at = strong.3 in
+    let inside = at.1 in
+    none_before net task bits run other bound (omega (arith, inside)) printed counter.allowed
+
 pub printed_is_least : PrintedIsLeast
 printed_is_least = record {
   counter = printed_counter;
-  least = λ net task bits run other bound strong printed counter.
-      let at = strong.3 in
-      let inside = at.1 in
-      none_before net task bits run other bound (omega (arith, inside)) printed counter.allowed;
+  least = printed_least;
+  shown = λ net vars task bits told place report bound none least rows printed is_place least_is run_is fails_is. record {
+    bits = bits;
+    least_is = least_is;
+    is_least = record {
+      long = least.long;
+      has = to_strong net task bits bound least.has;
+      least = λ other long exact. least.least other long (strong_unless net task other bound (none other long) exact);
+    };
+    told = told;
+    run_is = run_is;
+    rows = rows;
+    counter = printed_counter net task bits (run_of told) bound least.has printed;
+    first = λ other counter. printed_least net task bits (run_of told) other bound least.has printed counter;
+    place = place;
+    fails_is = fails_is;
+    is_place = is_place;
+  };
 }

@@ -1,6 +1,6 @@
 -- Meaning, and a law. What an assertion leaves open of a run: its choices. That they stand in this order is a choice of
 -- this project.
-use Rattle.std.specs.Prelude.{◌≡◌, ℕ, zero, suc, ◌+◌, ◌<◌, max, fold, ◌∷◌, ◌++◌, [], Bool, true, false, not, ◌||◌, List, length, map, Option, None, Some, if◌then◌else◌, slice_get}
+use Rattle.std.specs.Prelude.{◌≡◌, ℕ, zero, suc, ◌+◌, ◌<◌, ◌≤◌, ◌⊎◌, max, fold, ◌∷◌, ◌++◌, [], Bool, true, false, not, ◌||◌, List, All, Any, length, map, Option, None, Some, if◌then◌else◌, slice_get}
 use Rattle.net_core.specs.declared.raw.Init.{Init}
 use Rattle.net_core.specs.declared.raw.Init.TheVariants.{Zero, One, Free as FreeInit}
 use Rattle.net_core.specs.declared.raw.Latch.{Latch}
@@ -75,6 +75,14 @@ task_width net vars (Gste graph) = vars
 -- how many variables the exact check of all tasks takes: those of the file, and the choices of the assertion with the most
 abbrev pub exact_width : RawNet → Tasks → ℕ
 exact_width net tasks = fold max (length tasks.vars) (map (task_width net (length tasks.vars)) tasks.tasks)
+
+-- Law: no task takes more variables than all tasks together, which take those of the file, or as many as one of them.
+pub record WidthIsGreatest : Type 0 where
+  pub vars : (net : RawNet) (tasks : Tasks) → length tasks.vars ≤ exact_width net tasks
+  pub each : (net : RawNet) (tasks : Tasks) →
+      All (λ task. task_width net (length tasks.vars) task ≤ exact_width net tasks) tasks.tasks
+  pub reached : (net : RawNet) (tasks : Tasks) → (exact_width net tasks ≡ length tasks.vars)
+      ⊎ Any (λ task. exact_width net tasks ≡ task_width net (length tasks.vars) task) tasks.tasks
 
 -- Law: in a sound net each list of so many bits is the choices of a run of the assertion's depth, and of one such run alone,
 -- at the times below the depth and the nets that there are.

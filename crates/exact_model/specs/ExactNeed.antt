@@ -8,9 +8,8 @@ use Rattle.net_core.specs.Run.{IsSettled}
 use Rattle.net_core.specs.Work.{Function}
 use Rattle.ste_model.specs.declared.task.Assertion.{Assertion}
 use Rattle.ste_model.specs.Assignments.{Tells}
-use Rattle.ste_model.specs.Need.{ReadBelow}
 use Rattle.exact_model.specs.Choices.{choices}
-use Rattle.exact_model.specs.Exact.{IsExactlyContradictory, IsExactlyStrong, IsOverNet}
+use Rattle.exact_model.specs.Exact.{IsExactlyContradictory, IsExactlyStrong, IsOverNet, IsSoundFor}
 use Rattle.exact_model.specs.ExactWork.{AreExactBits, exact_work, exactly_contradictory_where, exactly_strong_where}
 
 -- the exact need: the number of nodes of the exact work functions, over the variables and the choices
@@ -23,15 +22,6 @@ IsExactNeed net vars task need =
 abbrev pub exact_kept : RawNet → ℕ → Assertion → (ℕ → ℕ → Function) → List Function
 exact_kept net vars task bit =
     exactly_strong_where net vars task bit ∷ exactly_contradictory_where net vars task bit ∷ []
-
--- a sound net without loops, and an assertion over its nets and over so many variables
-pub record IsSoundFor (net : RawNet) (vars : ℕ) (task : Assertion) : Type 0 where
-  pub range : IsInRange net
-  pub driver : HasOneDriver net
-  pub settled : IsSettled net
-  pub over : IsOverNet net task
-  pub reads_ant : ReadBelow vars task.ant
-  pub reads_con : ReadBelow vars task.con
 
 -- Law: in a sound net the functions of the results tell the exact findings.
 pub record ExactResultsAreFindings : Type 0 where

@@ -13,7 +13,8 @@ use Rattle.net_core.specs.Work.{Function, always, conjunction, disjunction, nega
 use Rattle.ste_model.specs.declared.task.Assertion.{Assertion}
 use Rattle.ste_model.specs.declared.task.Quint.{Quint}
 use Rattle.ste_model.specs.Samples.{and_gate, id_of, one, quint, variable}
-use Rattle.exact_model.specs.ExactWork.{exact_work}
+use Rattle.exact_model.specs.ExactNeed.{IsExactNeed, exact_kept}
+use Rattle.exact_model.specs.ExactWork.{AreExactBits}
 
 -- ---- expressions
 
@@ -119,16 +120,25 @@ free_bits (suc t) zero = place 2
 free_bits zero (suc id) = place 0
 free_bits (suc t) (suc id) = place 1
 
--- Law: the work functions of an inverter whose input is p, where y is to be !p, have 6 nodes, and 5 without this antecedent;
--- those of an AND of p and q, where y is to be p & q, have 25; those of a NOR with one input bound have 11; those of a latch have
--- 2 with reset, and 7 without it over two times.
+-- a is p and also q at time 0, so that the two have to be one; then y is p, which is never so
+abbrev pub twice_task : Assertion
+twice_task =
+    assertion false (quint one 0 (variable 0) 0 1 ∷ quint one 0 (variable 1) 0 1 ∷ []) (quint one 1 (variable 0) 0 1 ∷ [])
+
+-- p and q are variables 0 and 1, and what a is is choice 2
+abbrev pub twice_bits : ℕ → ℕ → Function
+twice_bits t zero = place 2
+twice_bits t (suc id) = negation (place 2)
+
+-- Law: an inverter whose input is p, where y is to be !p, needs 6 steps, and 5 without this antecedent; an AND of p and q, where
+-- y is to be p & q, needs 25; a NOR with one input bound needs 11; a latch needs 2 with reset, and 7 without it over two times.
+-- The kept functions of an inverter whose input is p and q have 4 nodes.
 pub record ExactSamplesAreCounted : Type 0 where
-  pub bound : (opposite : Expr) → IsNot opposite (variable 0) →
-      node_count 2 (exact_work inverter 1 (bound_task opposite) inverter_bits) ≡ 6
-  pub unbound : (opposite : Expr) → IsNot opposite (variable 0) →
-      node_count 2 (exact_work inverter 1 (unbound_task opposite) inverter_bits) ≡ 5
-  pub both : (both : Expr) → IsAnd both (variable 0) (variable 1) →
-      node_count 4 (exact_work (and_gate false) 2 (product_task both) product_bits) ≡ 25
-  pub nor : node_count 3 (exact_work nor_gate 1 nor_task nor_bits) ≡ 11
-  pub reset : node_count 1 (exact_work one_latch 0 reset_task reset_bits) ≡ 2
-  pub free : node_count 3 (exact_work one_latch 0 free_task free_bits) ≡ 7
+  pub bound : (opposite : Expr) → IsNot opposite (variable 0) → IsExactNeed inverter 1 (bound_task opposite) 6
+  pub unbound : (opposite : Expr) → IsNot opposite (variable 0) → IsExactNeed inverter 1 (unbound_task opposite) 5
+  pub both : (both : Expr) → IsAnd both (variable 0) (variable 1) → IsExactNeed (and_gate false) 2 (product_task both) 25
+  pub nor : IsExactNeed nor_gate 1 nor_task 11
+  pub reset : IsExactNeed one_latch 0 reset_task 2
+  pub free : IsExactNeed one_latch 0 free_task 7
+  pub twice : AreExactBits inverter 2 twice_task twice_bits
+  pub kept : node_count 2 (exact_kept inverter 2 twice_task twice_bits) ≡ 4
