@@ -1,6 +1,6 @@
 -- Runs and their choices, one to one.
-use Rattle.std.proofs.Common.{◌≡◌, ◌≢◌, ℕ, zero, suc, ◌<◌, Bool, true, false, not, List, [], ◌∷◌, ◌+◌, map, drop, length, get_or, arith, refl, sym, ◌∙◌, ap, subst, inl, inr}
-use Rattle.std.specs.Prelude.{All, IsTrue, Option, Some, slice_get, ◌||◌, ◌⊎◌, if◌then◌else◌}
+use Rattle.std.proofs.Common.{◌≡◌, ℕ, zero, suc, ◌<◌, Bool, true, false, not, List, [], ◌∷◌, map, drop, length, get_or, arith, refl, sym, ◌∙◌, ap, subst, inl, inr}
+use Rattle.std.specs.Prelude.{All, IsTrue, Option, ◌||◌, ◌⊎◌}
 use Rattle.std.specs.List.{AllZip}
 use Rattle.std.proofs.lemmas.List.{length-drop, length-map}
 use Rattle.std.proofs.lemmas.List.Elements.{All-contains}
@@ -22,7 +22,7 @@ use Rattle.ste_model.specs.declared.task.Assertion.{Assertion}
 use Rattle.ste_model.specs.Asked.{depth}
 use Rattle.ste_model.specs.Holds.{IsTaskRun}
 use Rattle.ste_model.proofs.OneShown.{starts_with}
-use Rattle.exact_model.specs.Choices.{Cell, RunsAreChoices, bits_at, choices, is_first_choice, is_free, is_open, starts_free}
+use Rattle.exact_model.specs.Choices.{RunsAreChoices, bits_at, choices, is_first_choice, is_free, is_open, starts_free}
 use Rattle.exact_model.specs.ExactWork.{AreExactBits}
 use Rattle.exact_model.proofs.CellLists.{Agree, agree_at, all_choices, bits_agree, cell, fill_choices, first_in, input_in}
 
@@ -120,7 +120,7 @@ module _ (net : RawNet) (task : Assertion) (driver : HasOneDriver net) (settled 
     bits_agree (choices net task) made.0 filled.0 (all_choices (Agree made.0 filled.0) net task
         (λ id l h. first_agrees id (source_of net id) (facts net driver id) h)
         (λ t id l m h. made.1.sources t id (omega arith) m (is_undriven net id (source_of net id) (facts net driver id) h)))
-    ∙ filled.1,
+        ∙ filled.1,
   )
 
 -- ---- no other run
@@ -140,7 +140,7 @@ module _ (net : RawNet) (task : Assertion) (one other : ℕ → ℕ → Bool) (r
       elim (free_or_one task.reset latch.init) [
         | inl free ↦
             let first : IsTrue (is_first_choice net task.reset (source.Latch n)) =
-                subst (λ (o : Option Latch). IsTrue (starts_free task.reset o)) (sym (slice_get-get_or net.latches n some_latch f.0)) free in
+            subst (λ (o : Option Latch). IsTrue (starts_free task.reset o)) (sym (slice_get-get_or net.latches n some_latch f.0)) free in
             sym (All-contains (Agree one other) (choices net task) (cell 0 id) agree
             (first_in net task id m (subst (λ (s : Source). IsTrue (is_first_choice net task.reset s)) e first)))
         | inr alone ↦
@@ -161,8 +161,8 @@ module _ (net : RawNet) (task : Assertion) (one other : ℕ → ℕ → Bool) (r
       one_run.same net range settled one (map (λ (latch : Latch). one 0 latch.output.0) net.latches) (depth task) one other
       (given_as one a (λ t id l m none. refl) (λ l k d m. refl))
       (given_as other b undriven_same (λ l k d m.
-          let id = (get_or net.latches k d).output.0 in
-          first_same l id (range.latch_outputs k d m) (source_of net id) refl (facts net driver id) k d m refl))
+      let id = (get_or net.latches k d).output.0 in
+      first_same l id (range.latch_outputs k d m) (source_of net id) refl (facts net driver id) k d m refl))
 
 pub runs_are_choices : RunsAreChoices
 runs_are_choices = record {
@@ -195,7 +195,7 @@ pub exact_bits : (net : RawNet) (vars : ℕ) (task : Assertion) → HasOneDriver
 exact_bits net vars task driver settled =
     let w : ℕ = length (choices net task) in
     let made : (bits : List Bool) → (run : ℕ → ℕ → Bool) × IsTaskRun net task.reset (depth task) run × (bits_at (choices net task) run ≡ fit w (drop vars bits)) =
-        λ bits. runs_are_choices.some net task (fit w (drop vars bits)) driver settled (fit_long w (drop vars bits)) in (
+    λ bits. runs_are_choices.some net task (fit w (drop vars bits)) driver settled (fit_long w (drop vars bits)) in (
       λ t id bits. (made bits).0 t id,
       record {
         is_run = λ bits long. (made bits).1;

@@ -1,10 +1,10 @@
 -- The samples: expressions give way to their functions, and then the numbers are counted.
 use Rattle.std.proofs.Common.{◌≡◌, ℕ, zero, suc, Bool, true, false, not, List, [], ◌∷◌, ◌++◌, map, drop, length, ◌<◌, arith, refl, sym, ◌∙◌, ap}
 use Rattle.std.specs.List.{list_all}
-use Rattle.std.specs.Prelude.{All, IsTrue, ◌&&◌, ◌||◌}
+use Rattle.std.specs.Prelude.{IsTrue, ◌&&◌, ◌||◌}
 use Rattle.std.proofs.lemmas.List.Elements.{All-cons, All-nil, All-same}
 use Rattle.bool_expr.specs.declared.expr.Expr.{Expr}
-use Rattle.bool_expr.specs.declared.expr.Expr.TheOpen.{Expr-F, Const, Var}
+use Rattle.bool_expr.specs.declared.expr.Expr.TheOpen.{Const, Var}
 use Rattle.bool_expr.specs.declared.expr.Expr.TheFolds.{fold-roll-Expr}
 use Rattle.bool_expr.specs.declared.expr.Expr.TheVariants as tree
 use Rattle.bool_expr.specs.Value.{value_of, value_step}
@@ -22,7 +22,7 @@ use Rattle.ste_model.specs.Expressions.{SymbolicValue, joined, symbolic_step, sy
 use Rattle.ste_model.specs.Holds.{IsTaskRun}
 use Rattle.ste_model.specs.Samples.{and_gate, id_of, one, variable}
 use Rattle.ste_model.specs.Work.{over_times}
-use Rattle.exact_model.specs.ExactSamples.{ExactSamplesAreCounted, IsAnd, IsNot, free_bits, inverter, inverter_bits, nor_bits, nor_gate, one_latch, place, product_bits, reset_bits, twice_bits}
+use Rattle.exact_model.specs.ExactSamples.{ExactSamplesAreCounted, IsAnd, IsNot, free_bits, inverter, inverter_bits, nor_bits, nor_gate, one_latch, variable_function, or_bits, or_gate, product_bits, reset_bits, twice_bits}
 use Rattle.exact_model.specs.ExactWork.{bit_functions, differs, gates_functions, is_broken, some_choices}
 
 -- the exact work functions, from those of the quintuples and from what is asked time by time
@@ -44,17 +44,17 @@ opposite_value part = record { value = negation part.value; work = part.work ++ 
 
 abbrev works : ℕ → SymbolicValue
 works zero = record { value = always; work = always ∷ [] }
-works (suc zero) = record { value = place 0; work = place 0 ∷ [] }
-works (suc (suc zero)) = record { value = place 1; work = place 1 ∷ [] }
-works (suc (suc (suc zero))) = opposite_value (record { value = place 0; work = place 0 ∷ [] })
-works (suc (suc (suc (suc n)))) = joined conjunction always (record { value = place 0; work = place 0 ∷ [] } ∷ record { value = place 1; work = place 1 ∷ [] } ∷ [])
+works (suc zero) = record { value = variable_function 0; work = variable_function 0 ∷ [] }
+works (suc (suc zero)) = record { value = variable_function 1; work = variable_function 1 ∷ [] }
+works (suc (suc (suc zero))) = opposite_value (record { value = variable_function 0; work = variable_function 0 ∷ [] })
+works (suc (suc (suc (suc n)))) = joined conjunction always (record { value = variable_function 0; work = variable_function 0 ∷ [] } ∷ record { value = variable_function 1; work = variable_function 1 ∷ [] } ∷ [])
 
 abbrev functions : ℕ → Function
 functions zero = always
-functions (suc zero) = place 0
-functions (suc (suc zero)) = place 1
-functions (suc (suc (suc zero))) = negation (place 0)
-functions (suc (suc (suc (suc n)))) = λ bits. list_all (λ b. b) (place 0 bits ∷ place 1 bits ∷ [])
+functions (suc zero) = variable_function 0
+functions (suc (suc zero)) = variable_function 1
+functions (suc (suc (suc zero))) = negation (variable_function 0)
+functions (suc (suc (suc (suc n)))) = λ bits. list_all (λ b. b) (variable_function 0 bits ∷ variable_function 1 bits ∷ [])
 
 one_works : symbolic_value one ≡ works 0
 one_works = fold-roll-Expr SymbolicValue symbolic_step (Const true)
@@ -93,7 +93,7 @@ and_works e (parts, is, same) =
 and_is : (e : Expr) → IsAnd e (variable 0) (variable 1) → (bits : List Bool) → value_of e bits ≡ functions 4 bits
 and_is e (parts, is, same) bits =
     ap (λ x. value_of x bits) (is ∙ sym (tree.rolls-All parts)) ∙ fold-roll-Expr Bool (value_step bits) _
-    ∙ ap (list_all (λ b. b)) (ap (map (λ x. value_of x bits)) same ∙ two (value_of (variable 0) bits) (value_of (variable 1) bits) (place 0 bits) (place 1 bits) (p_is bits) (q_is bits))
+    ∙ ap (list_all (λ b. b)) (ap (map (λ x. value_of x bits)) same ∙ two (value_of (variable 0) bits) (value_of (variable 1) bits) (variable_function 0 bits) (variable_function 1 bits) (p_is bits) (q_is bits))
 
 -- the expressions 1, p, q, and one more, which has the values of the n-th
 abbrev expression : Expr → ℕ → Expr
@@ -149,6 +149,9 @@ module _ (w : ℕ → SymbolicValue) (f : ℕ → Function) where
   abbrev nor_written : List Function
   nor_written = written nor_gate 1 2 1 nor_bits (quint_work 1) (quint_work 1) (λ t. cut 0 0 1 ∷ []) (λ t. cut 0 2 1 ∷ [])
 
+  abbrev or_written : List Function
+  or_written = written or_gate 0 3 1 or_bits [] (quint_work 0) (λ t. []) (λ t. cut 0 3 0 ∷ [])
+
   abbrev reset_written : List Function
   reset_written = written one_latch 0 1 1 reset_bits [] (quint_work 0) (λ t. []) (λ t. cut 0 1 0 ∷ [])
 
@@ -196,6 +199,12 @@ nor_is_gate false true = refl
 nor_is_gate true false = refl
 nor_is_gate true true = refl
 
+or_is_gate : (b c d : Bool) → (b || c) || d ≡ some_matches ((One ∷ Any ∷ Any ∷ []) ∷ (Any ∷ One ∷ Any ∷ []) ∷ (Any ∷ Any ∷ One ∷ []) ∷ []) (b ∷ c ∷ d ∷ [])
+or_is_gate true c d = refl
+or_is_gate false true d = refl
+or_is_gate false false true = refl
+or_is_gate false false false = refl
+
 -- what holds of each list of one bit, of two, and so on
 listed : (P : List Bool → Type 0) (n : ℕ) → ((bits : List Bool) → length bits ≡ n → (b : Bool) → P (b ∷ bits)) → (bits : List Bool) → length bits ≡ suc n → P bits
 listed P n h [] l = absurd (omega arith)
@@ -218,16 +227,19 @@ with_four : (P : List Bool → Type 0) → ((b c d e : Bool) → P (b ∷ c ∷ 
 with_four P h = listed P 3 (λ bits l b. with_three (λ cs. P (b ∷ cs)) (h b) bits l)
 
 inverter_run : (bits : List Bool) (n : ℕ) → IsTaskRun inverter false n (λ t id. inverter_bits t id bits)
-inverter_run bits n = gate_run inverter (gate_of (id_of 0 ∷ []) 1) n (λ t id. inverter_bits t id bits) refl refl (λ t. not_is_gate (place 1 bits))
+inverter_run bits n = gate_run inverter (gate_of (id_of 0 ∷ []) 1) n (λ t id. inverter_bits t id bits) refl refl (λ t. not_is_gate (variable_function 1 bits))
 
 twice_run : (bits : List Bool) (n : ℕ) → IsTaskRun inverter false n (λ t id. twice_bits t id bits)
-twice_run bits n = gate_run inverter (gate_of (id_of 0 ∷ []) 1) n (λ t id. twice_bits t id bits) refl refl (λ t. not_is_gate (place 2 bits))
+twice_run bits n = gate_run inverter (gate_of (id_of 0 ∷ []) 1) n (λ t id. twice_bits t id bits) refl refl (λ t. not_is_gate (variable_function 2 bits))
 
 product_run : (bits : List Bool) (n : ℕ) → IsTaskRun (and_gate false) false n (λ t id. product_bits t id bits)
-product_run bits n = gate_run (and_gate false) (gate_of (id_of 0 ∷ id_of 1 ∷ []) 2) n (λ t id. product_bits t id bits) refl refl (λ t. and_is_gate (place 2 bits) (place 3 bits))
+product_run bits n = gate_run (and_gate false) (gate_of (id_of 0 ∷ id_of 1 ∷ []) 2) n (λ t id. product_bits t id bits) refl refl (λ t. and_is_gate (variable_function 2 bits) (variable_function 3 bits))
 
 nor_run : (bits : List Bool) (n : ℕ) → IsTaskRun nor_gate false n (λ t id. nor_bits t id bits)
-nor_run bits n = gate_run nor_gate (gate_of (id_of 0 ∷ id_of 1 ∷ []) 2) n (λ t id. nor_bits t id bits) refl refl (λ t. nor_is_gate (place 1 bits) (place 2 bits))
+nor_run bits n = gate_run nor_gate (gate_of (id_of 0 ∷ id_of 1 ∷ []) 2) n (λ t id. nor_bits t id bits) refl refl (λ t. nor_is_gate (variable_function 1 bits) (variable_function 2 bits))
+
+or_run : (bits : List Bool) (n : ℕ) → IsTaskRun or_gate false n (λ t id. or_bits t id bits)
+or_run bits n = gate_run or_gate (gate_of (id_of 0 ∷ id_of 1 ∷ id_of 2 ∷ []) 3) n (λ t id. or_bits t id bits) refl refl (λ t. or_is_gate (variable_function 0 bits) (variable_function 1 bits) (variable_function 2 bits))
 
 one_latch_run : (reset : Bool) (n : ℕ) (run : ℕ → ℕ → Bool) → ((t : ℕ) → suc t < n → run (suc t) 1 ≡ run t 0) → (IsTrue reset → run 0 1 ≡ true) → IsTaskRun one_latch reset n run
 one_latch_run reset n run later first = record {
@@ -251,7 +263,7 @@ exact_samples_are_counted = record {
     inverter_bits,
     record {
       is_run = λ bits long. inverter_run bits 1;
-      chosen = with_two (λ bits. place 1 bits ∷ [] ≡ drop 1 bits) (λ b c. refl);
+      chosen = with_two (λ bits. variable_function 1 bits ∷ [] ≡ drop 1 bits) (λ b c. refl);
     },
     sym (by_functions 2 3 6 opposite (not_works opposite is) (not_is opposite is) bound_written refl),
   );
@@ -259,7 +271,7 @@ exact_samples_are_counted = record {
     inverter_bits,
     record {
       is_run = λ bits long. inverter_run bits 1;
-      chosen = with_two (λ bits. place 1 bits ∷ [] ≡ drop 1 bits) (λ b c. refl);
+      chosen = with_two (λ bits. variable_function 1 bits ∷ [] ≡ drop 1 bits) (λ b c. refl);
     },
     sym (by_functions 2 3 5 opposite (not_works opposite is) (not_is opposite is) unbound_written refl),
   );
@@ -267,7 +279,7 @@ exact_samples_are_counted = record {
     product_bits,
     record {
       is_run = λ bits long. product_run bits 1;
-      chosen = with_four (λ bits. place 2 bits ∷ place 3 bits ∷ [] ≡ drop 2 bits) (λ b c d e. refl);
+      chosen = with_four (λ bits. variable_function 2 bits ∷ variable_function 3 bits ∷ [] ≡ drop 2 bits) (λ b c d e. refl);
     },
     sym (by_functions 4 4 25 both (and_works both is) (and_is both is) product_written refl),
   );
@@ -275,15 +287,23 @@ exact_samples_are_counted = record {
     nor_bits,
     record {
       is_run = λ bits long. nor_run bits 1;
-      chosen = with_three (λ bits. place 1 bits ∷ place 2 bits ∷ [] ≡ drop 1 bits) (λ b c d. refl);
+      chosen = with_three (λ bits. variable_function 1 bits ∷ variable_function 2 bits ∷ [] ≡ drop 1 bits) (λ b c d. refl);
     },
     sym (by_functions 3 0 11 one one_works one_is nor_written refl),
+  );
+  or = (
+    or_bits,
+    record {
+      is_run = λ bits long. or_run bits 1;
+      chosen = with_three (λ bits. variable_function 0 bits ∷ variable_function 1 bits ∷ variable_function 2 bits ∷ [] ≡ drop 0 bits) (λ b c d. refl);
+    },
+    sym (by_functions 3 0 11 one one_works one_is or_written refl),
   );
   reset = (
     reset_bits,
     record {
       is_run = λ bits long. one_latch_run true 1 (λ t id. reset_bits t id bits) (λ t l. absurd (omega arith)) (λ on. refl);
-      chosen = with_one (λ bits. place 0 bits ∷ [] ≡ drop 0 bits) (λ b. refl);
+      chosen = with_one (λ bits. variable_function 0 bits ∷ [] ≡ drop 0 bits) (λ b. refl);
     },
     sym (by_functions 1 0 2 one one_works one_is reset_written refl),
   );
@@ -291,13 +311,13 @@ exact_samples_are_counted = record {
     free_bits,
     record {
       is_run = λ bits long. one_latch_run false 2 (λ t id. free_bits t id bits) (free_later bits) (λ on. absurd (cc on));
-      chosen = with_three (λ bits. place 0 bits ∷ place 1 bits ∷ place 2 bits ∷ [] ≡ drop 0 bits) (λ b c d. refl);
+      chosen = with_three (λ bits. variable_function 0 bits ∷ variable_function 1 bits ∷ variable_function 2 bits ∷ [] ≡ drop 0 bits) (λ b c d. refl);
     },
     sym (by_functions 3 0 7 one one_works one_is free_written refl),
   );
   twice = record {
     is_run = λ bits long. twice_run bits 1;
-    chosen = with_three (λ bits. place 2 bits ∷ [] ≡ drop 2 bits) (λ b c d. refl);
+    chosen = with_three (λ bits. variable_function 2 bits ∷ [] ≡ drop 2 bits) (λ b c d. refl);
   };
   kept = by_functions 2 0 4 one one_works one_is twice_kept refl;
 }

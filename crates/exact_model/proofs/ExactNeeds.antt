@@ -1,7 +1,7 @@
 -- There is exactly one exact need: work functions have the same values on two families of bits that have the same values.
-use Rattle.std.proofs.Common.{◌≡◌, ℕ, zero, suc, ◌+◌, ◌<◌, ◌≤◌, Bool, true, false, not, List, [], ◌∷◌, ◌++◌, map, take, drop, filter, length, get_or, min, Option, None, Some, arith, refl, sym, ◌∙◌, ap}
-use Rattle.std.specs.Prelude.{All, ◌&&◌, ◌||◌, slice_get}
-use Rattle.std.proofs.lemmas.List.{length-append, length-drop, length-take}
+use Rattle.std.proofs.Common.{◌≡◌, ℕ, zero, suc, ◌+◌, ◌<◌, ◌≤◌, Bool, true, false, List, [], ◌∷◌, ◌++◌, map, take, filter, length, Option, None, Some, arith, refl, sym, ◌∙◌, ap}
+use Rattle.std.specs.Prelude.{All, ◌||◌, slice_get}
+use Rattle.std.proofs.lemmas.List.{length-append, length-take}
 use Rattle.std.proofs.lemmas.List.Elements.{All-filter, All-head, All-map, All-tail}
 use Rattle.bool_expr.specs.Value.{flips}
 use Rattle.dd_nodes.specs.Functions.{node_count}
@@ -11,20 +11,17 @@ use Rattle.net_core.specs.declared.cover.Lit.{Lit}
 use Rattle.net_core.specs.declared.cover.Lit.TheVariants.{Zero, One, Any}
 use Rattle.net_core.specs.declared.raw.Gate.{Gate}
 use Rattle.net_core.specs.declared.raw.RawNet.{RawNet}
-use Rattle.net_core.specs.Flat.{HasOneDriver, IsInRange}
-use Rattle.net_core.specs.Run.{IsSettled}
-use Rattle.net_core.specs.Work.{Function, SymbolicCut, conjunction, disjunction, negation, product, products, sum, sums}
+use Rattle.net_core.specs.Flat.{IsInRange}
+use Rattle.net_core.specs.Work.{Function, SymbolicCut, conjunction, disjunction, product}
 use Rattle.ste_model.specs.declared.task.Assertion.{Assertion}
 use Rattle.ste_model.specs.declared.task.Quint.{Quint}
 use Rattle.ste_model.specs.Asked.{depth}
-use Rattle.ste_model.specs.Expressions.{exclusive_disjunction}
-use Rattle.ste_model.specs.Holds.{IsTaskRun}
 use Rattle.ste_model.specs.Work.{has_time, over_times, quints_work, symbolic_cut, symbolic_cuts_at}
 use Rattle.ste_model.proofs.Alike.{AreSame, Respects, Same, all_itself, append, chains, count_same, itself, or_respects, same_and, same_not, times_same, wholes}
-use Rattle.exact_model.specs.Choices.{bits_at, choices}
+use Rattle.exact_model.specs.Choices.{choices}
 use Rattle.exact_model.specs.Exact.{IsOverNet}
-use Rattle.exact_model.specs.ExactNeed.{IsExactNeed, OneExactNeed}
-use Rattle.exact_model.specs.ExactWork.{AreExactBits, all_broken, all_differ, bit_functions, counter_where, cover_functions, differs, exact_work, exactly_contradictory_where, exactly_strong_where, gates_functions, is_broken, literal_factors, met_where, row_factors, rows_functions, some_bits, some_choices}
+use Rattle.exact_model.specs.ExactNeed.{OneExactNeed}
+use Rattle.exact_model.specs.ExactWork.{all_broken, all_differ, bit_functions, counter_where, cover_functions, differs, exact_work, gates_functions, is_broken, literal_factors, met_where, row_factors, rows_functions, some_bits, some_choices}
 use Rattle.exact_model.proofs.ChoiceRuns.{exact_bits, runs_are_choices}
 
 -- ---- gates
@@ -131,7 +128,7 @@ module _ (net : RawNet) (vars : ℕ) (task : Assertion) (range : IsInRange net) 
   times =
       times_same (λ t. bit_functions (one t) net.nets ++ gates_functions net (one t) net.gates) (λ t. bit_functions (other t) net.nets ++ gates_functions net (other t) net.gates) (depth task)
       (λ t l. append (same_bits v net.nets (one t) (other t) (λ id m. same t id l m) net.nets (omega arith))
-          (same_gates v net.nets (one t) (other t) (λ id m. same t id l m) net net.gates range.gate_inputs))
+      (same_gates v net.nets (one t) (other t) (λ id m. same t id l m) net net.gates range.gate_inputs))
 
   pub work_same : AreSame v (exact_work net vars task one) (exact_work net vars task other)
   work_same =

@@ -1,6 +1,6 @@
 -- An assertion has one exact report at most.
-use Rattle.std.proofs.Common.{◌≡◌, ◌≢◌, ℕ, suc, ◌<◌, ◌≤◌, Bool, true, false, not, List, length, map, get_or, Option, None, Some, arith, refl, sym, ◌∙◌, ap, subst, inl, inr}
-use Rattle.std.specs.Prelude.{All, Contains, IsTrue, ◌⊎◌, slice_get}
+use Rattle.std.proofs.Common.{◌≡◌, ◌≢◌, ℕ, ◌<◌, ◌≤◌, Bool, true, false, not, List, Some, arith, refl, sym, ◌∙◌, ap, subst, inl, inr}
+use Rattle.std.specs.Prelude.{Contains, IsTrue, ◌⊎◌, slice_get}
 use Rattle.std.proofs.Math.Decide.{dec_lt}
 use Rattle.std.proofs.lemmas.List.{length-map}
 use Rattle.std.proofs.lemmas.List.Elements.{All-contains}
@@ -25,7 +25,7 @@ use Rattle.ste_model.proofs.Reports.{one_list, same_parts}
 use Rattle.ste_model.proofs.RunData.{same_data}
 use Rattle.exact_model.specs.Choices.{Cell, bits_at, choices}
 use Rattle.exact_model.specs.Exact.{IsCounterexample, IsExactVerdictOf, IsExactlyContradictory, IsExactlyStrong}
-use Rattle.exact_model.specs.ExactReport.{ExactFailureBreaks, IsBrokenFirst, IsExactReportOf, IsExactlyShown, OneExactReportOf, ShowsExactly, TellsFailure}
+use Rattle.exact_model.specs.ExactReport.{ExactFailureBreaks, IsBrokenFirst, IsExactlyShown, OneExactReportOf, ShowsExactly, TellsFailure}
 use Rattle.exact_model.proofs.ChoiceRuns.{runs_are_choices}
 use Rattle.exact_model.proofs.Exactly.{one_verdict_at_most}
 
@@ -63,10 +63,10 @@ module _ (task : Assertion) (bits : List Bool) (run : ℕ → ℕ → Bool) wher
 
   same_node : (s t : ℕ) (n m : ℕ) → s ≡ t → (a : BreaksAt task bits run s n) (b : BreaksAt task bits run t m) → a.cut.node ≡ b.cut.node
   same_node s t n m e a b =
-          let moved : BreaksAt task bits run t n = subst (λ (u : ℕ). BreaksAt task bits run u n) e a in
-          let here : slice_get (cuts_at task.con bits t) n ≡ Some a.cut = subst (λ (u : ℕ). slice_get (cuts_at task.con bits u) n ≡ Some a.cut) e a.here in
-          let first : a.cut ≡ moved.cut = cc in
-          ap (λ (c : Cut). c.node) (first ∙ one_cut t n m moved b)
+      let moved : BreaksAt task bits run t n = subst (λ (u : ℕ). BreaksAt task bits run u n) e a in
+      let here : slice_get (cuts_at task.con bits t) n ≡ Some a.cut = subst (λ (u : ℕ). slice_get (cuts_at task.con bits u) n ≡ Some a.cut) e a.here in
+      let first : a.cut ≡ moved.cut = cc in
+      ap (λ (c : Cut). c.node) (first ∙ one_cut t n m moved b)
 
   one_place : (p q : NodeId × ℕ) → IsBrokenFirst task bits run p → IsBrokenFirst task bits run q → p ≡ q
   one_place p q a b =
@@ -102,9 +102,9 @@ module _ (net : RawNet) (vars : ℕ) (task : Assertion) (range : IsInRange net) 
       let counter : IsCounterexample net task b.bits (run_of a.told) = subst (λ (bs : List Bool). IsCounterexample net task bs (run_of a.told)) bits a.counter in
       let back : IsCounterexample net task a.bits (run_of b.told) = subst (λ (bs : List Bool). IsCounterexample net task bs (run_of b.told)) (sym bits) b.counter in
       let told : a.told ≡ b.told = same_data net.nets (depth task) a.told b.told a.rows b.rows
-          (same_least b.bits (run_of a.told) (run_of b.told) counter b.counter (b.first (run_of a.told) counter) (a.first (run_of b.told) back)) in
+      (same_least b.bits (run_of a.told) (run_of b.told) counter b.counter (b.first (run_of a.told) counter) (a.first (run_of b.told) back)) in
       let there : IsBrokenFirst task b.bits (run_of b.told) a.place =
-          subst (λ (r : Run). IsBrokenFirst task b.bits (run_of r) a.place) told (subst (λ (bs : List Bool). IsBrokenFirst task bs (run_of a.told) a.place) bits a.is_place) in
+      subst (λ (r : Run). IsBrokenFirst task b.bits (run_of r) a.place) told (subst (λ (bs : List Bool). IsBrokenFirst task bs (run_of a.told) a.place) bits a.is_place) in
       let place : a.place ≡ b.place = one_place task b.bits (run_of b.told) a.place b.place there b.is_place in
       (a.least_is ∙ ap Some bits ∙ sym b.least_is, a.fails_is ∙ ap Some place ∙ sym b.fails_is, a.run_is ∙ ap Some told ∙ sym b.run_is)
 

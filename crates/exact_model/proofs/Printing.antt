@@ -14,7 +14,7 @@ use Rattle.net_core.specs.declared.source.Source.{Source}
 use Rattle.net_core.specs.declared.source.Source.TheVariants as source
 use Rattle.net_core.specs.OneRun.{IsGivenRun}
 use Rattle.net_core.specs.Possible.{IsLeft}
-use Rattle.net_core.specs.Run.{Cut, IsInitial, IsUndriven, MayStart}
+use Rattle.net_core.specs.Run.{Cut, IsInitial, MayStart}
 use Rattle.net_core.specs.Sets.{IsIn, first_set, neither}
 use Rattle.net_core.specs.Source.{source_of}
 use Rattle.net_core.proofs.OneTime.{Facts, facts}
@@ -25,14 +25,13 @@ use Rattle.ste_model.specs.declared.task.Assertion.{Assertion}
 use Rattle.ste_model.specs.Asked.{asked_at, cuts_at, depth}
 use Rattle.ste_model.specs.Assignments.{IsBefore}
 use Rattle.ste_model.specs.Found.{IsContradictory, IsEmptySomewhere, IsStrong, IsTableOf, IsWeak}
-use Rattle.ste_model.specs.Holds.{IsTaskRun, RunMeets}
 use Rattle.ste_model.specs.Runs.{run_of}
 use Rattle.ste_model.specs.Shown.{IsFilled, IsFirst, IsOpen, IsPrinted}
 use Rattle.ste_model.proofs.Due.{due_breaks}
 use Rattle.ste_model.proofs.Tables.{some_table}
 use Rattle.ste_model.proofs.Verdicts.{findings_are_told}
 use Rattle.exact_model.specs.Bindable.{BindableIsFree, IsBoundOver, PrintedIsLeast}
-use Rattle.exact_model.specs.Choices.{Cell, bits_at, choices, is_first_choice, is_free, is_open, starts_free}
+use Rattle.exact_model.specs.Choices.{Cell, bits_at, choices, is_first_choice, is_free, starts_free}
 use Rattle.exact_model.specs.Exact.{IsAllowed, IsCounterexample, IsExactlyContradictory, IsExactlyStrong}
 use Rattle.exact_model.proofs.CellLists.{all_choices}
 use Rattle.exact_model.proofs.ChoiceRuns.{first_bit, is_undriven, may_start, some_latch, zip_each}
@@ -247,8 +246,8 @@ module _ (net : RawNet) (task : Assertion) (bits : List Bool) (run other : ℕ �
       let free : (not task.reset || is_free latch.init) ≡ true = subst (λ (o : Option Latch). IsTrue (starts_free task.reset o)) (slice_get-get_or net.latches l some_latch f.0) h in
       let here = printed.starts inside l some_latch f.0 in
       let rises : run 0 latch.output.0 ≡ true → other 0 latch.output.0 ≡ true =
-          as_asked (cuts_at task.ant bits 0) latch.output.0 (run 0 latch.output.0) (other 0 latch.output.0) here.asked (meets_left (cuts_at task.ant bits 0) (other 0) latch.output.0 (allowed.meets 0))
-          (λ none. here.rest none (λ start. free_starts task.reset latch.init start free)) in
+      as_asked (cuts_at task.ant bits 0) latch.output.0 (run 0 latch.output.0) (other 0 latch.output.0) here.asked (meets_left (cuts_at task.ant bits 0) (other 0) latch.output.0 (allowed.meets 0))
+      (λ none. here.rest none (λ start. free_starts task.reset latch.init start free)) in
       subst (λ (k : ℕ). run 0 k ≡ true → other 0 k ≡ true) (f.1 some_latch) rises e
 
   rises : All (λ c. run c.time c.net ≡ true → other c.time c.net ≡ true) (choices net task)
@@ -256,8 +255,8 @@ module _ (net : RawNet) (task : Assertion) (bits : List Bool) (run other : ℕ �
       all_choices (λ c. run c.time c.net ≡ true → other c.time c.net ≡ true) net task
       (λ id l h. first_rises id (source_of net id) (facts net bound.driver id) h)
       (λ t id l m h.
-          let here = printed.sources t id l m (is_undriven net id (source_of net id) (facts net bound.driver id) h) in
-          as_asked (cuts_at task.ant bits t) id (run t id) (other t id) here.asked (meets_left (cuts_at task.ant bits t) (other t) id (allowed.meets t)) here.rest)
+      let here = printed.sources t id l m (is_undriven net id (source_of net id) (facts net bound.driver id) h) in
+      as_asked (cuts_at task.ant bits t) id (run t id) (other t id) here.asked (meets_left (cuts_at task.ant bits t) (other t) id (allowed.meets t)) here.rest)
 
   pub none_before : ¬ IsBefore (bits_at (choices net task) other) (bits_at (choices net task) run)
   none_before before = not_before (choices net task) run other rises before.place before.earlier before.later

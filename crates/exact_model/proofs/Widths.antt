@@ -1,11 +1,10 @@
 -- The greatest width of tasks.
-use Rattle.std.proofs.Common.{◌≡◌, ℕ, zero, suc, ◌<◌, ◌≤◌, List, [], ◌∷◌, map, max, length, get_or, arith, refl, sym, ap, ◌∙◌, inl, inr}
+use Rattle.std.proofs.Common.{◌≡◌, ℕ, ◌≤◌, List, [], ◌∷◌, map, max, length, arith, refl, ◌∙◌, inl, inr}
 use Rattle.std.specs.Prelude.{All, Any, ◌⊎◌, fold}
 use Rattle.std.proofs.lemmas.Bool.{cases_lt}
 use Rattle.std.proofs.lemmas.List.Elements.{All-cons, All-nil}
-use Rattle.ste_model.specs.declared.task.Task.{Task}
 use Rattle.ste_model.proofs.SumsAt.{any_first, any_later}
-use Rattle.exact_model.specs.Choices.{WidthIsGreatest, exact_width, task_width}
+use Rattle.exact_model.specs.Choices.{WidthIsGreatest, task_width}
 
 module _ {X : Type 0} (f : X → ℕ) where
   least : (xs : List X) (a : ℕ) → a ≤ fold max a (map f xs)

@@ -1,5 +1,6 @@
-//! What two-valued runs say of assertions: choices of a run, exact findings, verdict and report, and what an exact check has to
-//! build; and their laws, each of which is the contract of a function that does nothing. Begin with `specs/Exact.antt`.
+//! What two-valued runs say of assertions: choices of a run, exact findings, verdict and report,
+//! and what an exact check has to build; and their laws, each of which is the contract of a
+//! function that does nothing. Begin with `specs/Exact.antt`.
 #![tactic(auto)]
 
 ghost use Rattle.exact_model.specs.Bindable.{BindableIsFree, PrintedIsLeast};
@@ -15,8 +16,8 @@ pub fn exact_pass_is_holding()
     ensures { ExactPassIsHolding }
 {}
 
-/// An exact report that is no pass tells a run that meets the antecedent and breaks the consequent, and the first place where it
-/// does.
+/// An exact report that is no pass tells a run that meets the antecedent and breaks the consequent,
+/// and the first place where it does.
 pub fn exact_failure_breaks()
     ensures { ExactFailureBreaks }
 {}
@@ -36,12 +37,14 @@ pub fn runs_are_choices()
     ensures { RunsAreChoices }
 {}
 
-/// The exact check of all tasks takes the variables of the file, or as many as the task that takes most.
+/// The exact check of all tasks takes the variables of the file, or as many as the task that takes
+/// most.
 pub fn width_is_greatest()
     ensures { WidthIsGreatest }
 {}
 
-/// The functions of the exact results tell under which assignments an assertion is exactly strong and exactly contradictory.
+/// The functions of the exact results tell under which assignments an assertion is exactly strong
+/// and exactly contradictory.
 pub fn exact_results_are_findings()
     ensures { ExactResultsAreFindings }
 {}
@@ -51,25 +54,26 @@ pub fn one_exact_need()
     ensures { OneExactNeed }
 {}
 
-/// The exact work functions of six small assertions have 6, 5, 25, 11, 2 and 7 nodes, and the kept functions of one have 4.
+/// Seven small assertions need 6, 5, 25, 11, 11, 2 and 7 steps, and the kept functions of one have 4
+/// nodes.
 pub fn exact_samples_are_counted()
     ensures { ExactSamplesAreCounted }
 {}
 
-/// What passes by sets of bits passes exactly, what is contradictory by sets is exactly so, and what is exactly strong is strong
-/// or weak by sets.
+/// What passes by sets of bits passes exactly, what is contradictory by sets is exactly so, and
+/// what is exactly strong is strong or weak by sets.
 pub fn sets_are_safe()
     ensures { SetsAreSafe }
 {}
 
-/// Where the antecedent decides each choice, an assignment is strong by sets exactly where it is so by runs, and contradictory by
-/// sets exactly where it is so by runs; and it is never weak.
+/// Where the antecedent decides each choice, an assignment is strong by sets exactly where it is so
+/// by runs, and contradictory by sets exactly where it is so by runs; and it is never weak.
 pub fn decided_says_runs()
     ensures { DecidedSaysRuns }
 {}
 
-/// Under a bindable antecedent an assignment is contradictory by sets exactly where it is so by runs, and what is strong by sets is
-/// exactly strong.
+/// Under a bindable antecedent an assignment is contradictory by sets exactly where it is so by
+/// runs, and what is strong by sets is exactly strong.
 pub fn bindable_is_free()
     ensures { BindableIsFree }
 {}
