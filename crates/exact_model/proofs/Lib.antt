@@ -11,3 +11,4 @@ pub mod ExactCounts
 pub mod ExactReports
 pub mod Printing
 pub mod Widths
+pub mod MoreVariables

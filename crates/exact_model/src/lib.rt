@@ -10,6 +10,7 @@ ghost use Rattle.exact_model.specs.Exact.{ExactPassIsHolding, OneExactVerdict, S
 ghost use Rattle.exact_model.specs.ExactNeed.{ExactResultsAreFindings, OneExactNeed};
 ghost use Rattle.exact_model.specs.ExactReport.{ExactFailureBreaks, OneExactReportOf};
 ghost use Rattle.exact_model.specs.ExactSamples.{ExactSamplesAreCounted};
+ghost use Rattle.exact_model.specs.Wider.{WiderHasAsManyNodes};
 
 /// An assertion holds exactly where its exact verdict is pass.
 pub fn exact_pass_is_holding()
@@ -81,4 +82,9 @@ pub fn bindable_is_free()
 /// The printed run of a strong assignment is the counterexample with the least choices.
 pub fn printed_is_least()
     ensures { PrintedIsLeast }
+{}
+
+/// Functions of the first variables alone have as many nodes over more variables.
+pub fn wider_has_as_many_nodes()
+    ensures { WiderHasAsManyNodes }
 {}
