@@ -1,6 +1,6 @@
 -- One variable more behind those that functions read doubles each bit, and makes no node.
-use Rattle.std.proofs.Common.{◌≡◌, ℕ, zero, suc, ◌+◌, ◌≤◌, ◌<◌, Bool, true, false, not, cond, List, [], ◌∷◌, ◌++◌, map, take, drop, length, arith, refl, sym, ◌∙◌, ap, subst, add-suc}
-use Rattle.std.specs.Prelude.{All, ◌&&◌, ◌||◌}
+use Rattle.std.proofs.Common.{◌≡◌, ℕ, zero, suc, ◌+◌, ◌≤◌, Bool, true, false, not, cond, List, [], ◌∷◌, ◌++◌, map, take, drop, length, arith, refl, sym, ◌∙◌, ap}
+use Rattle.std.specs.Prelude.{All, ◌||◌}
 use Rattle.std.specs.List.{filter, list_any}
 use Rattle.std.specs.Set.{is_member, unique_keys}
 use Rattle.std.proofs.lemmas.List.{length-append, length-drop, length-map, length-take, map-append}
