@@ -87,7 +87,7 @@ cuts_within nets quints t all = All-map (λ (d : SymbolicCut). d.node < nets) sy
 
 -- ---- some choices
 
-same_some_bits : (n : ℕ) (f g : List Bool → Bool) → ((rest : List Bool) → length rest ≡ n → f rest ≡ g rest) → some_bits n f ≡ some_bits n g
+pub same_some_bits : (n : ℕ) (f g : List Bool → Bool) → ((rest : List Bool) → length rest ≡ n → f rest ≡ g rest) → some_bits n f ≡ some_bits n g
 same_some_bits zero f g same = same [] refl
 same_some_bits (suc n) f g same =
     ap (λ b. b || some_bits n (λ bits. f (true ∷ bits))) (same_some_bits n (λ bits. f (false ∷ bits)) (λ bits. g (false ∷ bits)) (λ rest l. same (false ∷ rest) (omega arith)))

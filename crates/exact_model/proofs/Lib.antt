@@ -12,3 +12,4 @@ pub mod ExactReports
 pub mod Printing
 pub mod Widths
 pub mod MoreVariables
+pub mod WiderNeeds

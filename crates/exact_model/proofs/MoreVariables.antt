@@ -168,7 +168,7 @@ one_more k fs all =
 
 -- ---- more variables
 
-take_take : (n k : ℕ) (bits : List Bool) → n ≤ k → take n (take k bits) ≡ take n bits
+pub take_take : (n k : ℕ) (bits : List Bool) → n ≤ k → take n (take k bits) ≡ take n bits
 take_take zero k bits l = refl
 take_take (suc n) zero bits l = absurd (omega arith)
 take_take (suc n) (suc k) [] l = refl

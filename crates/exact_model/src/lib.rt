@@ -10,7 +10,7 @@ ghost use Rattle.exact_model.specs.Exact.{ExactPassIsHolding, OneExactVerdict, S
 ghost use Rattle.exact_model.specs.ExactNeed.{ExactResultsAreFindings, OneExactNeed};
 ghost use Rattle.exact_model.specs.ExactReport.{ExactFailureBreaks, OneExactReportOf};
 ghost use Rattle.exact_model.specs.ExactSamples.{ExactSamplesAreCounted};
-ghost use Rattle.exact_model.specs.Wider.{WiderHasAsManyNodes};
+ghost use Rattle.exact_model.specs.Wider.{WiderHasAsManyNodes, WiderNeedsAsMany};
 
 /// An assertion holds exactly where its exact verdict is pass.
 pub fn exact_pass_is_holding()
@@ -87,4 +87,9 @@ pub fn printed_is_least()
 /// Functions of the first variables alone have as many nodes over more variables.
 pub fn wider_has_as_many_nodes()
     ensures { WiderHasAsManyNodes }
+{}
+
+/// Over more variables the exact work functions of an assertion have as many nodes as it needs steps.
+pub fn wider_needs_as_many()
+    ensures { WiderNeedsAsMany }
 {}
