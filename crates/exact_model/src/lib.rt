@@ -61,8 +61,8 @@ pub fn exact_samples_are_counted()
     ensures { ExactSamplesAreCounted }
 {}
 
-/// What passes by sets of bits passes exactly, what is contradictory by sets is exactly so, and
-/// what is exactly strong is strong or weak by sets.
+/// What passes by sets of bits, or is contradictory everywhere, passes exactly; what is contradictory
+/// by sets is exactly so; and what is exactly strong is strong or weak by sets.
 pub fn sets_are_safe()
     ensures { SetsAreSafe }
 {}
