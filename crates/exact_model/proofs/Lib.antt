@@ -1,0 +1,15 @@
+pub mod Exactly
+pub mod Single
+pub mod DecidedRuns
+pub mod CellLists
+pub mod ChoiceRuns
+pub mod Readings
+pub mod Breaking
+pub mod ExactFindings
+pub mod ExactNeeds
+pub mod ExactCounts
+pub mod ExactReports
+pub mod Printing
+pub mod Widths
+pub mod MoreVariables
+pub mod WiderNeeds
