@@ -8,8 +8,8 @@ from __future__ import annotations
 
 import enum
 import re
-from typing import (TYPE_CHECKING, Iterable, Iterator, List, Mapping, NamedTuple, NoReturn, Optional, Sequence, Set, Tuple, Union,
-                    overload)
+from typing import (TYPE_CHECKING, Iterable, Iterator, List, Mapping, NamedTuple, NoReturn, Optional, Sequence, Set, Tuple,
+                    Union, overload)
 
 from .errors import TaskError
 from .limits import MOST_VARIABLES
@@ -232,7 +232,8 @@ class Vector:
 
     if not TYPE_CHECKING:              # a type checker reports these by itself
         def _no_order(self, other: object) -> NoReturn:
-            raise TaskError("a vector has no order: compare by ==, or write it out, as any_of(i == n for n in range(3)) for i < 3")
+            raise TaskError("a vector has no order: compare by ==, or write it out, as any_of(i == n for n in range(3)) "
+                            "for i < 3")
 
         def _no_minus(self, other: object) -> NoReturn:
             raise TaskError(f"a vector has no -: write a + ~b + 1, or for an int a + ({1 << len(self)} - b)")
@@ -245,12 +246,13 @@ Word = Union[Vector, int]              # an int has the width of what it meets
 
 
 def to_vector(value: object, width: int, hint: str = "") -> Vector:
-    """A vector of that width: itself, or a Bool where the width is 1, or an int from 0 to 2^width - 1. The hint stands at the end
-    of the error on another width."""
+    """A vector of that width: itself, or a Bool where the width is 1, or an int from 0 to 2^width - 1. The hint stands at the
+    end of the error on another width."""
     whole = Vector([value]) if isinstance(value, Bool) else value
     if isinstance(whole, Vector):
         if len(whole) != width:
-            raise TaskError(f"{counted(len(whole), 'bit')} where {width} {'is' if width == 1 else 'are'} wanted: {value!r}{hint}")
+            wanted = f"{width} {'is' if width == 1 else 'are'} wanted"
+            raise TaskError(f"{counted(len(whole), 'bit')} where {wanted}: {value!r}{hint}")
         return whole
     if not isinstance(whole, int) or not 0 <= whole < 1 << width:
         raise TaskError(f"{whole!r} is no value of {counted(width, 'bit')}")
@@ -320,8 +322,8 @@ def select(index: Vector, words: Sequence[Word]) -> Vector: ...
 
 
 def select(index: Vector, words: Union[Vector, Sequence[Bit], Sequence[Word]]) -> Union[Vector, Bool]:
-    """`words[index]`, and 0 where there is no such word: of bits, or of a vector, a bit; of vectors of one width, a vector. An int
-    is of the kind of the others."""
+    """`words[index]`, and 0 where there is no such word: of bits, or of a vector, a bit; of vectors of one width, a vector. An
+    int is of the kind of the others."""
     table: List[Union[Vector, Bit]] = list(words)
     widths = [len(word) for word in table if isinstance(word, Vector)]
     has_bit = any(isinstance(word, Bool) for word in table)

@@ -41,11 +41,12 @@ class Results(Mapping[str, Result]):
 
     def __init__(self, results: Mapping[str, Result], variables: Mapping[str, Bool], mentions: Mapping[str, AbstractSet[str]],
                  missing: Sequence[str] = ()) -> None:
-        self._results, self._variables, self.mentions, self.missing = dict(results), dict(variables), dict(mentions), tuple(missing)
+        self._results, self._variables = dict(results), dict(variables)
+        self.mentions, self.missing = dict(mentions), tuple(missing)
 
     def __repr__(self) -> str:
-        shown = [f"{name}: {result.verdict.value}" for name, result in self.items()] + [f"{name}: not reported" for name in self.missing]
-        return f"<{', '.join(shown)}>"
+        shown = [f"{name}: {result.verdict.value}" for name, result in self.items()]
+        return f"<{', '.join(shown + [f'{name}: not reported' for name in self.missing])}>"
 
     def __getitem__(self, name: str) -> Result:
         return self._results[name]
@@ -172,9 +173,9 @@ def read_answer(answer: Answer, tasks: Sequence[Task], variables: Sequence[str],
     if answer.err:
         raise ReportError(1, f"a report, and on the error stream {answer.err!r}")
     results, nodes = read_report(answer.out)
-    reported, names = [result.name for result in results], [task.name for task in tasks]
-    if reported != names or nodes is not None:
-        raise ReportError(1, f"a report on {reported} in place of {names}" if nodes is None else "shared nodes were not asked for")
+    found, names = [result.name for result in results], [task.name for task in tasks]
+    if found != names or nodes is not None:
+        raise ReportError(1, f"a report on {found} in place of {names}" if nodes is None else "shared nodes were not asked for")
     if (answer.status == 0) != all(result.verdict is Verdict.PASS for result in results):
         raise ReportError(1, f"status {answer.status} with these verdicts")
     line = 1

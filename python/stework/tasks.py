@@ -285,7 +285,7 @@ class Tasks:
         return found
 
     def brief(self, result: Result) -> str:
-        """The lines of the report on this result, with those nets alone of its run that the task names, and the one that fails."""
+        """The lines of the report on this result, of its run those nets alone that the task names, and the one that fails."""
         if result.run is None or result.fails is None:
             return result.text
         shown = {result.fails.net}.union(*(clause.nets for clause in clauses_of(self.tasks[result.name])))
