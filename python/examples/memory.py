@@ -15,12 +15,12 @@ def memory(net: str) -> Tasks:
     written.ant("we", 1, at=0).ant("d[7:0]", v, at=0)
     written.con("q[7:0]", v, at=1)
 
-    # A word at another address keeps its value; without the guard, `careless`, it does not.
-    for name, guard in ("kept", i != k), ("careless", ONE):
+    # A word at another address keeps its value, and so does each without `we`; `careless` has neither, and fails.
+    for name, we, guard in ("kept", 1, i != k), ("disabled", 0, ONE), ("careless", 1, ONE):
         kept = tasks.ste(name)
         for word, here in enumerate(decode(k, 16)):
             kept.ant(f"mem[{word}][7:0]", u, at=0, when=here)
-        kept.ant("addr[3:0]", i, at=0).ant("we", 1, at=0)
+        kept.ant("addr[3:0]", i, at=0).ant("we", we, at=0)
         kept.ant("addr[3:0]", k, at=1)
         kept.con("q[7:0]", u, at=1, when=guard)
     return tasks

@@ -1,4 +1,4 @@
-"""The tasks of fifo.py in pytest, one test for each. A failure shows what is known of it, and leaves a wave."""
+"""The tasks of fifo.py in pytest, one test for each. A failure shows what is known of it; one with a run leaves a wave."""
 import pathlib
 
 import pytest
@@ -14,7 +14,7 @@ TASKS = fifo(NET)
 @pytest.fixture(scope="session")
 def results() -> Results:
     """All tasks, by one run of the program."""
-    return check(NET, TASKS, timeout=600)
+    return check(NET, TASKS, wave=True, timeout=600)
 
 
 @pytest.mark.parametrize("name", TASKS.tasks)
@@ -22,11 +22,11 @@ def test_task(results: Results, name: str, tmp_path: pathlib.Path) -> None:
     result = results[name]
     if result.verdict is Verdict.PASS and not result.contradictory.cubes:
         return
-    told = f"{result.text}values: {results.assignment(name)}"
+    message = f"{TASKS.brief(result)}values: {results.assignment(name)}"
     for clause, bit in TASKS.failing(result):
-        told += f"\n{clause.origin}: expects {bit}"
+        message += f"\n{clause.origin}: expects {bit}"
     if result.run is not None:
         wave = tmp_path / f"{name}.vcd"
         wave.write_text(vcd(result))
-        told += f"\nwave: {wave}"
-    pytest.fail(told, pytrace=False)
+        message += f"\nwave: {wave}"
+    pytest.fail(message, pytrace=False)

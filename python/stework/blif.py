@@ -1,4 +1,4 @@
-"""Names of nets, and those that a BLIF file has, so that a misspelt one is told where it is written.
+"""Names of nets, and those that a BLIF file has, so that a misspelt one is reported where it is written.
 
 The file is read lightly here, and nothing is judged: the program reads it by itself, and refuses what it has to.
 """
@@ -36,13 +36,13 @@ def expand(nets: Union[str, Sequence[str]]) -> Tuple[str, ...]:
 
 
 def vector_of(name: str) -> Optional[Tuple[str, int]]:
-    """The vector and the index that a net's name tells: mem[2][0] is bit 0 of mem[2]."""
+    """The vector and the index that a net's name gives: mem[2][0] is bit 0 of mem[2]."""
     m = _BIT.fullmatch(name)
     return (m[1], int(m[2])) if m else None
 
 
 def vectors(names: Iterable[str]) -> Dict[str, List[int]]:
-    """The indices of the names that tell one, by vector, the highest first, each once."""
+    """The indices of the names that have one, by vector, the highest first, each once."""
     found: Dict[str, List[int]] = {}
     for base, index in filter(None, map(vector_of, names)):
         found.setdefault(base, []).append(index)

@@ -5,11 +5,11 @@ import enum
 import functools
 import re
 from dataclasses import dataclass
-from typing import Iterable, Iterator, List, NamedTuple, Optional, Sequence, Tuple, TypeVar, Union
+from typing import FrozenSet, Iterable, Iterator, List, NamedTuple, Optional, Sequence, Set, Tuple, TypeVar, Union
 
 from .blif import Netlist, expand
 from .errors import Origin, TaskError, caller
-from .expr import Bit, Bool, Vector, to_bool, to_vector
+from .expr import Bit, Bool, Vector, to_bool, to_vector, variables
 from .limits import MOST_CHARACTERS, MOST_NESTING
 
 _WORD = re.compile(r"[^ \t\r\n#]+")
@@ -83,6 +83,13 @@ class Clause:
         times = "" if self.times is None else f" from {self.times.start} to {self.times.stop}"
         return tuple(Line(f"{self.side.value} {net} = {value}{guard}{times}", self.origin)
                      for net, value in zip(self.nets, self.values))
+
+    @functools.cached_property
+    def mentions(self) -> FrozenSet[str]:
+        """The names of the vectors and of the single variables in its values and its guard."""
+        seen: Set[int] = set()
+        found = (v for expression in (*self.values, self.guard) for v in variables(expression, seen))
+        return frozenset(v.member.vector if v.member else v.name for v in found)
 
 
 class Clauses:

@@ -12,7 +12,7 @@ _PACKAGE = __name__.split(".", 1)[0]
 
 
 class Origin(NamedTuple):
-    """A line of the user's Python: the file, and the number of the line, counted from 1. As text the file is told from the
+    """A line of the user's Python: the file, and the number of the line, counted from 1. As text the file is named from the
     working folder on, where it lies in it."""
     file: str
     line: int
@@ -31,14 +31,14 @@ def caller() -> Origin:
 
 
 class SteworkError(Exception):
-    """Any error of this package. Each can be pickled. Where `check` raised it, `results` has what was told of the other
-    tasks."""
+    """Any error of this package. Each can be pickled. Where `check` raised it, `results` has what was reported of the
+    other tasks."""
     results: Optional[Results] = None
 
 
 class TaskError(SteworkError, ValueError):
-    """What was asked for is not written, since the program would not read it, or since it would ask nothing. `origin` is the
-    line of Python that asked."""
+    """What was asked for is not written, since the program would not read it, or since it would ask nothing; or a wave, since
+    there is no run. `origin` is the line of Python that asked."""
 
     def __init__(self, message: str, origin: Optional[Origin] = None) -> None:
         self.message, self.origin = message, origin or caller()

@@ -8,7 +8,8 @@ from __future__ import annotations
 
 import enum
 import re
-from typing import Iterable, Iterator, List, Mapping, NamedTuple, Optional, Sequence, Set, Tuple, Union, overload
+from typing import (TYPE_CHECKING, Iterable, Iterator, List, Mapping, NamedTuple, NoReturn, Optional, Sequence, Set, Tuple,
+                    Union, overload)
 
 from .errors import TaskError
 from .limits import MOST_VARIABLES
@@ -28,6 +29,8 @@ class Op(enum.IntEnum):
 
 
 _SIGN = {Op.OR: " | ", Op.XOR: " ^ ", Op.AND: " & "}
+_BRACKETS = " (a comparison beside & | ^ needs brackets: (i == k) & p)"
+_INSTEAD = "write & | ~ and mux, not `and`, `or`, `not`, `if` or a chain `a == b == c`"
 
 
 class Member(NamedTuple):
@@ -64,7 +67,7 @@ class Bool:
         return f"<{self}>" if self.size < 200 else f"<expression of {self.size:.3g} characters>"
 
     def __bool__(self) -> bool:
-        raise TaskError(f"{self!r} has no bit until it is checked: write & | ~ and mux, not `and`, `or`, `not`, `if`")
+        raise TaskError(f"{self!r} has no bit until it is checked: {_INSTEAD}")
 
     def under(self, assignment: Mapping[str, int]) -> int:
         """The bit, 0 or 1, under an assignment of bits to its variables. KeyError where one is missing."""
@@ -85,13 +88,13 @@ class Bool:
         return self.args[0] if self.op is Op.NOT else Bool(Op.NOT, (self,))
 
     def __and__(self, other: Bit) -> Bool:
-        return _chain(Op.AND, (self, to_bool(other)))
+        return _chain(Op.AND, (self, _beside(other)))
 
     def __or__(self, other: Bit) -> Bool:
-        return _chain(Op.OR, (self, to_bool(other)))
+        return _chain(Op.OR, (self, _beside(other)))
 
     def __xor__(self, other: Bit) -> Bool:
-        return _chain(Op.XOR, (self, to_bool(other)))
+        return _chain(Op.XOR, (self, _beside(other)))
 
     def __eq__(self, other: Bit) -> Bool:  # type: ignore[override]
         return ~(self ^ other)
@@ -116,14 +119,19 @@ def counted(number: int, noun: str) -> str:
     return f"{number} {noun}{'s' * (number != 1)}"
 
 
-def to_bool(value: object) -> Bool:
-    """An expression of a bit: itself, or of 0 or 1 the constant."""
+def to_bool(value: object, hint: str = "") -> Bool:
+    """An expression of a bit: itself, or of 0 or 1 the constant. The hint stands at the end of the error."""
     if isinstance(value, Bool):
         return value
     if isinstance(value, int) and value in (0, 1):
         return constant(value)
-    hint = ": compare it, or take one bit of it" if isinstance(value, Vector) else ""
-    raise TaskError(f"{value!r} is no bit{hint}")
+    what = ": compare it, or take one bit of it" if isinstance(value, Vector) else ""
+    raise TaskError(f"{value!r} is no bit{what}{hint}")
+
+
+def _beside(other: object) -> Bool:
+    """The bit on the other side of an operator."""
+    return to_bool(other, _BRACKETS if isinstance(other, (Vector, int)) else "")
 
 
 def _chain(op: Op, args: Sequence[Bool]) -> Bool:
@@ -171,7 +179,7 @@ class Vector:
         return f"<{counted(len(self), 'bit')} {', '.join(shown if len(shown) <= 16 else [*shown[:2], '..', *shown[-2:]])}>"
 
     def __bool__(self) -> bool:
-        raise TaskError(f"{self!r} has no value until it is checked: write & | ~ and mux, not `and`, `or`, `not`, `if`")
+        raise TaskError(f"{self!r} has no value until it is checked: {_INSTEAD}")
 
     @overload
     def __getitem__(self, at: int) -> Bool: ...
@@ -192,8 +200,8 @@ class Vector:
             raise TaskError(f"[{at}] of {self!r}: bits are [{len(self) - 1}:0]")
         return self.bits[at]
 
-    def _pairs(self, other: Word) -> Iterator[Tuple[Bool, Bool]]:
-        return zip(self.bits, to_vector(other, len(self)).bits)
+    def _pairs(self, other: Word, hint: str = _BRACKETS) -> Iterator[Tuple[Bool, Bool]]:
+        return zip(self.bits, to_vector(other, len(self), hint if isinstance(other, Bool) else "").bits)
 
     def __and__(self, other: Word) -> Vector:
         return Vector(a & b for a, b in self._pairs(other))
@@ -209,7 +217,7 @@ class Vector:
 
     def __add__(self, other: Word) -> Vector:
         carry, total = ZERO, []
-        for a, b in self._pairs(other):
+        for a, b in self._pairs(other, hint=""):
             total.append(a ^ b ^ carry)
             carry = (a & b) | ((a ^ b) & carry)
         return Vector(total)
@@ -222,16 +230,29 @@ class Vector:
 
     __rand__, __ror__, __rxor__, __radd__, __hash__ = __and__, __or__, __xor__, __add__, object.__hash__
 
+    if not TYPE_CHECKING:              # a type checker reports these by itself
+        def _no_order(self, other: object) -> NoReturn:
+            raise TaskError("a vector has no order: compare by ==, or write it out, as any_of(i == n for n in range(3)) "
+                            "for i < 3")
+
+        def _no_minus(self, other: object) -> NoReturn:
+            raise TaskError(f"a vector has no -: write a + ~b + 1, or for an int a + ({1 << len(self)} - b)")
+
+        __lt__ = __le__ = __gt__ = __ge__ = _no_order
+        __sub__ = __rsub__ = _no_minus
+
 
 Word = Union[Vector, int]              # an int has the width of what it meets
 
 
-def to_vector(value: object, width: int) -> Vector:
-    """A vector of that width: itself, or a Bool where the width is 1, or an int from 0 to 2^width - 1."""
+def to_vector(value: object, width: int, hint: str = "") -> Vector:
+    """A vector of that width: itself, or a Bool where the width is 1, or an int from 0 to 2^width - 1. The hint stands at the
+    end of the error on another width."""
     whole = Vector([value]) if isinstance(value, Bool) else value
     if isinstance(whole, Vector):
         if len(whole) != width:
-            raise TaskError(f"{counted(len(whole), 'bit')} where {width} are wanted: {value!r}")
+            wanted = f"{width} {'is' if width == 1 else 'are'} wanted"
+            raise TaskError(f"{counted(len(whole), 'bit')} where {wanted}: {value!r}{hint}")
         return whole
     if not isinstance(whole, int) or not 0 <= whole < 1 << width:
         raise TaskError(f"{whole!r} is no value of {counted(width, 'bit')}")
@@ -266,14 +287,6 @@ def cat(*parts: Union[Vector, Bool]) -> Vector:
     return Vector(found)
 
 
-def _width(words: Sequence[Union[Vector, Bit]]) -> int:
-    """The width of the first vector."""
-    for word in words:
-        if isinstance(word, Vector):
-            return len(word)
-    raise TaskError(f"no vector among {list(words)!r}: an int has no width")
-
-
 @overload
 def mux(choice: Bit, one: Bit, zero: Bit) -> Bool: ...
 
@@ -289,10 +302,10 @@ def mux(choice: Bit, one: Word, zero: Vector) -> Vector: ...
 def mux(choice: Bit, one: Union[Vector, Bit], zero: Union[Vector, Bit]) -> Union[Vector, Bool]:
     """`one` where the choice is 1, and `zero` where it is 0: two bits, or two words of one width."""
     c = to_bool(choice)
-    if isinstance(one, Vector) or isinstance(zero, Vector):
-        width = _width((one, zero))
-        return Vector(mux(c, a, b) for a, b in zip(to_vector(one, width), to_vector(zero, width)))
-    return (c & one) | (~c & zero)
+    widths = [len(word) for word in (one, zero) if isinstance(word, Vector)]
+    if widths:
+        return Vector(mux(c, a, b) for a, b in zip(to_vector(one, widths[0]), to_vector(zero, widths[0])))
+    return (c & to_bool(one)) | (~c & to_bool(zero))
 
 
 def decode(index: Vector, count: int) -> Vector:
@@ -300,11 +313,29 @@ def decode(index: Vector, count: int) -> Vector:
     return Vector(index == k for k in range(count))
 
 
-def select(index: Vector, words: Sequence[Word]) -> Vector:
-    """`words[index]`, and 0 where there is no such word. All have the width of the first that is a vector."""
-    width = _width(words)
-    table = [(here, to_vector(word, width)) for here, word in zip(decode(index, len(words)), words)]
-    return Vector(any_of(here & word[j] for here, word in table) for j in range(width))
+@overload
+def select(index: Vector, words: Union[Vector, Sequence[Bit]]) -> Bool: ...  # type: ignore[misc]
+
+
+@overload
+def select(index: Vector, words: Sequence[Word]) -> Vector: ...
+
+
+def select(index: Vector, words: Union[Vector, Sequence[Bit], Sequence[Word]]) -> Union[Vector, Bool]:
+    """`words[index]`, and 0 where there is no such word: of bits, or of a vector, a bit; of vectors of one width, a vector. An
+    int is of the kind of the others."""
+    table: List[Union[Vector, Bit]] = list(words)
+    widths = [len(word) for word in table if isinstance(word, Vector)]
+    has_bit = any(isinstance(word, Bool) for word in table)
+    if not widths and not has_bit:
+        raise TaskError(f"no bit and no vector among {table!r}: an int has no width")
+    if widths and has_bit:
+        raise TaskError(f"bits and vectors in one table: {table!r}")
+    chosen = list(zip(decode(index, len(table)), table))
+    if has_bit:
+        return any_of(here & to_bool(word) for here, word in chosen)
+    columns = zip(*([here & b for b in to_vector(word, widths[0])] for here, word in chosen))
+    return Vector(any_of(column) for column in columns)
 
 
 def onehot(vector: Vector) -> Bool:

@@ -1,4 +1,4 @@
-"""The program's limits, each once. What is beyond one of them is told in Python, before anything is run."""
+"""The program's limits, each once. What is beyond one of them is reported in Python, before anything is run."""
 
 MOST_VARIABLES = 1_000                 # of a task file
 MOST_NESTING = 100                     # `!` and brackets within one another, of an expression

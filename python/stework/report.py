@@ -75,7 +75,7 @@ class Run:
 
 @dataclass(frozen=True)
 class Result:
-    """What a report tells of a task.
+    """What a report says of a task.
 
     `strong`, `weak` and `contradictory` are sets of assignments. Of a strong or weak failure there are `least`, with a bit for
     each variable in the order of `.vars`, and `fails`; of a graph also `path`, the numbers of its edges; and of some strong
@@ -219,7 +219,7 @@ def _result(head: re.Match[str], lines: _Lines) -> Result:
 
 
 def read_report(text: str) -> Tuple[List[Result], Optional[int]]:
-    """The results in order, and the number of shared nodes where it is told. ReportError for any other text.
+    """The results in order, and the number of shared nodes where it is given. ReportError for any other text.
 
     Names may hold any byte: a text that was read from bytes is best decoded by `utf-8` with `surrogateescape`.
     """
@@ -247,5 +247,5 @@ def read_report(text: str) -> Tuple[List[Result], Optional[int]]:
 
 
 def write_report(results: Iterable[Result], nodes: Optional[int] = None) -> str:
-    """The report with these results, and with the number of shared nodes where it is told."""
+    """The report with these results, and with the number of shared nodes where it is given."""
     return "".join(result.text for result in results) + (f"shared nodes: {nodes}\n" if nodes is not None else "")

@@ -7,7 +7,7 @@ import shutil
 import subprocess
 import tempfile
 from pathlib import Path
-from typing import Any, Dict, Iterator, List, Mapping, NamedTuple, Optional, Sequence, Tuple
+from typing import AbstractSet, Any, Dict, Iterator, List, Mapping, NamedTuple, Optional, Sequence, Tuple
 
 from .blif import PathLike
 from .clauses import Clause, Line, text_of
@@ -15,7 +15,7 @@ from .errors import Fault, OutOfMemory, Refused, ReportError, SteworkError, Task
 from .expr import Bool
 from .limits import MOST_CUBES, MOST_STEPS, MOST_TASKS, MOST_WORKERS
 from .report import Result, Verdict, read_report
-from .tasks import Task, Tasks
+from .tasks import Task, Tasks, clauses_of
 
 
 class Part(NamedTuple):
@@ -36,10 +36,17 @@ class Answer(NamedTuple):
 
 
 class Results(Mapping[str, Result]):
-    """The results by task name, in the order of the tasks. `missing` has the names of the tasks of which nothing was told."""
+    """The results by task name, in the order of the tasks. `missing` has the names of the tasks of which nothing was reported;
+    `mentions` has, by task, the names of the vectors and of the single variables that the task mentions."""
 
-    def __init__(self, results: Mapping[str, Result], variables: Mapping[str, Bool], missing: Sequence[str] = ()) -> None:
-        self._results, self._variables, self.missing = dict(results), dict(variables), tuple(missing)
+    def __init__(self, results: Mapping[str, Result], variables: Mapping[str, Bool], mentions: Mapping[str, AbstractSet[str]],
+                 missing: Sequence[str] = ()) -> None:
+        self._results, self._variables = dict(results), dict(variables)
+        self.mentions, self.missing = dict(mentions), tuple(missing)
+
+    def __repr__(self) -> str:
+        shown = [f"{name}: {result.verdict.value}" for name, result in self.items()]
+        return f"<{', '.join(shown + [f'{name}: not reported' for name in self.missing])}>"
 
     def __getitem__(self, name: str) -> Result:
         return self._results[name]
@@ -52,7 +59,7 @@ class Results(Mapping[str, Result]):
 
     @property
     def passed(self) -> bool:
-        """Every task was told, and every verdict is pass."""
+        """Every task was reported, and every verdict is pass; lists `contradictory:` are not looked at."""
         return not self.missing and all(result.verdict is Verdict.PASS for result in self.values())
 
     @property
@@ -62,12 +69,14 @@ class Results(Mapping[str, Result]):
 
     def assignment(self, name: str) -> Dict[str, int]:
         """The least assignment of a failed task, with the variables of a vector put together as a number, in the order of
-        `.vars`; of a task that did not fail, nothing."""
+        `.vars`: of the variables that the task mentions, and of vectors of which it mentions a bit. Of a task that did not fail,
+        nothing."""
         found: Dict[str, int] = {}
         for variable, value in (self[name].least or {}).items():
             member = self._variables[variable].member
             key, shift = (member.vector, member.bit) if member else (variable, 0)
-            found[key] = found.get(key, 0) | value << shift
+            if key in self.mentions[name]:
+                found[key] = found.get(key, 0) | value << shift
         return found
 
 
@@ -92,8 +101,8 @@ def run_part(part: Part) -> Answer:
             with open(room / "out", "wb") as out, open(room / "err", "wb") as err:
                 status = subprocess.run(words, cwd=room, stdin=subprocess.DEVNULL, stdout=out, stderr=err, timeout=part.timeout,
                                         check=False).returncode
-            told = [(room / name).read_bytes().decode("utf-8", "surrogateescape") for name in ("out", "err")]
-            return Answer(status, *told)
+            texts = [(room / name).read_bytes().decode("utf-8", "surrogateescape") for name in ("out", "err")]
+            return Answer(status, *texts)
     except subprocess.TimeoutExpired:
         return Answer(None, "", f"no answer within {part.timeout:g} s")
     except OSError as e:
@@ -105,20 +114,20 @@ def check(net: PathLike, tasks: Tasks, *, workers: int = 4, steps: int = 1_000_0
     """Check every task on the netlist, a BLIF file, and give the results in the order of the tasks.
 
     `workers` (1 to 64) are threads of a run of the program, and `steps` (1 to 16,000,000) node steps of each task; of a list at
-    most `cubes` (1 to 64) are told; with `wave` runs show all nets, else those that the task names; `timeout` is in seconds,
+    most `cubes` (1 to 64) are listed; with `wave` runs show all nets, else those that the task names; `timeout` is in seconds,
     for each run of the program, which is `program`, or else by `find_program`.
 
     As the steps of a file are limited, it has at most 16,000,000 / `steps` tasks, and at most 256: of more tasks several files
     are made, and run one after another.
 
     TaskError before anything is run; Refused, Fault, OutOfMemory, TimedOut and ReportError when all files were run, of the
-    first that has one. Its `results` has what the others told.
+    first that has one. Its `results` has what the others reported.
     """
     for name, value, most in ("workers", workers, MOST_WORKERS), ("steps", steps, MOST_STEPS), ("cubes", cubes, MOST_CUBES):
         if not isinstance(value, int) or not 1 <= value <= most:
             raise TaskError(f"{name}={value!r} is not a number from 1 to {most}")
     size = min(MOST_TASKS, MOST_STEPS // steps)
-    files = tasks.files(size)          # what is wrong in any task is told before the first is run
+    files = tasks.files(size)          # what is wrong in any task is reported before the first is run
     variables = tasks.variables()
     options = (f"--workers={workers:d}", f"--steps={steps:d}", f"--cubes={cubes:d}") + (("--wave",) if wave else ())
     path = os.path.abspath(program or find_program())
@@ -136,7 +145,8 @@ def check(net: PathLike, tasks: Tasks, *, workers: int = 4, steps: int = 1_000_0
             found.update((result.name, result) for result in read_answer(answer, group, list(variables), lines, os.fspath(net)))
         except SteworkError as e:
             errors.append(e)
-    results = Results(found, variables, [name for name in tasks.tasks if name not in found])
+    mentions = {task.name: {name for clause in clauses_of(task) for name in clause.mentions} for task in every}
+    results = Results(found, variables, mentions, [name for name in tasks.tasks if name not in found])
     if errors:
         errors[0].results = results
         raise errors[0]
@@ -157,15 +167,15 @@ def unasked(net: PathLike, tasks: Tasks, **options: Any) -> List[Tuple[Clause, V
 
 def read_answer(answer: Answer, tasks: Sequence[Task], variables: Sequence[str], lines: Sequence[Line],
                 net: str) -> List[Result]:
-    """The results of just these tasks over these variables, or the exception that the answer tells."""
+    """The results of just these tasks over these variables, or the exception that the answer stands for."""
     if answer.status not in (0, 1):
         raise failure(answer, lines, net)
     if answer.err:
         raise ReportError(1, f"a report, and on the error stream {answer.err!r}")
     results, nodes = read_report(answer.out)
-    told, names = [result.name for result in results], [task.name for task in tasks]
-    if told != names or nodes is not None:
-        raise ReportError(1, f"a report on {told} in place of {names}" if nodes is None else "shared nodes were not asked for")
+    found, names = [result.name for result in results], [task.name for task in tasks]
+    if found != names or nodes is not None:
+        raise ReportError(1, f"a report on {found} in place of {names}" if nodes is None else "shared nodes were not asked for")
     if (answer.status == 0) != all(result.verdict is Verdict.PASS for result in results):
         raise ReportError(1, f"status {answer.status} with these verdicts")
     line = 1
@@ -208,4 +218,4 @@ def failure(answer: Answer, lines: Sequence[Line], net: str) -> SteworkError:
         origins = {line: written.origin for line, written in enumerate(lines, 1)} if file == "TASKS" else {}
         at = int(number) if number else None
         return Refused(message, {"NET": net, "TASKS": "tasks"}.get(file), at, origins.get(at or 0))
-    return Fault(f"status {answer.status}: {answer.err.rstrip(chr(10)) or 'nothing is told'}")
+    return Fault(f"status {answer.status}: {answer.err.rstrip(chr(10)) or 'no message'}")

@@ -13,7 +13,7 @@ from .clauses import Clause, Clauses, Line, Nets, Side, Value, last_word, requir
 from .errors import Origin, TaskError, caller
 from .expr import Bit, Bool, Op, Vector, counted, variables
 from .limits import MOST_EDGES, MOST_TASKS, MOST_TIME, MOST_VARIABLES, MOST_VERTICES
-from .report import Result
+from .report import Result, Run
 
 Times = Union[int, range]
 
@@ -83,6 +83,11 @@ class Assertion(Clauses):
         return None
 
 
+def _require_no_time(at: object) -> None:
+    if at is not None:
+        raise TaskError(f"at={at!r}: in a graph the edge is the step, and a clause has no time")
+
+
 class Edge(Clauses):
     """A time step of a graph. `ant` and `con` are as those of an assertion, without times, and give the edge back."""
 
@@ -90,12 +95,14 @@ class Edge(Clauses):
         super().__init__(netlist)
         self.tail, self.head = last_word("vertex", tail), last_word("vertex", head)
 
-    def ant(self, nets: Nets, value: Value, when: Bit = 1) -> Edge:
+    def ant(self, nets: Nets, value: Value, when: Bit = 1, *, at: None = None) -> Edge:
         """Put the value in in this step, where `when` is 1."""
+        _require_no_time(at)
         return self._add(Side.ANTECEDENT, nets, value, when, None)
 
-    def con(self, nets: Nets, value: Value, when: Bit = 1) -> Edge:
+    def con(self, nets: Nets, value: Value, when: Bit = 1, *, at: None = None) -> Edge:
         """Expect the value in this step, where `when` is 1."""
+        _require_no_time(at)
         return self._add(Side.CONSEQUENT, nets, value, when, None)
 
 
@@ -170,6 +177,11 @@ class Graph:
 Task = Union[Assertion, Graph]
 
 
+def clauses_of(task: Task) -> Iterator[Clause]:
+    """The clauses of a task, in the order of the text."""
+    return (clause for part in task.parts() for clause in part.clauses)
+
+
 class Tasks:
     """The tasks of a check, in order, over common variables.
 
@@ -230,11 +242,10 @@ class Tasks:
         for variable in self.order:
             yield variable, self.origin
         for task in self.tasks.values():
-            for part in task.parts():
-                for clause in part.clauses:
-                    for value in clause.values:
-                        yield value, clause.origin
-                        yield clause.guard, clause.origin
+            for clause in clauses_of(task):
+                for value in clause.values:
+                    yield value, clause.origin
+                    yield clause.guard, clause.origin
 
     def files(self, size: int) -> List[List[Line]]:
         """The lines of task files of `size` tasks each (1 to 256), the last perhaps of fewer. All declare the variables of all
@@ -249,7 +260,7 @@ class Tasks:
         return [head + [line for lines in tasks[at:at + size] for line in lines] for at in range(0, len(tasks), size)]
 
     def _lines(self, task: Task) -> Iterator[Line]:
-        if not any(clause.side is Side.CONSEQUENT for part in task.parts() for clause in part.clauses):
+        if not any(clause.side is Side.CONSEQUENT for clause in clauses_of(task)):
             raise TaskError(f"{task.name!r} has no consequent: it would pass whatever the netlist does", task.origin)
         return task.lines()
 
@@ -273,13 +284,20 @@ class Tasks:
                 found += [(clause, bit) for bit in bits if str(bit) != actual]
         return found
 
+    def brief(self, result: Result) -> str:
+        """The lines of the report on this result, of its run those nets alone that the task names, and the one that fails."""
+        if result.run is None or result.fails is None:
+            return result.text
+        shown = {result.fails.net}.union(*(clause.nets for clause in clauses_of(self.tasks[result.name])))
+        return replace(result, run=Run(tuple(row for row in result.run.rows if row[0] in shown))).text
+
     def negated(self) -> Tuple[Tasks, Dict[str, Clause]]:
         """For each bit of each consequent its task with that bit alone expected, and the wrong way round; and by the name of
         that task the consequent. Where such a task passes the consequent asks nothing, or nothing was checked."""
         other = Tasks(self.netlist, self.variables().values())
         source: Dict[str, Clause] = {}
         for task in self.tasks.values():
-            for clause in (c for part in task.parts() for c in part.clauses if c.side is Side.CONSEQUENT):
+            for clause in (c for c in clauses_of(task) if c.side is Side.CONSEQUENT):
                 for net, value in zip(clause.nets, clause.values):
                     require_sayable(~value, clause.origin)
                     name = f"{task.name}.{len(source)}"

@@ -5,6 +5,7 @@ import re
 from typing import Dict, Iterator, List, NamedTuple, Set
 
 from .blif import has_no_gap, vector_of, vectors
+from .errors import TaskError
 from .report import Result, Run
 
 
@@ -75,9 +76,9 @@ def _declarations(name: str, scope: _Scope, declared: List[_Signal]) -> Iterator
 
 def vcd(result: Result) -> str:
     """The run of a failed task as VCD, the same text each time. One time step is 1 ns. The signal `stework_fails` is 1 in the
-    step in which the task fails; a comment at the head has task, verdict, net and time. ValueError where there is no run."""
+    step in which the task fails; a comment at the head has task, verdict, net and time. TaskError where there is no run."""
     if result.run is None or result.fails is None:
-        raise ValueError(f"{result.name}: {result.verdict.value}, without a run")
+        raise TaskError(f"{result.name}: {result.verdict.value}, without a run")
     steps = range(result.run.steps)
     top = _top_scope(result.run)
     top.signals.insert(0, _Signal("stework_fails", ["".join(str(int(t == result.fails.time)) for t in steps)]))

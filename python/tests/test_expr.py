@@ -23,10 +23,14 @@ TEXTS: Tuple[Tuple[Bool, str], ...] = (
     (mux(p, q, r), "p & q | !p & r"), (mux(p, 1, 0), "p"), (mux(1, q, r), "q"), (mux(p, i, 2)[1], "p & i1 | !p"),
     (onehot(i), "i0 & !i1 | !i0 & i1"), (onehot(Vector([])), "0"), (decode(i, 4)[3], "i1 & i0"), (decode(i, 4)[1], "!i1 & i0"),
     (select(i, [bits("a", 1), bits("b", 1)])[0], "!i1 & !i0 & a0 | !i1 & i0 & b0"), (select(i, [1, bits("b", 2)])[0], "!i1 & !i0 | !i1 & i0 & b0"),
+    (select(i, [p, q]), "!i1 & !i0 & p | !i1 & i0 & q"), (select(i, [p, 0, 1, q & r]), "!i1 & !i0 & p | i1 & !i0 | i1 & i0 & q & r"),
+    (select(bits("s", 1), bits("m", 2)), "!s0 & m0 | s0 & m1"), (select(i, cat(p, q, ONE)), "!i1 & !i0 | !i1 & i0 & q | i1 & !i0 & p"),
     ((i + 1)[0], "!i0"), ((i + 1)[1], "i1 ^ i0"), ((1 + i)[1], "i1 ^ i0"),
     (cat(p, i)[2], "p"), (cat(p, i)[1], "i1"), (cat(i, p)[0], "p"), (i[1:0][1], "i1"), (i[1:1][0], "i1"), (i[:1][0], "i1"), (i[0:][0], "i0"),
 )
 
+BRACKETS = " (a comparison beside & | ^ needs brackets: (i == k) & p)"
+NO_ORDER = "a vector has no order: compare by ==, or write it out, as any_of(i == n for n in range(3)) for i < 3"
 WRONG: Tuple[Tuple[Callable[[], Any], str], ...] = (
     (lambda: bit("1a"), "'1a' is no variable: letters, digits and _, not a digit first, and none of when, from, to"),
     (lambda: bit("from"), "'from' is no variable: letters, digits and _, not a digit first, and none of when, from, to"),
@@ -35,17 +39,32 @@ WRONG: Tuple[Tuple[Callable[[], Any], str], ...] = (
     (lambda: bits("", 2), "'0' is no variable: letters, digits and _, not a digit first, and none of when, from, to"),
     (lambda: bits("p", 0), "'p' of 0 bits: from 1 to 1000"),
     (lambda: bits("p", 1001), "'p' of 1001 bits: from 1 to 1000"),
-    (lambda: p and q, "<p> has no bit until it is checked: write & | ~ and mux, not `and`, `or`, `not`, `if`"),
-    (lambda: p == q == r, "<!(p ^ q)> has no bit until it is checked: write & | ~ and mux, not `and`, `or`, `not`, `if`"),
-    (lambda: not i, "<2 bits i1, i0> has no value until it is checked: write & | ~ and mux, not `and`, `or`, `not`, `if`"),
-    (lambda: p & 2, "2 is no bit"),
+    (lambda: p and q, "<p> has no bit until it is checked: write & | ~ and mux, not `and`, `or`, `not`, `if` or a chain `a == b == c`"),
+    (lambda: p == q == r, "<!(p ^ q)> has no bit until it is checked: write & | ~ and mux, not `and`, `or`, `not`, `if` or a chain `a == b == c`"),
+    (lambda: i == q == 1, "1 bit where 2 are wanted: <q>" + BRACKETS),
+    (lambda: i == 2 == 1, "<i1 & !i0> has no bit until it is checked: write & | ~ and mux, not `and`, `or`, `not`, `if` or a chain `a == b == c`"),
+    (lambda: not i, "<2 bits i1, i0> has no value until it is checked: write & | ~ and mux, not `and`, `or`, `not`, `if` or a chain `a == b == c`"),
+    (lambda: p & 2, "2 is no bit" + BRACKETS),
+    (lambda: i == 3 & p, "3 is no bit" + BRACKETS),
+    (lambda: i != 1 | p, "1 bit where 2 are wanted: <1>" + BRACKETS),
     (lambda: p == None, "None is no bit"),  # noqa: E711
-    (lambda: p & i, "<2 bits i1, i0> is no bit: compare it, or take one bit of it"),
+    (lambda: p & i, "<2 bits i1, i0> is no bit: compare it, or take one bit of it" + BRACKETS),
+    (lambda: p | i == 2, "<2 bits i1, i0> is no bit: compare it, or take one bit of it" + BRACKETS),
+    (lambda: i & p == 1, "1 bit where 2 are wanted: <p>" + BRACKETS),
+    (lambda: i == bits("k", 2) ^ p, "1 bit where 2 are wanted: <p>" + BRACKETS),
+    (lambda: (i == 2) | i, "<2 bits i1, i0> is no bit: compare it, or take one bit of it" + BRACKETS),
+    (lambda: i | (i == 2), "1 bit where 2 are wanted: <i1 & !i0>" + BRACKETS),
+    (lambda: i + p, "1 bit where 2 are wanted: <p>"),
+    (lambda: p ^ None, "None is no bit"),
     (lambda: i == 4, "4 is no value of 2 bits"),
     (lambda: i == -1, "-1 is no value of 2 bits"),
     (lambda: i & 1.0, "1.0 is no value of 2 bits"),
     (lambda: i ^ bits("j", 3), "3 bits where 2 are wanted: <3 bits j2, j1, j0>"),
-    (lambda: i == p, "1 bit where 2 are wanted: <p>"),
+    (lambda: i == p, "1 bit where 2 are wanted: <p>" + BRACKETS),
+    (lambda: bits("j", 1) & i, "2 bits where 1 is wanted: <2 bits i1, i0>"),
+    (lambda: i < 3, NO_ORDER), (lambda: 3 > i, NO_ORDER), (lambda: i >= i, NO_ORDER), (lambda: i <= 0, NO_ORDER), (lambda: max(i, i), NO_ORDER),
+    (lambda: i - 1, "a vector has no -: write a + ~b + 1, or for an int a + (4 - b)"),
+    (lambda: 1 - bits("j", 3), "a vector has no -: write a + ~b + 1, or for an int a + (8 - b)"),
     (lambda: i[2], "[2] of <2 bits i1, i0>: bits are [1:0]"),
     (lambda: i[-1], "[-1] of <2 bits i1, i0>: bits are [1:0]"),
     (lambda: i[bits("j", 1)], "[<1 bit j0>] of <2 bits i1, i0>: the number of a bit is an int; for a vector of variables take select"),
@@ -57,7 +76,12 @@ WRONG: Tuple[Tuple[Callable[[], Any], str], ...] = (
     (lambda: mux(p, 3, 0), "3 is no bit"),
     (lambda: mux(i, p, q), "<2 bits i1, i0> is no bit: compare it, or take one bit of it"),
     (lambda: decode(i, 5), "4 is no value of 2 bits"),
-    (lambda: select(i, [1, 2]), "no vector among [1, 2]: an int has no width"),
+    (lambda: select(i, [1, 2]), "no bit and no vector among [1, 2]: an int has no width"),
+    (lambda: select(i, []), "no bit and no vector among []: an int has no width"),
+    (lambda: select(i, [p, i]), "bits and vectors in one table: [<p>, <2 bits i1, i0>]"),
+    (lambda: select(i, [bits("j", 1), 0, q]), "bits and vectors in one table: [<1 bit j0>, 0, <q>]"),
+    (lambda: select(i, [p, 2]), "2 is no bit"),
+    (lambda: select(i, bits("m", 5)), "4 is no value of 2 bits"),
     (lambda: select(i, [i, bits("j", 3)]), "3 bits where 2 are wanted: <3 bits j2, j1, j0>"),
 )
 
@@ -88,7 +112,10 @@ class Expressions(Case):
                                   (cat(a, b), 8 * x + y), (a[2:1], x >> 1), (mux(a[0], b, 5), y if x & 1 else 5), (decode(a, 8), 1 << x),
                                   (select(a, [b, 1, ~b, 7, 0]), (y, 1, 7 - y, 7, 0)[x] if x < 5 else 0)):
                 self.assertEqual(number(vector, under), value)
-            for e, holds in ((a == b, x == y), (a != b, x != y), (a == 5, x == 5), (a != 5, x != 5), (onehot(a), x in (1, 2, 4))):
+            self.assertEqual(number(a + ~b + 1, under), (x - y) % 8)
+            for e, holds in ((a == b, x == y), (a != b, x != y), (a == 5, x == 5), (a != 5, x != 5), (onehot(a), x in (1, 2, 4)),
+                             (select(a, b), x < 3 and y >> x & 1), (select(a, [*b, a[0], 1]), (y >> x if x < 3 else x == 4 or x % 2) & 1 if x < 5 else 0),
+                             (any_of(a == n for n in range(3)), x < 3)):
                 self.assertEqual(e.under(under), int(holds))
 
     def test_interleaved(self) -> None:

@@ -74,7 +74,7 @@ class Page(unittest.TestCase):
         self.assertEqual((outcome.failed, "".join(told)), (0, ""))
 
     def test_the_table_of_mistakes(self) -> None:
-        rows = re.findall(r"^\| `((?:t|g|i|bit)[.\[(].*?)` \| (?:`` (.*) ``|`(.*)`) \|$", PAGE.read_text(), re.MULTILINE)
+        rows = re.findall(r"^\| `((?:t|g|i|bit)[ .\[(].*?)` \| (?:`` (.*) ``|`(.*)`) \|$", PAGE.read_text(), re.MULTILINE)
         self.assertGreater(len(rows), 10)
         for written, *told in rows:
             with self.subTest(written):

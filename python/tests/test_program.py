@@ -98,19 +98,50 @@ class Program(Case):
     def test_the_memory(self) -> None:
         net = str(EXAMPLES / "ram16.blif")
         tasks = self.example("memory").memory(net)
-        self.assertEqual(tasks.text().count("\n"), 318)
-        self.assertIn(".ant mem[5][7] = u7 when !k3 & k2 & !k1 & k0 from 0 to 1\n", tasks.text())
+        self.assertEqual(tasks.text().count("\n"), 465)
+        self.assertEqual(tasks.text().count(".ant mem[5][7] = u7 when !k3 & k2 & !k1 & k0 from 0 to 1\n"), 3)
         results = check(net, tasks, program=self.program, cubes=64)
-        self.assertEqual([r.verdict for r in results.values()], [Verdict.PASS, Verdict.PASS, Verdict.WEAK])
+        self.assertEqual(repr(results), "<written: pass, kept: pass, disabled: pass, careless: weak failure>")
         careless = results["careless"]
         self.assertEqual((len(careless.weak.cubes), careless.weak.more), (16, False))
         self.assertTrue(all(cube[f"i{k}"] == cube[f"k{k}"] for cube in careless.weak.cubes for k in range(4)))
         self.assertEqual([str(clause.guard) for clause, _ in tasks.failing(careless)], ["1"])
+        self.assertEqual((results.assignment("careless"), len(careless.least or {})), ({"i": 0, "k": 0, "u": 0}, 24))
         self.assertEqual(unasked(net, tasks, program=self.program), [])
+
+    def test_an_address_that_differs_is_an_edge_for_each_bit(self) -> None:
+        net = str(EXAMPLES / "ram16.blif")
+        tasks, k, v = Tasks(net), bits("k", 4), bits("v", 8)
+        for name, differing in ("kept", k), ("lost", k[2:0]):
+            g = tasks.gste(name, "start")
+            g.edge("start", "hold").ant("we", 1).ant("addr[3:0]", k).ant("d[7:0]", v)
+            for b, bit_of_k in enumerate(differing):
+                g.edge("hold", "hold").ant("we", 1).ant(f"addr[{b}]", ~bit_of_k)
+            if name == "lost":
+                g.edge("hold", "hold").ant("we", 1)
+            g.edge("hold", "hold").ant("we", 0)
+            g.edge("hold", "end").ant("addr[3:0]", k).con("q[7:0]", v)
+        results = check(net, tasks, program=self.program)
+        self.assertEqual([result.verdict for result in results.values()], [Verdict.PASS, Verdict.WEAK])
+
+    def test_a_bug_that_is_weak_is_strong_with_variables(self) -> None:
+        good = ".model m\n.inputs enable d z\n.outputs q\n.names enable d q next\n11- 1\n0-1 1\n.latch next q\n.end\n"
+        bad = good.replace(".names enable d q next\n11- 1\n0-1 1\n", ".names enable d q z next\n11-- 1\n0-1- 1\n0--1 1\n")
+        tasks = Tasks()
+        tasks.ste("t").ant("enable", 0, at=0).ant("q", p, at=0).con("q", p, at=1)
+        self.assertTrue(check(self.netlist(good), tasks, program=self.program).passed)
+        (result,) = check(self.netlist(bad), tasks, program=self.program).values()
+        self.assertEqual((result.verdict, result.run), (Verdict.WEAK, None))
+        tasks = Tasks()
+        tasks.ste("t").ant("enable", 0, at=0).ant("q", p, at=0).con("q", p, at=1).ant("d", bit("d"), at=0).ant("z", bit("z"), at=0)
+        self.assertTrue(check(self.netlist(good), tasks, program=self.program).passed)
+        (result,) = check(self.netlist(bad), tasks, program=self.program).values()
+        assert result.run is not None
+        self.assertEqual((result.verdict, result.run["z"][0], result.run["q"]), (Verdict.STRONG, 1, [0, 1]))
 
     def test_the_queue_in_pytest(self) -> None:
         example = self.example("test_fifo", pytest=stand_in_for_pytest(), fifo=self.example("fifo"))
-        results = check(example.NET, example.TASKS, program=self.program)
+        results = example.results()
         example.test_task(results, "first_in", self.folder)
         with self.assertRaises(Failed) as failed:
             example.test_task(results, "early", self.folder)
@@ -120,7 +151,8 @@ class Program(Case):
         assert lines is not None
         told = re.sub(r"wave: .*", "wave: early.vcd", re.sub(r"^    ", "", lines[0], flags=re.MULTILINE))
         self.assertEqual(shown + "\n", told)
-        self.assertIn("$var wire 2 ", (self.folder / "early.vcd").read_text())
+        for signal in "din [1:0]", "count [2:0]":
+            self.assertIn(f" {signal} $end\n", (self.folder / "early.vcd").read_text())
 
     def test_names_that_the_program_takes(self) -> None:
         rng = random.Random(6)
@@ -147,6 +179,7 @@ class Program(Case):
             options: Any = {"program": self.program, "wave": rng.random() < 0.5, "cubes": rng.choice([1, 64])}
             results = check(net, tasks, **options)
             self.assertEqual(read_report(results.text)[0], list(results.values()))
+            self.assertEqual("".join(map(tasks.brief, results.values())), check(net, tasks, **{**options, "wave": False}).text)
             self.assertEqual(check(net, tasks, steps=16_000_000, workers=1, **options).text, results.text)
             for result in results.values():
                 failing = tasks.failing(result)

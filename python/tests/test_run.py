@@ -38,7 +38,7 @@ STATUSES: Tuple[Tuple[int, str, type, str], ...] = (
     (2, "stework: NET: loop at x: y\n", Refused, "{net}: loop at x: y"),
     (2, "stework: too many steps\n", Refused, "too many steps"),
     (2, "usage: stework (check NET TASKS\n", Refused, "usage: stework (check NET TASKS"),
-    (2, "", Fault, "status 2: nothing is told"),
+    (2, "", Fault, "status 2: no message"),
     (2, "stework: TASKS:3: bad line", Fault, "status 2: stework: TASKS:3: bad line"),
     (2, "stework: TASKS:3: bad line\nmore\n", Fault, "status 2: stework: TASKS:3: bad line\nmore"),
     (3, "stework: cannot read NET\n", Fault, "status 3: stework: cannot read NET"),
@@ -140,7 +140,7 @@ class Running(Case):
             stand_in = self.stand_in(f"told('t: pass'); sys.stderr.write({err!r}); sys.exit({status})")
             self.assertEqual(str(self.error(Fault, lambda: check(net, tasks, program=stand_in))), f"status {status}: {err.strip()}")
         stand_in = self.stand_in("import os, signal; os.kill(os.getpid(), signal.SIGKILL)")
-        self.assertEqual(str(self.error(Fault, lambda: check(net, tasks, program=stand_in))), "status -9: nothing is told")
+        self.assertEqual(str(self.error(Fault, lambda: check(net, tasks, program=stand_in))), "status -9: no message")
 
     def test_a_refusal_has_its_parts(self) -> None:
         net, tasks = self.netlist(NET), self.tasks()
@@ -168,7 +168,7 @@ if "t2" in names: sys.stdout = sys.stderr = None; sys.exit(3)
         for k in range(4):
             tasks.ste(f"t{k}").con("y", p, at=0)
         error = self.error(Fault, lambda: check(self.netlist(NET), tasks, program=stand_in, steps=16_000_000))
-        self.assertEqual(str(error), "status 7: nothing is told")
+        self.assertEqual(str(error), "status 7: no message")
         self.assertEqual((list(error.results), error.results.missing, len(self.seen())), (["t0", "t3"], ("t1", "t2"), 4))
         self.assertFalse(error.results.passed)
 
@@ -182,6 +182,24 @@ if "t2" in names: sys.stdout = sys.stderr = None; sys.exit(3)
             self.assertEqual((results.assignment("t"), list(results.assignment("t"))), (values, ["p", "v"]))
             self.assertEqual((results.assignment("g"), results["g"].verdict, results.passed, results.text), ({}, Verdict.BUDGET, False, text))
             self.assertEqual(pickle.loads(pickle.dumps(results)).assignment("t"), values)
+
+    def test_values_are_of_what_the_task_mentions(self) -> None:
+        tasks, w = Tasks(order=[bit("unused"), bits("w", 2)]), bits("w", 2)
+        tasks.ste("a").con("y", p, at=0, when=w[1])
+        tasks.ste("b").ant("x[1:0]", w, at=0).con("y", 1, at=0)
+        g = tasks.gste("c", "v")
+        g.edge("v", "v").con("y", 1)
+        g.edge("v", "v").ant("x", bit("q"))
+        tasks.ste("d").con("y", 1, at=0)
+        least = "  least: unused=1 w1=1 w0=1 p=1 q=1\n"
+        text = "".join(f"{name}: weak failure\n  weak: unused & w1 & w0 & p & q\n{least}{path}  fails: y at 0\n"
+                       for name, path in (("a", ""), ("b", ""), ("c", "  path: 0\n"), ("d", "")))
+        results = check(self.netlist(NET), tasks, program=self.stand_in(f"sys.stdout.write({text!r}); sys.exit(1)"))
+        tasks.tasks["d"].parts()[0].clauses.clear()
+        self.assertEqual([results.assignment(name) for name in "abcd"], [{"w": 3, "p": 1}, {"w": 3}, {"q": 1}, {}])
+        self.assertEqual(list(results["d"].least or {}), ["unused", "w1", "w0", "p", "q"])
+        again = pickle.loads(pickle.dumps(results))
+        self.assertEqual((again.assignment("a"), repr(again)), ({"w": 3, "p": 1}, repr(results)))
 
     def test_time_is_out(self) -> None:
         slow = self.folder / "slow"
@@ -248,5 +266,11 @@ sys.exit(1)
     def test_whether_all_passed(self) -> None:
         for text, missing, passed in (("a: pass\nb: pass\n", [], True), ("a: pass\nb: pass\n", ["c"], False), ("a: pass\nb: budget\n", [], False),
                                       ("a: contradictory antecedent\n  contradictory: 1\nb: pass\n", [], False)):
-            results = Results({result.name: result for result in read_report(text)[0]}, {}, missing)
+            results = Results({result.name: result for result in read_report(text)[0]}, {}, {}, missing)
             self.assertEqual((results.passed, len(results), results.text), (passed, 2, text))
+
+    def test_shown(self) -> None:
+        found = {result.name: result for result in read_report("a: pass\n  contradictory: p\nb: budget\n")[0]}
+        self.assertEqual(repr(Results(found, {}, {})), "<a: pass, b: budget>")
+        self.assertEqual(str(Results(found, {}, {}, ["c"])), "<a: pass, b: budget, c: not reported>")
+        self.assertTrue(Results({"a": found["a"]}, {}, {}).passed)

@@ -47,6 +47,10 @@ WRONG: Tuple[Tuple[Callable[[Tasks], Any], str], ...] = (
     (lambda t: t.ste("a").con("x[3:0]", 16, at=0), "16 is no value of 4 bits"),
     (lambda t: t.ste("a").con("x[3:0]", p, at=0), "1 bit where 4 are wanted: <p>"),
     (lambda t: t.ste("a").con("x", [p], at=0), "[<p>] is no value of 1 bit"),
+    (lambda t: t.ste("a").con("x", i, at=0), "2 bits where 1 is wanted: <2 bits i1, i0>"),
+    (lambda t: t.gste("g", "v").edge("v", "v").ant("x", 1, at=0), "at=0: in a graph the edge is the step, and a clause has no time"),
+    (lambda t: t.gste("g", "v").edge("v", "v").con("x", p, when=q, at=range(1, 3)),
+     "at=range(1, 3): in a graph the edge is the step, and a clause has no time"),
     (lambda t: t.ste("a").con("x", 1, at=0, when=i), "<2 bits i1, i0> is no bit: compare it, or take one bit of it"),
     (lambda t: t.ste("a").con("x", 1, at=range(2, 2)), "at=range(2, 2): a time step, or a range of at least one, from 0 to 10000, with step 1"),
     (lambda t: t.ste("a").con("x", 1, at=range(0, 4, 2)), "at=range(0, 4, 2): a time step, or a range of at least one, from 0 to 10000, with step 1"),
@@ -223,6 +227,17 @@ class TaskFiles(Case):
         self.assertEqual(tasks.failing(result), [(clauses[0], 1)])
         (result,), _ = read_report("t: pass\n")
         self.assertEqual(tasks.failing(result), [])
+
+    def test_in_brief(self) -> None:
+        tasks = Tasks()
+        tasks.ste("t").ant("d[1:0]", 0, at=0).con("b", 1, at=0).con("0/x", 1, at=1)
+        tasks.gste("g", "v").edge("v", "v").con("b", 1)
+        head = "t: strong failure\n  strong: 1\n  least:\n  fails: 0/y at 1\n  run:\n"
+        (result,), _ = read_report(head + "    d[1]: 01\n    d[2]: 01\n    c: 01\n    b: 11\n    0/y: 00\n    0/z: 00\n")
+        self.assertEqual(tasks.brief(result), head + "    d[1]: 01\n    b: 11\n    0/y: 00\n")
+        for text in "t: pass\n", "g: weak failure\n  weak: 1\n  least:\n  path: 0\n  fails: b at 0\n":
+            (result,), _ = read_report(text)
+            self.assertEqual(tasks.brief(result), text)
 
     def test_each_consequent_alone_and_negated(self) -> None:
         other, source = self.tasks().negated()

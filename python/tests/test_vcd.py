@@ -6,7 +6,7 @@ import subprocess
 import sys
 from typing import Dict, List, Tuple
 
-from stework import read_report, vcd
+from stework import TaskError, read_report, vcd
 
 from .support import Case, TOP
 
@@ -150,8 +150,9 @@ class Waves(Case):
     def test_no_run(self) -> None:
         for text, verdict in (("t: pass\n", "pass"), ("t: weak failure\n  weak: 1\n  least:\n  fails: y at 0\n", "weak failure")):
             (result,), _ = read_report(text)
-            with self.assertRaisesRegex(ValueError, f"^t: {verdict}, without a run$"):
-                vcd(result)
+            error = self.error(TaskError, lambda: vcd(result))
+            self.assertEqual((error.message, error.origin.file), (f"t: {verdict}, without a run", __file__))
+            self.assertIsInstance(error, ValueError)
 
 
 class Command(Case):
