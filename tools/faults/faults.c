@@ -23,10 +23,10 @@
  *     crash      the program ends by a signal
  *     hang       the call does not return
  *
- * As the program ends, FAULTS_REPORT names a file that gets a line with a number for each kind, of its calls; for each
- * way and kind of which there were some, of the calls that went this way; and 'late', of the calls for memory behind the
- * first write. With FAULTS_TRACE there is the place of the first fault: the return addresses from the call outwards, each
- * as a file and an offset in it. The last line has the name of the file that was opened last. */
+ * As the program ends, it writes to the file that FAULTS_REPORT names a line with a number for each kind, of its calls;
+ * for each way and kind of which there were some, of the calls that went this way; and 'late', of the calls for memory
+ * behind the first write. With FAULTS_TRACE the place of the first fault follows: the return addresses from the call
+ * outwards, each as a file and an offset in it. The last line has the name of the file that was opened last. */
 #define _GNU_SOURCE
 #include <dlfcn.h>
 #include <errno.h>
