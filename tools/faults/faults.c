@@ -25,8 +25,10 @@
  *
  * As the program ends, it writes to the file that FAULTS_REPORT names a line with a number for each kind, of its calls;
  * for each way and kind of which there were some, of the calls that went this way; and 'late', of the calls for memory
- * behind the first write. With FAULTS_TRACE the place of the first fault follows: the return addresses from the call
- * outwards, each as a file and an offset in it. The last line has the name of the file that was opened last. */
+ * behind the first write. With FAULTS_TRACE, 'refused' has the bytes that the first call for memory which went wrong
+ * had asked for, and 'next' those of the next such call in its thread; lines 'at' and 'then' have the places of the
+ * two: what looks like return addresses, from the call outwards, each as a file and an offset in it. The last line has
+ * the name of the file that was opened last. */
 #define _GNU_SOURCE
 #include <dlfcn.h>
 #include <errno.h>
@@ -59,7 +61,7 @@ struct fault {
   unsigned long first, last;
 };
 
-enum { MOST_FAULTS = 8, MOST_FRAMES = 64 };
+enum { MOST_FAULTS = 8, MOST_PLACES = 24, MOST_WORDS = 1024, MOST_BETWEEN = 64 };
 
 static struct fault faults[MOST_FAULTS];
 static int fault_count;
@@ -67,10 +69,17 @@ static int is_counting;
 static atomic_ulong calls[CALLS], done[WAYS][CALLS], late;
 static char last_opened[4096];
 
+/* A call for memory: the bytes that it asks for, and what looks like return addresses on the stack. */
+struct site {
+  size_t size;
+  void *places[MOST_PLACES];
+  int count;
+};
+
 static int wants_trace;
 static atomic_flag is_traced = ATOMIC_FLAG_INIT;
-static void *frames[MOST_FRAMES];
-static int frame_count;
+static struct site refused, next;
+static _Thread_local int is_next __attribute__((tls_model("initial-exec")));
 
 static int (*real_open)(const char *, int, ...);
 static ssize_t (*real_read)(int, void *, size_t);
@@ -137,14 +146,16 @@ static void report_line(int file, const char *name, unsigned long number) {
   real_write(file, line, length);
 }
 
-static void report_frame(int file, void *frame) {
-  char line[4200];
-  Dl_info found;
-  if (!dladdr(frame, &found) || !found.dli_fname)
-    return;
-  int length = snprintf(line, sizeof line, "at %s %#lx\n", found.dli_fname,
-                        (unsigned long)((char *)frame - (char *)found.dli_fbase));
-  real_write(file, line, length);
+static void report_site(int file, const char *name, const char *place, const struct site *site) {
+  report_line(file, name, site->size);
+  for (int i = 0; i < site->count; i++) {
+    char line[4200];
+    Dl_info found;
+    if (!dladdr(site->places[i], &found) || !found.dli_fname)
+      continue;
+    unsigned long offset = (char *)site->places[i] - (char *)found.dli_fbase;
+    real_write(file, line, snprintf(line, sizeof line, "%s %s %#lx\n", place, found.dli_fname, offset));
+  }
 }
 
 static void report(void) {
@@ -162,8 +173,8 @@ static void report(void) {
         report_line(file, both, atomic_load(&done[w][c]));
     }
   report_line(file, "late", atomic_load(&late));
-  for (int i = 0; i < frame_count; i++)
-    report_frame(file, frames[i]);
+  report_site(file, "refused", "at", &refused);
+  report_site(file, "next", "then", &next);
   if (*last_opened) {
     real_write(file, "opened ", 7);
     real_write(file, last_opened, strlen(last_opened));
@@ -183,17 +194,44 @@ __attribute__((destructor)) static void end(void) {
   report();
 }
 
-/* Notes the return addresses of the calls that are going on, by their frames: each begins with the address of the one
- * outside it, and then has the return address. A function without a frame may have anything in place of that address,
- * so it is read by a call that can fail. */
-static void trace(void) {
-  void *frame[2] = {__builtin_frame_address(0), NULL};
-  while (frame_count < MOST_FRAMES) {
-    struct iovec to = {frame, sizeof frame}, from = {frame[0], sizeof frame};
-    if (process_vm_readv(getpid(), &to, 1, &from, 1, 0) != sizeof frame)
+/* Whether a call may come back to this address: it lies in code, behind a call. */
+static int is_behind_call(const unsigned char *at) {
+  Dl_info found;
+  return dladdr(at, &found) && found.dli_fbase && (const char *)found.dli_fbase + 64 < (const char *)at &&
+         (at[-5] == 0xe8 || (at[-6] == 0xff && at[-5] == 0x15) || (at[-2] == 0xff && (at[-1] & 0xf8) == 0xd0));
+}
+
+static void add_place(struct site *site, void *place) {
+  if (site->count < MOST_PLACES && is_behind_call(place))
+    site->places[site->count++] = place;
+}
+
+/* Notes a call for memory. The first frames, as those of C, lie close to one another. Behind them functions need not have
+ * frames, so from there on the stack is gone through word by word. */
+static void note(struct site *site, size_t size, void **frame) {
+  void *words[MOST_WORDS];
+  struct iovec to = {words, sizeof words}, from = {frame, sizeof words};
+  ssize_t count = process_vm_readv(getpid(), &to, 1, &from, 1, 0) / (ssize_t)sizeof *words;
+  ssize_t at = 0;
+  site->size = size;
+  while (at + 1 < count) {
+    ssize_t outer = (void **)words[at] - frame;
+    add_place(site, words[at + 1]);
+    if (outer <= at || outer > at + MOST_BETWEEN)
       break;
-    frames[frame_count++] = frame[1];
+    at = outer;
   }
+  for (at += 2; at < count; at++)
+    add_place(site, words[at]);
+}
+
+/* Notes the first call for memory that goes wrong, and the next one in its thread. */
+static void note_refused(enum way way, size_t size, void **frame) {
+  if (is_next)
+    note(&next, size, frame);
+  is_next = way != SOUND && !atomic_flag_test_and_set(&is_traced);
+  if (is_next)
+    note(&refused, size, frame);
 }
 
 /* Counts a call, and answers how it goes. */
@@ -210,8 +248,6 @@ static enum way way_of(enum call call) {
   if (way == SOUND)
     return way;
   atomic_fetch_add(&done[way][call], 1);
-  if (wants_trace && way != SHORT && !atomic_flag_test_and_set(&is_traced))
-    trace();
   if (way == QUIT)
     exit(0);
   if (way == CRASH)
@@ -234,16 +270,24 @@ static int has_failed(enum way way, int cause) {
   return 1;
 }
 
+/* Whether a call for so many bytes is to fail. */
+static int is_refused(size_t size, void *frame) {
+  enum way way = way_of(MEMORY);
+  if (wants_trace)
+    note_refused(way, size, frame);
+  return has_failed(way, ENOMEM);
+}
+
 void *malloc(size_t size) {
-  return has_failed(way_of(MEMORY), ENOMEM) ? NULL : __libc_malloc(size);
+  return is_refused(size, __builtin_frame_address(0)) ? NULL : __libc_malloc(size);
 }
 
 void *calloc(size_t count, size_t size) {
-  return has_failed(way_of(MEMORY), ENOMEM) ? NULL : __libc_calloc(count, size);
+  return is_refused(count * size, __builtin_frame_address(0)) ? NULL : __libc_calloc(count, size);
 }
 
 void *realloc(void *block, size_t size) {
-  return has_failed(way_of(MEMORY), ENOMEM) ? NULL : __libc_realloc(block, size);
+  return is_refused(size, __builtin_frame_address(0)) ? NULL : __libc_realloc(block, size);
 }
 
 int open(const char *name, int flags, ...) {
