@@ -206,8 +206,8 @@ static void add_place(struct site *site, void *place) {
     site->places[site->count++] = place;
 }
 
-/* Notes a call for memory. The first frames, as those of C, lie close to one another. Behind them functions need not have
- * frames, so from there on the stack is gone through word by word. */
+/* Notes a call for memory. The first frames, as those of C, lie close to one another. Behind them functions need not
+ * have frames, so from there on the stack is gone through word by word. */
 static void note(struct site *site, size_t size, void **frame) {
   void *words[MOST_WORDS];
   struct iovec to = {words, sizeof words}, from = {frame, sizeof words};
