@@ -17,7 +17,7 @@ use Rattle.dd_ops.proofs.Expanding.{Expanded-bound}
 abbrev pub applied : Op → Store → Ref → Ref → Function
 applied op s a b bits = op_bit op (function s a bits) (function s b bits)
 
-named_pair : (op : Op) (k : BitRule) (s : Store) (a b : Ref) → ((p q r : Bool) → op_bit op p q ≡ k p q r) → named k s (pair_of a b) ≡ applied op s a b
+pub named_pair : (op : Op) (k : BitRule) (s : Store) (a b : Ref) → ((p q r : Bool) → op_bit op p q ≡ k p q r) → named k s (pair_of a b) ≡ applied op s a b
 named_pair op k s a b same = λ i bits. sym (same (function s a bits) (function s b bits) (function s (record { 0 = 0 }) bits)) i
 
 pub applies : (op : Op) (k : BitRule) (s t : Store) (x : Operands) (a b : Ref) (result : Result Ref OpFault) → x ≡ pair_of a b → ((p q r : Bool) → op_bit op p q ≡ k p q r)

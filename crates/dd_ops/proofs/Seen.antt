@@ -45,10 +45,10 @@ level-le_by : (s : Store) (r : Ref) → IsGood s → Cases s.held 0 r → level 
 level-le_by s r d (inl c) = subst (λ o. (seen_by s.vars r o).var ≤ s.vars) (sym (d.constants r c)) (omega arith)
 level-le_by s r d (inr (n, at, low)) = subst (λ o. (seen_by s.vars r o).var ≤ s.vars) (sym at) (let lt = d.below r n at in omega arith)
 
-level-le : (s : Store) (r : Ref) → IsGood s → IsRef s r → level s r ≤ s.vars
+pub level-le : (s : Store) (r : Ref) → IsGood s → IsRef s r → level s r ≤ s.vars
 level-le s r d f = level-le_by s r d (from_cases s.held 0 r f)
 
-level-constant : (s : Store) (r : Ref) → IsGood s → r.0 < 2 → level s r ≡ s.vars
+pub level-constant : (s : Store) (r : Ref) → IsGood s → r.0 < 2 → level s r ≡ s.vars
 level-constant s r d c = ap (λ o. (seen_by s.vars r o).var) (d.constants r c)
 
 pair-half : (s : Store) (x : Operands) (i : ℕ) (b : Bool) (p q : Ref) → IsGood s → IsPair x → p ≡ child s.held i b x.first → q ≡ child s.held i b x.second

@@ -4,6 +4,7 @@ ghost use Rattle.std.specs.Prelude.{◌≡◌, ◌<◌, ◌≤◌, ◌+◌, ◌*
 ghost use Rattle.dd_nodes.specs.Functions.{size};
 ghost use Rattle.dd_nodes.specs.Stores.{IsRef, HaveOneFunction, function};
 ghost use Rattle.dd_ops.specs.Answer.{Answer, xor_bit, op_bit};
+ghost use Rattle.dd_ops.specs.Expansion.{IsExpansion};
 ghost use Rattle.dd_ops.specs.private.Recursion.{AreRefs, named, choice_rule};
 
 use crate::combine::answer;
@@ -113,9 +114,10 @@ impl Ops {
         chosen::<N, Brand>(self.alloc, nodes, x, Blank::new(1))
     }
 
-    /// The operation `op`, with a counter of its steps. A step is one pair of references that is expanded; no pair is
-    /// expanded twice, so that diagrams of m and n nodes take at most (m + 2) * (n + 2) steps. A step makes at most one
-    /// node.
+    /// The operation `op`, with a counter of its steps. A step is one pair of references that is expanded, at the first
+    /// variable that one of both reads (Bryant 1986); no pair is expanded twice, so that diagrams of m and n nodes take at
+    /// most (m + 2) * (n + 2) steps. With a result these are the pair and all halves behind it, down to terminal cases; or
+    /// there are none, where the pair is a terminal case or the store remembers its result. A step makes at most one node.
     pub fn apply<N: Nodes, L: Ledger>(
         &self,
         nodes: &mut N,
@@ -130,6 +132,8 @@ impl Ops {
             (λ bits. op_bit op (function (N.store nodes.old) a bits)
             (function (N.store nodes.old) b bits))
             (N.store nodes.old) (N.store nodes.new) result }
+        ensures expansion { IsExpansion op (N.store nodes.old) (N.store nodes.new) a b
+            steps.old steps.new result }
         ensures bound { steps.new
             ≤ steps.old + (size (N.store nodes.old) a + 2) * (size (N.store nodes.old) b + 2) }
         ensures counted { length (N.store nodes.new).made + steps.old

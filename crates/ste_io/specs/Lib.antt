@@ -1,3 +1,4 @@
 pub mod Causes
 pub mod Outside
 pub mod InMemory
+pub mod Steps

@@ -2,7 +2,7 @@
 ghost use Rattle.std.specs.Prelude.{◌≤◌, MatchResult};
 ghost use Rattle.ste_io.specs.Outside.{FilesState, IsFetched, WhyNotFetched};
 
-use std::alloc::Global;
+use std::alloc::{AllocError, Global};
 
 /// Why a file was not fetched.
 #[derive(Clone, Copy, PartialEq, Eq)]
@@ -12,6 +12,17 @@ pub enum FetchFault {
     /// More bytes than wanted were there; this many, and maybe more, were seen.
     TooLarge { seen: u64 },
     OutOfMemory,
+}
+
+impl From<AllocError> for FetchFault {
+    ghost use Rattle.std.specs.Prelude.{◌≡◌};
+    ghost use Rattle.ste_io.specs.declared.files.FetchFault.TheVariants.{OutOfMemory};
+
+    ghost from_gives = { λ _ fault. fault ≡ OutOfMemory };
+
+    fn from(_fault: AllocError) -> FetchFault {
+        FetchFault::OutOfMemory
+    }
 }
 
 /// Files, by name.

@@ -1,13 +1,15 @@
 //! Files and sinks of the host, of which nothing is told: `HostFiles` and `HostSink`.
 
-ghost use Rattle.std.specs.Prelude.{◌≡◌, None};
+ghost use Rattle.std.specs.Prelude.{◌≡◌, ◌<◌, ◌≤◌, [], length, take, IfOk, None, OnErr};
+ghost use Rattle.std.specs.Io.KnownBytes.{Appends, Keeps};
+ghost use Rattle.ste_io.specs.Outside.{WriteFailed, took};
 
 use crate::files::{FetchFault, Files};
 use crate::sink::{Sink, SinkFailed};
-use crate::steps::{read_up_to, write_some};
+use crate::steps::{read_opened, write_some};
 use std::alloc::Global;
 use std::fs;
-use std::io::{ErrorKind, Write};
+use std::io::Write;
 
 /// The host's files, of which nothing is told.
 #[derive(Drop)]
@@ -29,17 +31,7 @@ impl<'a, R: std::rt::Files> Files for HostFiles<'a, R> {
     ghost state = { λ f. record { holds = None; asked = None; faults = f.faults } };
 
     fn fetch(&mut self, alloc: Global, name: &str, max: u64) -> Result<Vec<u8>, FetchFault> {
-        let file = match fs::open(self.rt, name) {
-            Ok(file) => file,
-            Err(error) if error.kind() == ErrorKind::OutOfMemory => {
-                return Err(FetchFault::OutOfMemory);
-            }
-            Err(_) => {
-                self.faults = self.faults.saturating_add(1);
-                return Err(FetchFault::Failed);
-            }
-        };
-        match read_up_to(alloc, file, max) {
+        match read_opened(alloc, fs::open(self.rt, name), max) {
             Err(FetchFault::Failed) => {
                 self.faults = self.faults.saturating_add(1);
                 Err(FetchFault::Failed)
@@ -49,7 +41,8 @@ impl<'a, R: std::rt::Files> Files for HostFiles<'a, R> {
     }
 }
 
-/// A writer of the host, as standard output, of which nothing is told.
+/// A writer of the host, as standard output, of which nothing is told. Of a writer that tells what it has, a write says
+/// that it has the bytes of the piece that count as taken behind what it had, and after a failure no more.
 #[derive(Drop)]
 pub struct HostSink<W> {
     writer: W,
@@ -68,7 +61,18 @@ impl<W: Write + Drop> HostSink<W> {
 impl<W: Write + Drop> Sink for HostSink<W> {
     ghost state = { λ s. record { taken = None; faults = s.faults } };
 
-    fn write(&mut self, piece: &[u8]) -> Result<usize, SinkFailed> {
+    fn write(&mut self, piece: &[u8]) -> Result<usize, SinkFailed>
+        requires { 0 < length piece.now }
+        ensures ok { IfOk result (λ n. (0 < n) × (n ≤ length piece.now)
+            × (⟦<HostSink<W> as Sink>⟧.state self.new
+            ≡ took (⟦<HostSink<W> as Sink>⟧.state self.old) (take n piece.now))) }
+        ensures failed { OnErr result (WriteFailed (⟦<HostSink<W> as Sink>⟧.state self.old)
+            (⟦<HostSink<W> as Sink>⟧.state self.new) []) }
+        ensures written { IfOk result (λ n. Appends (W.contents self.old.writer)
+            (W.contents self.new.writer) (take n piece.now)) }
+        ensures kept { OnErr result (Keeps (W.contents self.old.writer)
+            (W.contents self.new.writer)) }
+    {
         match write_some(&mut self.writer, piece) {
             Ok(count) => Ok(count),
             Err(failed) => {

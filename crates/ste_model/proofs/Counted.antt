@@ -20,17 +20,17 @@ written ant con times empty strong weak =
     ant ++ (con ++ (times ++ (sums empty ++ (negation c ∷ (sums strong ++ (sums weak ++ (s ∷ negation s ∷ u ∷ conjunction u (negation s) ∷ [])))))))
 
 -- the expressions of the samples: 1, p and q
-abbrev expression : ℕ → Expr
+abbrev pub expression : ℕ → Expr
 expression zero = one
 expression (suc zero) = variable 0
 expression (suc (suc n)) = variable 1
 
-abbrev layer : ℕ → Expr-F SymbolicValue
+abbrev pub layer : ℕ → Expr-F SymbolicValue
 layer zero = Const true
 layer (suc zero) = Var (record { 0 = 0 })
 layer (suc (suc n)) = Var (record { 0 = 1 })
 
-abbrev functions : ℕ → Function
+abbrev pub functions : ℕ → Function
 functions zero = always
 functions (suc zero) = p
 functions (suc (suc n)) = q
@@ -71,7 +71,7 @@ module _ (w : ℕ → SymbolicValue) (f : ℕ → Function) where
       (some_empty net first ∷ some_empty net second ∷ []) (strong_findings second con) (weak_findings second con)
 
 -- what is counted with the functions is counted with the expressions
-by_functions : (list : (ℕ → SymbolicValue) → (ℕ → Function) → List Function) (n : ℕ)
+pub by_functions : (list : (ℕ → SymbolicValue) → (ℕ → Function) → List Function) (n : ℕ)
     → node_count 2 (list (λ k. symbolic_step (layer k)) functions) ≡ n → node_count 2 (list (λ k. symbolic_value (expression k)) (λ k. value_of (expression k))) ≡ n
 by_functions list n is =
     let works : (λ (k : ℕ). symbolic_value (expression k)) ≡ (λ k. symbolic_step (layer k)) = λ i k. works_are k i in

@@ -4,6 +4,7 @@ ghost use Rattle.ste_model.specs.GraphFound.{GraphFindingsAreTold, GraphPassHold
 ghost use Rattle.ste_model.specs.GraphHops.{PathsAreShown};
 ghost use Rattle.ste_model.specs.GraphNeed.{GraphResultsAreFindings, OneGraphNeed};
 ghost use Rattle.ste_model.specs.GraphReport.{OneGraphReportOf};
+ghost use Rattle.ste_model.specs.GraphSamples.{GraphSamplesAreCounted};
 ghost use Rattle.ste_model.specs.GraphShown.{DueBreaksAlong, FoundHasCandidate};
 ghost use Rattle.ste_model.specs.GraphTable.{OneLeastClosed, RoundsSettle};
 
@@ -61,4 +62,9 @@ pub fn graph_results_are_findings()
 /// A graph has one report at most.
 pub fn one_graph_report_of()
     ensures { OneGraphReportOf }
+{}
+
+/// The work functions of a graph of two edges over a latch have 8 nodes.
+pub fn graph_samples_are_counted()
+    ensures { GraphSamplesAreCounted }
 {}
