@@ -1,7 +1,7 @@
 //! How a consequent fails where all references are constants; begin with `first_failing`.
 
 ghost use Rattle.std.specs.Prelude.{◌≡◌, ◌<◌, All, length};
-ghost use Rattle.sym_step.specs.private.Frames.{nets_of};
+ghost use Rattle.sym_step.specs.Frame.{nets_of};
 ghost use Rattle.engine_parts.specs.Failing.{constant_ref, fails, first_failing};
 
 use dd_nodes::Ref;

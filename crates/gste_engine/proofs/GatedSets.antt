@@ -17,7 +17,7 @@ use Rattle.dual_rail.specs.Rail.{AreRails, Built, HasSet}
 use Rattle.dual_rail.proofs.Turns.{Zip-keep, zip_at, zip_long}
 use Rattle.dual_rail.proofs.Works.{Rails-keep, SoFar}
 use Rattle.sym_step.specs.Step.{HaveSets}
-use Rattle.sym_step.specs.private.Frames.{input_rails}
+use Rattle.sym_step.specs.Frame.{input_rails}
 use Rattle.gste_engine.specs.private.Given.{gated_sets}
 use Rattle.gste_engine.proofs.Lists.{gated_has, zip_push}
 use Rattle.gste_engine.proofs.Turning.{turned}

@@ -19,7 +19,7 @@ use Rattle.ste_model.specs.declared.task.Edge.{Edge}
 use Rattle.ste_model.specs.GraphTable.{VertexState}
 use Rattle.ste_model.specs.GraphWork.{SymbolicState, state_at, symbolic_asked_on, symbolic_binds}
 use Rattle.sym_step.specs.Step.{HaveSets, rails_at}
-use Rattle.sym_step.specs.private.Frames.{nets_of}
+use Rattle.sym_step.specs.Frame.{nets_of}
 use Rattle.gste_engine.specs.declared.edge.EdgeFound.{EdgeFound}
 use Rattle.gste_engine.specs.declared.state.State.{State}
 use Rattle.gste_engine.specs.Tables.{HasStates, IsEdgeFound, IsState}

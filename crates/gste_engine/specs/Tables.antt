@@ -7,7 +7,7 @@ use Rattle.net_core.specs.declared.raw.RawNet.{RawNet}
 use Rattle.net_core.specs.Work.{SymbolicSet}
 use Rattle.dual_rail.specs.Rail.{AreRails, AreRefs}
 use Rattle.sym_step.specs.Step.{HaveSets}
-use Rattle.sym_step.specs.private.Frames.{nets_of}
+use Rattle.sym_step.specs.Frame.{nets_of}
 use Rattle.ste_model.specs.declared.task.Edge.{Edge}
 use Rattle.ste_model.specs.declared.task.Graph.{Graph}
 use Rattle.ste_model.specs.Edges.{IsGraph}

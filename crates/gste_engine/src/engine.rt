@@ -4,7 +4,7 @@ ghost use Rattle.std.specs.Prelude.{◌≡◌, ◌≢◌, ℕ, IfOk, map};
 ghost use Rattle.dd_nodes.specs.Functions.{IsCofactorOf};
 ghost use Rattle.dd_nodes.specs.Stores.{Builds, Keeps};
 ghost use Rattle.net_core.specs.Work.{SymbolicSet};
-ghost use Rattle.sym_step.specs.Step.{rows_of};
+ghost use Rattle.gate_sets.specs.Lists.{rows_of};
 ghost use Rattle.ste_model.specs.declared.task.Edge.{Edge as AnEdge};
 ghost use Rattle.ste_model.specs.declared.verdict.Verdict.TheVariants.{Budget};
 ghost use Rattle.ste_model.specs.GraphNeed.{AreWholeRounds};

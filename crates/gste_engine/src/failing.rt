@@ -1,7 +1,7 @@
 //! Where a graph fails under one assignment: the path and its failing place; begin with `path_shown`.
 
 ghost use Rattle.std.specs.Prelude.{◌≡◌, ◌<◌, IfOk, length, map};
-ghost use Rattle.sym_step.specs.Step.{rows_of};
+ghost use Rattle.gate_sets.specs.Lists.{rows_of};
 ghost use Rattle.engine_parts.specs.Failing.{FailsBy, MakesNothing};
 ghost use Rattle.ste_model.specs.GraphFound.{IsGraphFound};
 ghost use Rattle.ste_model.specs.GraphReport.{IsGraphPlace};

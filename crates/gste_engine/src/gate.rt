@@ -6,7 +6,7 @@ ghost use Rattle.dd_nodes.specs.Diagram.{Function};
 ghost use Rattle.dd_nodes.specs.Stores.{IsRef, Means};
 ghost use Rattle.net_core.specs.Work.{SymbolicSet};
 ghost use Rattle.dual_rail.specs.Rail.{AreRails, AreRefs, Built, HasSet};
-ghost use Rattle.sym_step.specs.private.Frames.{input_rails, nets_of};
+ghost use Rattle.sym_step.specs.Frame.{input_rails, nets_of};
 ghost use Rattle.ste_model.specs.GraphWork.{gated_set, sets_functions};
 ghost use Rattle.gste_engine.specs.private.Given.{gated_sets};
 

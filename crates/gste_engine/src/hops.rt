@@ -1,8 +1,8 @@
 //! What is known of each edge under one assignment; begin with `hops_of`.
 
 ghost use Rattle.std.specs.Prelude.{◌≡◌, ◌<◌, ℕ, All, IfOk, OnOk, length, map};
-ghost use Rattle.sym_step.specs.Step.{rows_of};
-ghost use Rattle.sym_step.specs.private.Frames.{IsFrame};
+ghost use Rattle.gate_sets.specs.Lists.{rows_of};
+ghost use Rattle.sym_step.specs.Frame.{IsFrame};
 ghost use Rattle.engine_parts.specs.Failing.{FailsBy, MakesNothing};
 ghost use Rattle.ste_model.specs.GraphHops.{AreEdgeHops, IsEdgeHop};
 ghost use Rattle.ste_model.specs.GraphWork.{SymbolicState};

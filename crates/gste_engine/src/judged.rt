@@ -6,7 +6,7 @@ ghost use Rattle.dd_nodes.specs.Diagram.{Function};
 ghost use Rattle.dd_nodes.specs.Stores.{Means};
 ghost use Rattle.net_core.specs.Work.{ArePossibleEach, SymbolicSet};
 ghost use Rattle.dual_rail.specs.Rail.{AreRails, Built};
-ghost use Rattle.sym_step.specs.Step.{rows_of};
+ghost use Rattle.gate_sets.specs.Lists.{rows_of};
 ghost use Rattle.ste_model.specs.declared.task.Edge.{Edge as AnEdge};
 ghost use Rattle.ste_model.specs.GraphNeed.{AreWholeRounds, BindsReadBelow};
 ghost use Rattle.ste_model.specs.GraphTable.{enough};

@@ -2,7 +2,7 @@
 
 ghost use Rattle.std.specs.Prelude.{◌≡◌, IfOk, map};
 ghost use Rattle.net_core.specs.declared.raw.RawNet.{RawNet};
-ghost use Rattle.sym_step.specs.Step.{rows_of};
+ghost use Rattle.gate_sets.specs.Lists.{rows_of};
 ghost use Rattle.engine_parts.specs.Reporting.{AreResultRefs};
 ghost use Rattle.engine_parts.specs.Failing.{MakesNothing};
 ghost use Rattle.ste_model.specs.declared.task.Graph.{Graph as AGraph};

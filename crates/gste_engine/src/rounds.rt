@@ -4,8 +4,8 @@ ghost use Rattle.std.specs.Prelude.{◌≡◌, ◌<◌, ◌≤◌, ◌+◌, [], 
 ghost use Rattle.std.specs.List.{AllZip};
 ghost use Rattle.net_core.specs.Work.{ArePossibleEach, SymbolicSet};
 ghost use Rattle.dual_rail.specs.Rail.{Built};
-ghost use Rattle.sym_step.specs.Step.{rows_of};
-ghost use Rattle.sym_step.specs.private.Frames.{nets_of};
+ghost use Rattle.gate_sets.specs.Lists.{rows_of};
+ghost use Rattle.sym_step.specs.Frame.{nets_of};
 ghost use Rattle.ste_model.specs.declared.task.Edge.{Edge as AnEdge};
 ghost use Rattle.ste_model.specs.GraphNeed.{AreWholeRounds};
 ghost use Rattle.ste_model.specs.GraphTable.{enough};

@@ -1,7 +1,7 @@
 //! The sets of the nets that consequents name; begin with `seen_by`.
 
 ghost use Rattle.std.specs.Prelude.{◌≡◌, IfOk, length, map};
-ghost use Rattle.sym_step.specs.private.Frames.{nets_of};
+ghost use Rattle.sym_step.specs.Frame.{nets_of};
 ghost use Rattle.gste_engine.specs.private.Seen.{rails_of};
 
 use dual_rail::{Rails, free};

@@ -2,7 +2,7 @@
 
 ghost use Rattle.std.specs.Prelude.{◌≡◌, ◌<◌, IfOk, Some, length, map};
 ghost use Rattle.dd_nodes.specs.Stores.{IsRef, function};
-ghost use Rattle.sym_step.specs.Step.{rows_of};
+ghost use Rattle.gate_sets.specs.Lists.{rows_of};
 ghost use Rattle.engine_parts.specs.Failing.{FailsBy, MakesNothing};
 ghost use Rattle.ste_model.specs.declared.task.Task.TheVariants.{Gste};
 ghost use Rattle.ste_model.specs.Assignments.{SomeAssignment, Tells};

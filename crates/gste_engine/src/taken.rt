@@ -2,8 +2,8 @@
 
 ghost use Rattle.std.specs.Prelude.{◌≡◌, ◌<◌, ℕ, All, IfOk, OnOk, length, map};
 ghost use Rattle.dual_rail.specs.Rail.{AreRefs, set_of};
-ghost use Rattle.sym_step.specs.Step.{rows_of};
-ghost use Rattle.sym_step.specs.private.Frames.{IsFrame};
+ghost use Rattle.gate_sets.specs.Lists.{rows_of};
+ghost use Rattle.sym_step.specs.Frame.{IsFrame};
 ghost use Rattle.engine_parts.specs.Failing.{MakesNothing};
 ghost use Rattle.ste_model.specs.GraphWork.{SymbolicState};
 ghost use Rattle.gste_engine.specs.Tables.{AreStateRefs, IsState};

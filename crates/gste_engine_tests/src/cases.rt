@@ -2,7 +2,7 @@
 
 ghost use Rattle.std.specs.Prelude.{◌≡◌, ◌<◌, [], All, IfOk, IsTrue, length, map};
 ghost use Rattle.net_core.specs.Flat.{HasOneDriver, IsInRange};
-ghost use Rattle.sym_step.specs.Step.{rows_of};
+ghost use Rattle.gate_sets.specs.Lists.{rows_of};
 ghost use Rattle.ste_model.specs.Expressions.{reads};
 ghost use Rattle.ste_model.specs.GraphNeed.{BindsReadBelow};
 ghost use Rattle.gste_engine_tests.specs.Cases.{IsCase, IsCaseEdge};

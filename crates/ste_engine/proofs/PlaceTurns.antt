@@ -22,7 +22,7 @@ use Rattle.ste_model.specs.Work.{latches_at, symbolic_asked_at, symbolic_cuts_at
 use Rattle.sym_step.specs.declared.cut.Cut.{Cut}
 use Rattle.sym_step.specs.declared.frame.Frame.{Frame}
 use Rattle.sym_step.specs.declared.made.Step.{Step}
-use Rattle.sym_step.specs.private.Frames.{step_of}
+use Rattle.sym_step.specs.Frame.{step_of}
 use Rattle.sym_step.specs.Step.{IsCutBy, IsStep}
 use Rattle.engine_parts.specs.declared.failing.Failure.{Failure}
 use Rattle.engine_parts.specs.Failing.{FailsBy, MakesNothing}

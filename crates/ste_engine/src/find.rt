@@ -7,7 +7,7 @@ ghost use Rattle.dd_nodes.specs.Stores.{IsRef, Means};
 ghost use Rattle.net_core.specs.Work.{SymbolicCut, SymbolicSet, conjunction, disjunction};
 ghost use Rattle.dual_rail.specs.Rail.{AreRails, AreRefs, Built, HasFunction};
 ghost use Rattle.sym_step.specs.Step.{IsCutBy, rails_at};
-ghost use Rattle.sym_step.specs.private.Frames.{nets_of};
+ghost use Rattle.sym_step.specs.Frame.{nets_of};
 ghost use Rattle.ste_model.specs.Work.{both_bits, found_strong, found_weak};
 ghost use Rattle.ste_engine.specs.private.Finds.{AreFound, AreFoundRefs, add_work, find_work, found_work, more_strong, more_weak, strong_work, weak_work};
 

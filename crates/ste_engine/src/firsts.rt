@@ -1,7 +1,7 @@
 //! Where each assignment fails first, as far as it is clear beside the times; begin with `Firsts`.
 
 ghost use Rattle.std.specs.Prelude.{◌≡◌, ◌<◌, ◌⊎◌, All, IfSome, None, Some, length};
-ghost use Rattle.sym_step.specs.private.Frames.{nets_of};
+ghost use Rattle.sym_step.specs.Frame.{nets_of};
 ghost use Rattle.engine_parts.specs.declared.failing.Failure.TheVariants.{Strong, Weak};
 ghost use Rattle.ste_engine.specs.private.Firsts.{IsFirstAt, are_fixed, first_at, is_fixed, place_or};
 

@@ -1,7 +1,7 @@
 //! Where an assertion fails under one assignment; begin with `failing_place`.
 
 ghost use Rattle.std.specs.Prelude.{◌≡◌, ◌<◌, ◌≤◌, All, IfOk, map};
-ghost use Rattle.sym_step.specs.Step.{rows_of};
+ghost use Rattle.gate_sets.specs.Lists.{rows_of};
 ghost use Rattle.ste_model.specs.Found.{IsFound};
 ghost use Rattle.ste_model.specs.Report.{IsFailingPlace};
 ghost use Rattle.engine_parts.specs.Failing.{FailsBy, MakesNothing};

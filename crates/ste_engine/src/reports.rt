@@ -1,7 +1,7 @@
 //! The report of an assertion, from its results; begin with `report_of`.
 
 ghost use Rattle.std.specs.Prelude.{◌≡◌, ◌<◌, All, IfOk, map};
-ghost use Rattle.sym_step.specs.Step.{rows_of};
+ghost use Rattle.gate_sets.specs.Lists.{rows_of};
 ghost use Rattle.ste_model.specs.Report.{IsReportOf};
 ghost use Rattle.engine_parts.specs.Failing.{MakesNothing};
 ghost use Rattle.ste_engine.specs.private.Firsts.{AreFirsts};

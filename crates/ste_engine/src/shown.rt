@@ -2,7 +2,7 @@
 
 ghost use Rattle.std.specs.Prelude.{◌≡◌, ◌<◌, All, IfOk, IfSome, Some, length, map};
 ghost use Rattle.dd_nodes.specs.Stores.{IsRef, function};
-ghost use Rattle.sym_step.specs.Step.{rows_of};
+ghost use Rattle.gate_sets.specs.Lists.{rows_of};
 ghost use Rattle.ste_model.specs.Assignments.{SomeAssignment, Tells};
 ghost use Rattle.ste_model.specs.declared.verdict.Verdict.TheVariants.{Strong, Weak};
 ghost use Rattle.ste_model.specs.Found.{IsFound, IsStrong, IsVerdictOf, IsWeak};

@@ -3,7 +3,7 @@
 ghost use Rattle.std.specs.Prelude.{◌≡◌, ◌≤◌, ◌<◌, ℕ, All, IfOk, IsTrue, length, map};
 ghost use Rattle.ste_model.specs.Expressions.{reads};
 ghost use Rattle.ste_model.specs.Need.{ReadBelow};
-ghost use Rattle.sym_step.specs.Step.{rows_of};
+ghost use Rattle.gate_sets.specs.Lists.{rows_of};
 
 use blif_lines::logical_lines;
 use blif_syntax::read_models;

@@ -3,7 +3,7 @@
 ghost use Rattle.std.specs.Prelude.{◌≡◌, ◌*◌, ◌^◌, ◌<◌, ◌≤◌, ℕ, All, IfOk, IfSome, Option, is_some, length, map};
 ghost use Rattle.std.specs.List.{AllZip, list_any};
 ghost use Rattle.command_line.specs.Bounds.{IsBounded};
-ghost use Rattle.sym_step.specs.Step.{rows_of};
+ghost use Rattle.gate_sets.specs.Lists.{rows_of};
 ghost use Rattle.ste_program.specs.Check.{is_pass};
 ghost use Rattle.ste_program.specs.private.Made.{IsCheckable};
 ghost use Rattle.ste_program.specs.private.Tries.{budget_numbers, first_steps, is_budget, most_first_steps, next_steps, says_budget, woven};

@@ -8,7 +8,8 @@ mod nets;
 
 ghost use Rattle.std.specs.Prelude.{◌≡◌, ◌≤◌, [], ℕ, length, map, All, IfOk};
 ghost use Rattle.step_bench.specs.Made.{covers_of};
-ghost use Rattle.sym_step.specs.Step.{IsCutOf, rows_of};
+ghost use Rattle.sym_step.specs.Step.{IsCutOf};
+ghost use Rattle.gate_sets.specs.Lists.{rows_of};
 
 use crate::nets::{Mix, net};
 use dd_nodes::{Nodes, PlainNodes, Ref};

@@ -9,10 +9,10 @@ use Rattle.dd_nodes.specs.Stores.{Store, IsRef, Keeps, function}
 use Rattle.dd_nodes.proofs.Stores.{IsGood, Means-keeps}
 use Rattle.dd_ops.specs.declared.fault.OpFault.{OpFault}
 use Rattle.net_core.specs.Work.{SymbolicSet, SymbolicCut, negation, cut_work, cut_set, after_cut, after_cuts, cuts_work}
-use Rattle.sym_step.specs.declared.flagged.FlaggedRails.{FlaggedRails}
+use Rattle.gate_sets.specs.declared.flagged.FlaggedRails.{FlaggedRails}
 use Rattle.dual_rail.specs.Rail.{Built}
-use Rattle.sym_step.specs.private.NetSets.{AreFlagged, AreFlaggedRefs, HasFlagged}
-use Rattle.sym_step.proofs.Summing.{within_one}
+use Rattle.gate_sets.specs.NetSets.{AreFlagged, AreFlaggedRefs, HasFlagged}
+use Rattle.gate_sets.proofs.Summing.{within_one}
 use Rattle.dd_nodes.proofs.Spending.{Means-same}
 use Rattle.dual_rail.proofs.Works.{Built-good, own_set, set_where, refs_of}
 use Rattle.dual_rail.proofs.Works.{SoFar}

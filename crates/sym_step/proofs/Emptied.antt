@@ -12,10 +12,10 @@ use Rattle.dd_ops.proofs.Terminal.{one_bit}
 use Rattle.dd_nodes.proofs.Stores.{IsGood}
 use Rattle.dd_ops.specs.declared.fault.OpFault.{OpFault}
 use Rattle.net_core.specs.Work.{SymbolicSet, everything, never, disjunction, no_bit, some_bit, sum, sums, whole}
-use Rattle.sym_step.specs.declared.net_rails.NetRails.{NetRails}
+use Rattle.gate_sets.specs.declared.net_rails.NetRails.{NetRails}
 use Rattle.sym_step.specs.private.Boards.{AreFull}
-use Rattle.sym_step.specs.private.NetSets.{AreNetRails}
-use Rattle.sym_step.proofs.NetRefs.{Net-keeps}
+use Rattle.gate_sets.specs.NetSets.{AreNetRails}
+use Rattle.gate_sets.proofs.NetRefs.{Net-keeps}
 use Rattle.dual_rail.specs.Rail.{Built, HasFunction}
 use Rattle.dual_rail.specs.private.Parts.{Reached}
 use Rattle.dual_rail.proofs.Works.{Within, Built-wider, last}

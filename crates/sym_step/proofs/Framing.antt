@@ -31,14 +31,15 @@ use Rattle.sym_step.specs.declared.cut.Cut.{Cut}
 use Rattle.sym_step.specs.declared.frame.Frame.{Frame}
 use Rattle.sym_step.specs.declared.made.Step.{Step}
 use Rattle.sym_step.specs.declared.marks.Marks.{Marks}
-use Rattle.sym_step.specs.declared.net_rails.NetRails.{NetRails}
+use Rattle.gate_sets.specs.declared.net_rails.NetRails.{NetRails}
 use Rattle.sym_step.specs.Step.{HaveSets, IsCutBy, IsStep}
 use Rattle.sym_step.specs.private.Boards.{AreFull, Follows}
-use Rattle.sym_step.specs.private.Frames.{AreFirst, AreReady, AreSpared, IsFrame, IsGiven, bare, first_or, input_rails, is_listed, nets_of, next_of, step_of}
+use Rattle.sym_step.specs.Frame.{AreFirst, IsFrame, IsGiven, bare, first_or, input_rails, is_listed, nets_of, next_of, step_of}
+use Rattle.sym_step.specs.private.Frames.{AreReady, AreSpared}
 use Rattle.sym_step.specs.private.Readers.{AreMarked, ReadsAs, driver_number, flag_at, number_of}
-use Rattle.sym_step.specs.private.NetSets.{AreNetRails, AreNetRefs, net_at, own_where}
+use Rattle.gate_sets.specs.NetSets.{AreNetRails, AreNetRefs, net_at, own_where}
 use Rattle.sym_step.specs.private.Parts.{HaveNets, asks}
-use Rattle.sym_step.proofs.NetRefs.{All-net-refs-keep, Net-keeps, own_net}
+use Rattle.gate_sets.proofs.NetRefs.{All-net-refs-keep, Net-keeps, own_net}
 use Rattle.sym_step.proofs.Sourced.{unknown}
 use Rattle.sym_step.proofs.Turning.{Net-same, before_is}
 

@@ -22,16 +22,17 @@ use Rattle.sym_step.specs.declared.cut.Cut.{Cut}
 use Rattle.sym_step.specs.declared.frame.Frame.{Frame}
 use Rattle.sym_step.specs.declared.marks.Marks.{Marks}
 use Rattle.sym_step.specs.declared.latches.LatchSet.{LatchSet}
-use Rattle.sym_step.specs.declared.net_rails.NetRails.{NetRails}
+use Rattle.gate_sets.specs.declared.net_rails.NetRails.{NetRails}
 use Rattle.sym_step.specs.Step.{IsCutBy}
 use Rattle.sym_step.specs.private.Boards.{AreFull, Follows}
-use Rattle.sym_step.specs.private.Frames.{AreCarried, AreFirst, AreOpen, AreReady, AreSpared, HaveLatches, IsCarried, IsFrame, StayRight, bare, first_or, input_rails, is_listed, nets_of, next_of}
+use Rattle.sym_step.specs.Frame.{AreFirst, AreOpen, IsFrame, bare, first_or, input_rails, is_listed, nets_of, next_of}
+use Rattle.sym_step.specs.private.Frames.{AreCarried, AreReady, AreSpared, HaveLatches, IsCarried, StayRight}
 use Rattle.sym_step.specs.private.Latches.{AreGiven, AreLatchSets, Begins, HaveLatchSets, HaveMarks, IsAmong, IsCopied, IsInPlace, IsLatchSet, IsSetOf}
-use Rattle.sym_step.specs.private.NetSets.{AreNetRails, AreNetRefs, net_at}
+use Rattle.gate_sets.specs.NetSets.{AreNetRails, AreNetRefs, net_at}
 use Rattle.sym_step.specs.private.Parts.{AreMarks, asks}
 use Rattle.sym_step.specs.private.Readers.{AreMarked, AreReaders, IsBetween, driver_number, flag_at, number_of}
 use Rattle.sym_step.proofs.Framing.{listed_at, next_first, spared_same, unlisted, unlisted_by}
-use Rattle.sym_step.proofs.NetRefs.{net_by_rails}
+use Rattle.gate_sets.proofs.NetRefs.{net_by_rails}
 use Rattle.sym_step.proofs.Opened.{latch_before, latch_source, set_is}
 use Rattle.sym_step.proofs.Sourced.{unknown}
 

@@ -19,17 +19,18 @@ use Rattle.net_core.specs.Source.{source_of}
 use Rattle.net_core.specs.Work.{ArePossibleEach, SymbolicCut, SymbolicSet, after_cuts, everything, uncut}
 use Rattle.net_core.proofs.OneTime.{Facts, fixed}
 use Rattle.sym_step.specs.declared.cut.Cut.{Cut}
-use Rattle.sym_step.specs.declared.net_rails.NetRails.{NetRails}
+use Rattle.gate_sets.specs.declared.net_rails.NetRails.{NetRails}
 use Rattle.sym_step.specs.Step.{IsCutBy}
 use Rattle.sym_step.specs.declared.frame.Frame.{Frame}
-use Rattle.sym_step.specs.private.Frames.{AreOpen, HaveLatches, HaveOpen, IsFrame, IsOpen, StayRight, is_listed, mark_count}
+use Rattle.sym_step.specs.Frame.{AreOpen, IsFrame, IsOpen, is_listed, mark_count}
+use Rattle.sym_step.specs.private.Frames.{HaveLatches, HaveOpen, StayRight}
 use Rattle.sym_step.specs.declared.latches.LatchSet.{LatchSet}
 use Rattle.sym_step.specs.private.Latches.{HaveLatchSets}
 use Rattle.sym_step.specs.private.Readers.{AreReaders, flag_at}
-use Rattle.sym_step.specs.private.NetSets.{AreNetRails, AreNetRefs, net_at}
+use Rattle.gate_sets.specs.NetSets.{AreNetRails, AreNetRefs, net_at}
 use Rattle.sym_step.specs.private.Parts.{HaveNets, HaveSources, asks}
 use Rattle.sym_step.proofs.Framing.{listed_at, not_first, unlisted}
-use Rattle.sym_step.proofs.NetRefs.{Net-keeps}
+use Rattle.gate_sets.proofs.NetRefs.{Net-keeps}
 use Rattle.sym_step.proofs.Sourced.{all_unknown, before_by, known, unknown, unknown_net}
 use Rattle.sym_step.proofs.Turning.{Net-same}
 

@@ -11,10 +11,10 @@ use Rattle.net_core.specs.Flat.{IsInRange, HasOneDriver, IsSettledOrder}
 use Rattle.net_core.specs.Work.{ArePossibleEach, SymbolicSet, SymbolicCut, after_cuts, uncut}
 use Rattle.sym_step.specs.declared.board.Board.{Board}
 use Rattle.sym_step.specs.declared.cut.Cut.{Cut}
-use Rattle.sym_step.specs.declared.net_rails.NetRails.{NetRails}
+use Rattle.gate_sets.specs.declared.net_rails.NetRails.{NetRails}
 use Rattle.sym_step.specs.Step.{IsCutBy}
 use Rattle.sym_step.specs.private.Frames.{AreSpared}
-use Rattle.sym_step.specs.private.NetSets.{AreNetRails, net_at}
+use Rattle.gate_sets.specs.NetSets.{AreNetRails, net_at}
 use Rattle.sym_step.specs.private.Parts.{HaveGates, asks}
 use Rattle.sym_step.specs.private.Readers.{flag_at}
 use Rattle.sym_step.proofs.Framing.{unlisted}

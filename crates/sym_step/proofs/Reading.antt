@@ -19,9 +19,9 @@ use Rattle.std.specs.Global.{Vec}
 use Rattle.net_core.specs.Flat.{HasOneDriver, IsInRange, IsSettledOrder}
 use Rattle.sym_step.specs.declared.board.Board.{Board}
 use Rattle.sym_step.specs.declared.marks.Marks.{Marks}
-use Rattle.sym_step.specs.declared.net_rails.NetRails.{NetRails}
+use Rattle.gate_sets.specs.declared.net_rails.NetRails.{NetRails}
 use Rattle.sym_step.specs.private.Boards.{AreFull, Follows}
-use Rattle.sym_step.specs.private.NetSets.{net_at}
+use Rattle.gate_sets.specs.NetSets.{net_at}
 use Rattle.sym_step.specs.declared.readers.Readers.{Readers}
 use Rattle.sym_step.specs.declared.readers.Slot.{Slot}
 use Rattle.sym_step.specs.private.Readers.{AreAdded, AreMarked, IsBetween, IsNotMet, IsOnChain, Lists, ReadsAs, flag_at, head_of, slot_of, spot}

@@ -1,8 +1,8 @@
 -- The nets that no gate drives get their sets.
 use Rattle.sym_step.specs.private.Parts.{HaveSources, HaveGates, HaveNets, asks}
-use Rattle.sym_step.specs.declared.net_rails.NetRails.{NetRails}
-use Rattle.sym_step.specs.private.NetSets.{AreNetRails, AreNetRefs, net_at}
-use Rattle.sym_step.proofs.NetRefs.{refs_of_net}
+use Rattle.gate_sets.specs.declared.net_rails.NetRails.{NetRails}
+use Rattle.gate_sets.specs.NetSets.{AreNetRails, AreNetRefs, net_at}
+use Rattle.gate_sets.proofs.NetRefs.{refs_of_net}
 use Rattle.std.proofs.lemmas.List.{get_or-map, length-map}
 use Rattle.std.proofs.Common.{◌≡◌, false, ℕ, zero, suc, ◌<◌, List, [], ◌∷◌, ◌++◌, length, map, get_or, replicate, sym, ◌∙◌, ap, subst, arith, All}
 use Rattle.std.proofs.lemmas.Bool.{false≢true}

@@ -19,9 +19,9 @@ use Rattle.net_core.specs.declared.source.Source.TheVariants.{Gate as OfGate}
 use Rattle.net_core.specs.Flat.{IsInRange, HasOneDriver, IsSettledOrder}
 use Rattle.net_core.specs.Source.{source_of}
 use Rattle.net_core.specs.Work.{SymbolicSet, SymbolicCut, set_at, after_cuts, by_source, by_gate, uncut, cover_work, cuts_work, gates_work, output_set, input_sets, time_work, first_sets, some_bit, no_bit, sums}
-use Rattle.sym_step.specs.declared.net_rails.NetRails.{NetRails}
-use Rattle.sym_step.specs.private.NetSets.{AreNetRails, AreNetRefs, net_at}
-use Rattle.sym_step.proofs.NetRefs.{Net-keeps}
+use Rattle.gate_sets.specs.declared.net_rails.NetRails.{NetRails}
+use Rattle.gate_sets.specs.NetSets.{AreNetRails, AreNetRefs, net_at}
+use Rattle.gate_sets.proofs.NetRefs.{Net-keeps}
 use Rattle.dd_nodes.specs.Spending.{Has}
 use Rattle.dd_nodes.proofs.Spending.{Covers}
 use Rattle.dd_nodes.proofs.Members.{Contains-cons_cases}

@@ -26,7 +26,7 @@ use Rattle.dual_rail.proofs.Turns.{own_zip}
 use Rattle.sym_step.specs.declared.cut.Cut.{Cut}
 use Rattle.sym_step.specs.declared.frame.Frame.{Frame}
 use Rattle.sym_step.specs.declared.made.Step.{Step}
-use Rattle.sym_step.specs.private.Frames.{step_of}
+use Rattle.sym_step.specs.Frame.{step_of}
 use Rattle.sym_step.specs.private.Parts.{asks}
 use Rattle.sym_step.specs.Step.{IsCutBy, IsCutOf, IsPossibleStep, IsStep, asked_of, rails_at, sets_of}
 use Rattle.sym_step.proofs.Cutting.{own_demands}

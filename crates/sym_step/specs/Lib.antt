@@ -1,5 +1,4 @@
-pub mod Rows
-pub mod Lists
 pub mod Samples
 pub mod Step
+pub mod Frame
 pub mod private

@@ -2,9 +2,7 @@
 use Rattle.std.specs.Prelude.{◌≡◌, ◌<◌, ℕ, Bool, List, length, map, slice_index_or}
 use Rattle.std.specs.List.{AllZip}
 use Rattle.dd_nodes.specs.Stores.{Store, IsRef, Means, function}
-use Rattle.net_core.specs.declared.cover.Cover.{Cover}
 use Rattle.net_core.specs.declared.raw.RawNet.{RawNet}
-use Rattle.net_core.specs.Cases.{on_rows, off_rows}
 use Rattle.net_core.specs.Work.{SymbolicSet, SymbolicCut, some_empty}
 use Rattle.dual_rail.specs.declared.rails.Rails.{Rails}
 use Rattle.dual_rail.specs.Rail.{AreRails, set_of}
@@ -12,14 +10,6 @@ use Rattle.net_core.specs.declared.bit_set.BitSet.{BitSet}
 use Rattle.net_core.specs.Possible.{Asked, ArePossible}
 use Rattle.sym_step.specs.declared.cut.Cut.{Cut}
 use Rattle.sym_step.specs.declared.made.Step.{Step}
-use Rattle.sym_step.specs.declared.rows.CoverRows.{CoverRows}
-
--- both lists of rows of a cover, over its inputs
-abbrev pub rows_of : Cover → CoverRows
-rows_of cover = record {
-  on = record { width = cover.inputs; list = on_rows cover };
-  off = record { width = cover.inputs; list = off_rows cover };
-}
 
 -- the rails of a net in a list, one for each net; both bits for a number that is no net
 abbrev pub rails_at : List Rails → ℕ → Rails

@@ -4,9 +4,9 @@ ghost use Rattle.std.specs.Prelude.{◌≡◌, ◌<◌, IsTrue, length, set};
 ghost use Rattle.sym_step.specs.private.Boards.{Follows};
 
 use crate::marks::Marks;
-use crate::net_rails::NetRails;
 use crate::readers::Readers;
 use dd_nodes::Ref;
+use gate_sets::NetRails;
 
 /// The sets of all nets; a mark for each gate, and behind these one for each latch, of which an input or the output has got
 /// another set; for each net which gates and latches these are; and whether all nets have a bit everywhere, which is so

@@ -7,16 +7,15 @@ ghost use Rattle.dd_nodes.specs.Diagram.{Function};
 ghost use Rattle.net_core.specs.Work.{SymbolicSet, SymbolicCut, after_cut, after_cuts, cut_set, cut_work, cuts_work, negation, some_bit};
 ghost use Rattle.dual_rail.specs.Rail.{AreRefs, AreRails, Built};
 ghost use Rattle.sym_step.specs.Step.{IsCutBy};
-ghost use Rattle.sym_step.specs.private.NetSets.{AreFlagged, AreFlaggedRefs, HasFlagged, HasNetSet, IsKnown};
+ghost use Rattle.gate_sets.specs.NetSets.{AreFlagged, AreFlaggedRefs, HasFlagged, HasNetSet, IsKnown};
 ghost use Rattle.sym_step.specs.private.Parts.{AreMarks, IsEverywhere};
 
 use crate::cut::Cut;
 use crate::cut_list::CutList;
-use crate::flagged::{FlaggedRails, is_clear, is_constant, is_free};
-use crate::net_rails::NetRails;
 use dd_nodes::{Nodes, Ref};
 use dd_ops::{OpFault, Ops};
 use dual_rail::{Rails, cut, either, opposite};
+use gate_sets::{FlaggedRails, NetRails, is_clear, is_constant, is_free};
 
 /// The set of the value alone, which is what a cut with the guard 1 leaves of an unknown.
 fn bound<N: Nodes>(ops: &Ops, nodes: &mut N, value: Ref) -> Result<FlaggedRails, OpFault>

@@ -2,15 +2,16 @@
 
 ghost use Rattle.std.specs.Prelude.{◌≡◌, ◌≢◌, ◌⊎◌, ◌<◌, ℕ, List, [], IfOk, IfSome, IsTrue, None, OnOk, false, length, map};
 ghost use Rattle.ste_base.specs.declared.id.NodeId.{NodeId};
-ghost use Rattle.sym_step.specs.private.Frames.{AreCarried, bare, input_rails, mark_count, next_of};
+ghost use Rattle.sym_step.specs.Frame.{bare, input_rails, mark_count, next_of};
+ghost use Rattle.sym_step.specs.private.Frames.{AreCarried};
 ghost use Rattle.sym_step.specs.private.Latches.{AreLatchSets, HaveMarks, IsCopied, latch_set};
-ghost use Rattle.sym_step.specs.private.NetSets.{net_at};
+ghost use Rattle.gate_sets.specs.NetSets.{net_at};
 ghost use Rattle.sym_step.specs.private.Readers.{AreReaders, flag_at};
 
 use crate::board::{Board, are_same};
 use crate::frame::Frame;
-use crate::net_rails::NetRails;
 use dual_rail::Rails;
+use gate_sets::NetRails;
 use net_core::{Latch, Net};
 use std::alloc::AllocError;
 use ste_base::NodeId;

@@ -7,19 +7,20 @@ ghost use Rattle.net_core.specs.Work.{ArePossibleEach, SymbolicSet, SymbolicCut,
 ghost use Rattle.dual_rail.specs.Rail.{AreRefs, AreRails, Built, Whatever};
 ghost use Rattle.sym_step.specs.Step.{IsCutBy};
 ghost use Rattle.sym_step.specs.private.Boards.{Follows};
-ghost use Rattle.sym_step.specs.private.Frames.{AreOpen, HaveLatches, HaveOpen, IsOpened, StayRight, is_listed};
+ghost use Rattle.sym_step.specs.Frame.{AreOpen, is_listed};
+ghost use Rattle.sym_step.specs.private.Frames.{HaveLatches, HaveOpen, IsOpened, StayRight};
 ghost use Rattle.sym_step.specs.private.Latches.{AreGiven, IsLatchSet};
-ghost use Rattle.sym_step.specs.private.NetSets.{AreNetRefs, HasNetSet};
+ghost use Rattle.gate_sets.specs.NetSets.{AreNetRefs, HasNetSet};
 ghost use Rattle.sym_step.specs.private.Parts.{AreMarks, HaveSources, asks};
 
 use crate::board::Board;
 use crate::cut_list::CutList;
 use crate::cuts::cut_net;
 use crate::latches::LatchSet;
-use crate::net_rails::NetRails;
 use dd_nodes::Nodes;
 use dd_ops::{OpFault, Ops};
 use dual_rail::{Rails, free};
+use gate_sets::NetRails;
 use net_core::{Net, Source};
 use ste_base::NodeId;
 

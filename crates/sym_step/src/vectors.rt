@@ -1,8 +1,8 @@
 //! Vectors that each time uses; begin with `Vectors`.
 
-use crate::by_table::Scratch;
 use crate::cut_list::CutLinks;
 use crate::latches::LatchSet;
+use gate_sets::Scratch;
 use std::alloc::Global;
 use ste_base::NodeId;
 

@@ -7,8 +7,9 @@ ghost use Rattle.dd_nodes.specs.Stores.{Store, IsRef, Keeps};
 ghost use Rattle.net_core.specs.Cases.{cases_of};
 ghost use Rattle.net_core.specs.declared.raw.RawNet.{RawNet};
 ghost use Rattle.dual_rail.specs.Rail.{AreRefs};
-ghost use Rattle.sym_step.specs.Step.{IsCutOf, rows_of};
-ghost use Rattle.sym_step.specs.private.Frames.{IsFrame};
+ghost use Rattle.sym_step.specs.Step.{IsCutOf};
+ghost use Rattle.gate_sets.specs.Lists.{rows_of};
+ghost use Rattle.sym_step.specs.Frame.{IsFrame};
 
 use blif_lines::logical_lines;
 use blif_syntax::read_models;

@@ -6,7 +6,7 @@ use Rattle.dd_nodes.proofs.Stores.{IsGood}
 use Rattle.net_core.specs.declared.raw.RawNet.{RawNet}
 use Rattle.net_core.specs.Flat.{IsInRange}
 use Rattle.sym_step.specs.declared.frame.Frame.{Frame}
-use Rattle.sym_step.specs.private.Frames.{IsFrame}
+use Rattle.sym_step.specs.Frame.{IsFrame}
 use Rattle.sym_step.proofs.Framing.{frame_keeps}
 
 -- it stays one in a store that holds what this one holds

@@ -2,8 +2,8 @@
 
 ghost use Rattle.std.specs.Prelude.{◌≡◌, ◌^◌, ◌<◌, ◌≤◌, length, map, All, IfOk, IfSome, OnOk};
 ghost use Rattle.std.specs.List.{AllZip};
-ghost use Rattle.sym_step.specs.Step.{rows_of};
-ghost use Rattle.sym_step.specs.private.Frames.{IsFrame};
+ghost use Rattle.gate_sets.specs.Lists.{rows_of};
+ghost use Rattle.sym_step.specs.Frame.{IsFrame};
 ghost use Rattle.work_pool.specs.Pool.{IsTaskOver};
 ghost use Rattle.work_pool.specs.Told.{IsToldOf};
 

@@ -8,8 +8,8 @@ ghost use Rattle.dd_nodes.specs.Stores.{Keeps, Store, gives_up};
 ghost use Rattle.net_core.specs.declared.raw.RawNet.{RawNet};
 ghost use Rattle.net_core.specs.Flat.{IsInRange};
 ghost use Rattle.ste_model.specs.declared.task.Task.{Task as ATask};
-ghost use Rattle.sym_step.specs.Step.{rows_of};
-ghost use Rattle.sym_step.specs.private.Frames.{IsFrame};
+ghost use Rattle.gate_sets.specs.Lists.{rows_of};
+ghost use Rattle.sym_step.specs.Frame.{IsFrame};
 ghost use Rattle.work_pool.specs.Pool.{IsPooled, IsTaskOver};
 ghost use Rattle.work_pool.specs.private.Jobs.{AreDone, AreJobs, HandsOn, IsDone, IsReady, tasks_at};
 

@@ -3,7 +3,7 @@
 ghost use Rattle.std.specs.Prelude.{◌≡◌, ◌*◌, ◌^◌, ◌<◌, ◌≤◌, [], length, map, All, IfOk};
 ghost use Rattle.std.specs.List.{AllZip, range_with_len};
 ghost use Rattle.dd_table.specs.Sessions.{store_of};
-ghost use Rattle.sym_step.specs.Step.{rows_of};
+ghost use Rattle.gate_sets.specs.Lists.{rows_of};
 ghost use Rattle.ste_model.specs.declared.task.Task.{Task as ATask};
 ghost use Rattle.work_pool.specs.Pool.{IsPooled, IsTaskOver, IsToldOfNumber};
 ghost use Rattle.work_pool.specs.private.Jobs.{tasks_at};

@@ -4,7 +4,7 @@ ghost use Rattle.std.specs.Prelude.{◌≡◌, ◌<◌, ◌≤◌, [], All, IfOk
 ghost use Rattle.net_core.specs.declared.raw.RawNet.{RawNet as ARawNet};
 ghost use Rattle.net_core.specs.Flat.{HasOneDriver, IsInRange};
 ghost use Rattle.ste_model.specs.Need.{ReadBelow};
-ghost use Rattle.sym_step.specs.Step.{rows_of};
+ghost use Rattle.gate_sets.specs.Lists.{rows_of};
 ghost use Rattle.work_pool.specs.Pool.{IsTaskOver};
 
 use bool_expr::Expr;

@@ -1,6 +1,6 @@
 use Rattle.std.proofs.Common.{All}
 use Rattle.sym_step.specs.Step.{IsCutOf}
-use Rattle.sym_step.specs.private.Frames.{IsFrame}
+use Rattle.sym_step.specs.Frame.{IsFrame}
 use Rattle.step_bench.proofs.kept_steps.Given as goal
 
 abbrev pub invariant-loop : goal.invariant-loop

@@ -1,8 +1,8 @@
 -- For private functions. The sets of all nets, while they get other ones.
 use Rattle.std.specs.Prelude.{◌≡◌, ◌<◌, All, false, IsTrue, ℕ, List, length}
 use Rattle.sym_step.specs.declared.board.Board.{Board}
-use Rattle.sym_step.specs.declared.net_rails.NetRails.{NetRails}
-use Rattle.sym_step.specs.private.NetSets.{net_at}
+use Rattle.gate_sets.specs.declared.net_rails.NetRails.{NetRails}
+use Rattle.gate_sets.specs.NetSets.{net_at}
 use Rattle.sym_step.specs.private.Readers.{Lists, flag_at}
 
 -- each set has a bit everywhere, by its references

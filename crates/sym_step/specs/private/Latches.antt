@@ -9,12 +9,13 @@ use Rattle.net_core.specs.declared.raw.RawNet.{RawNet}
 use Rattle.net_core.specs.Flat.{IsSettledOrder}
 use Rattle.net_core.specs.Work.{SymbolicSet, uncut}
 use Rattle.sym_step.specs.declared.latches.LatchSet.{LatchSet}
-use Rattle.sym_step.specs.declared.net_rails.NetRails.{NetRails}
+use Rattle.gate_sets.specs.declared.net_rails.NetRails.{NetRails}
 use Rattle.sym_step.specs.declared.frame.Frame.{Frame}
 use Rattle.sym_step.specs.private.Boards.{AreFull}
-use Rattle.sym_step.specs.private.Frames.{AreCarried, AreOpen, AreSpared, bare, is_listed, mark_count}
+use Rattle.sym_step.specs.Frame.{AreOpen, bare, is_listed, mark_count}
+use Rattle.sym_step.specs.private.Frames.{AreCarried, AreSpared}
 use Rattle.sym_step.specs.private.Readers.{AreReaders, flag_at}
-use Rattle.sym_step.specs.private.NetSets.{AreNetRails, AreNetRefs, net_at}
+use Rattle.gate_sets.specs.NetSets.{AreNetRails, AreNetRefs, net_at}
 
 -- the set of a latch that takes over what its input has
 abbrev pub latch_set : List NetRails → Latch → LatchSet

@@ -7,8 +7,8 @@ use Rattle.net_core.specs.declared.source.Source.TheVariants.{Gate as OfGate}
 use Rattle.net_core.specs.Source.{source_of}
 use Rattle.net_core.specs.Work.{Function, SymbolicSet, SymbolicCut, SymbolicAsked}
 use Rattle.sym_step.specs.declared.cut.Cut.{Cut}
-use Rattle.sym_step.specs.declared.net_rails.NetRails.{NetRails}
-use Rattle.sym_step.specs.private.NetSets.{AreNetRails, net_at}
+use Rattle.gate_sets.specs.declared.net_rails.NetRails.{NetRails}
+use Rattle.gate_sets.specs.NetSets.{AreNetRails, net_at}
 
 -- what these cuts ask
 abbrev pub asks : List SymbolicCut → SymbolicAsked

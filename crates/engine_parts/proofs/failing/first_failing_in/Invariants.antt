@@ -1,5 +1,5 @@
 use Rattle.std.proofs.Common.{◌≡◌, drop}
-use Rattle.sym_step.specs.private.Frames.{nets_of}
+use Rattle.sym_step.specs.Frame.{nets_of}
 use Rattle.engine_parts.specs.Failing.{first_failing}
 use Rattle.engine_parts.proofs.failing.first_failing_in.Given as goal
 

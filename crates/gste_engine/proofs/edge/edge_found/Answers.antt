@@ -19,7 +19,7 @@ use Rattle.dual_rail.proofs.Works.{Built-wider, So-start, first, last, lost, mor
 use Rattle.sym_step.specs.declared.cut.Cut.{Cut}
 use Rattle.sym_step.specs.declared.frame.Frame.{Frame}
 use Rattle.sym_step.specs.Step.{IsCutBy, IsCutOf, IsStep}
-use Rattle.sym_step.specs.private.Frames.{IsFrame, step_of}
+use Rattle.sym_step.specs.Frame.{IsFrame, step_of}
 use Rattle.sym_step.proofs.Framing.{frame_keeps}
 use Rattle.sym_step.proofs.Whole.{sets_exist}
 use Rattle.gste_engine.specs.declared.edge.EdgeFound.{EdgeFound}

@@ -14,7 +14,7 @@ use Rattle.dual_rail.proofs.Turns.{All-refs-keep}
 use Rattle.dual_rail.proofs.Works.{Built-made, Built-wider, Rails-keep, So-start, and_built, first, more, not_built, pass}
 use Rattle.sym_step.specs.declared.frame.Frame.{Frame}
 use Rattle.sym_step.specs.Step.{HaveSets, rails_at}
-use Rattle.sym_step.specs.private.Frames.{bare, input_rails, nets_of}
+use Rattle.sym_step.specs.Frame.{bare, input_rails, nets_of}
 use Rattle.sym_step.proofs.Framing.{rails_refs}
 use Rattle.gste_engine.specs.Tables.{IsEdgeFound}
 use Rattle.gste_engine.specs.private.Given.{gated_sets, given_work}

@@ -14,7 +14,7 @@ use Rattle.dual_rail.specs.declared.rails.Rails.{Rails}
 use Rattle.dual_rail.specs.Rail.{AreRails, AreRefs, HasSet}
 use Rattle.dual_rail.proofs.Turns.{Refs-keep, zip_long}
 use Rattle.dual_rail.proofs.Works.{Built-lost, Built-made, So-start, first, lost, own_set, pass, set_where}
-use Rattle.sym_step.specs.private.Frames.{input_rails, nets_of}
+use Rattle.sym_step.specs.Frame.{input_rails, nets_of}
 use Rattle.gste_engine.specs.private.Given.{gated_sets}
 use Rattle.gste_engine.proofs.GatedSets.{gated_fit, gated_turn, input_is, this}
 use Rattle.gste_engine.proofs.gate.gated_all.Goals as goal

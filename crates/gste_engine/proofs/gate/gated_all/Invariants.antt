@@ -4,7 +4,7 @@ use Rattle.dd_nodes.specs.Diagram.{Function}
 use Rattle.dd_nodes.specs.Stores.{Keeps, Means}
 use Rattle.net_core.specs.Work.{SymbolicSet}
 use Rattle.dual_rail.specs.Rail.{AreRails}
-use Rattle.sym_step.specs.private.Frames.{input_rails, nets_of}
+use Rattle.sym_step.specs.Frame.{input_rails, nets_of}
 use Rattle.gste_engine.proofs.GatedSets.{GatedSoFar}
 use Rattle.gste_engine.proofs.gate.gated_all.Given as goal
 

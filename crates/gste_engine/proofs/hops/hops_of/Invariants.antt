@@ -1,5 +1,5 @@
 use Rattle.std.proofs.Common.{ℕ, length, take}
-use Rattle.sym_step.specs.private.Frames.{IsFrame}
+use Rattle.sym_step.specs.Frame.{IsFrame}
 use Rattle.engine_parts.specs.Failing.{FailsBy, MakesNothing}
 use Rattle.ste_model.specs.GraphHops.{AreEdgeHops}
 use Rattle.ste_model.specs.GraphWork.{SymbolicState}

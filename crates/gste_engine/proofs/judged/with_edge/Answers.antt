@@ -20,7 +20,7 @@ use Rattle.dual_rail.proofs.Turns.{Zip-keep, zip_long}
 use Rattle.dual_rail.proofs.Works.{Built-lost, Built-wider, So-start, first, lost, more, pass}
 use Rattle.sym_step.specs.declared.cut.Cut.{Cut}
 use Rattle.sym_step.specs.Step.{IsCutBy, IsCutOf, rails_at}
-use Rattle.sym_step.specs.private.Frames.{bare, nets_of}
+use Rattle.sym_step.specs.Frame.{bare, nets_of}
 use Rattle.sym_step.proofs.Cutting.{demands_long}
 use Rattle.gste_engine.specs.declared.edge.EdgeFound.{EdgeFound}
 use Rattle.gste_engine.specs.declared.state.State.{State}

@@ -8,7 +8,7 @@ use Rattle.dual_rail.proofs.Works.{Built-lost, Built-made, So-start, more, pass}
 use Rattle.net_core.specs.declared.raw.RawNet.{RawNet}
 use Rattle.net_core.specs.Run.{IsSettled}
 use Rattle.net_core.proofs.Ordered.{settled_by_order}
-use Rattle.sym_step.specs.private.Frames.{bare, nets_of}
+use Rattle.sym_step.specs.Frame.{bare, nets_of}
 use Rattle.ste_model.specs.declared.task.Edge.{Edge}
 use Rattle.ste_model.specs.declared.task.Graph.{Graph}
 use Rattle.ste_model.specs.GraphNeed.{BindsReadBelow}

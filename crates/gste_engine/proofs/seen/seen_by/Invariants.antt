@@ -1,5 +1,5 @@
 use Rattle.std.proofs.Common.{◌≡◌, take, map}
-use Rattle.sym_step.specs.private.Frames.{nets_of}
+use Rattle.sym_step.specs.Frame.{nets_of}
 use Rattle.gste_engine.specs.private.Seen.{rails_of}
 use Rattle.gste_engine.proofs.seen.seen_by.Given as goal
 

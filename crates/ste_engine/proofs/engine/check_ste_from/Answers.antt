@@ -14,7 +14,7 @@ use Rattle.ste_model.specs.Report.{IsReportOf, budget_report}
 use Rattle.ste_model.specs.Work.{task_work}
 use Rattle.ste_model.proofs.Needs.{whole_exists}
 use Rattle.sym_step.specs.declared.frame.Frame.{Frame}
-use Rattle.sym_step.specs.private.Frames.{IsFrame}
+use Rattle.sym_step.specs.Frame.{IsFrame}
 use Rattle.sym_step.proofs.Framing.{frame_keeps}
 use Rattle.ste_engine.specs.Engine.{IsBudget, IsKept}
 use Rattle.ste_engine.specs.private.Firsts.{AreFirsts}

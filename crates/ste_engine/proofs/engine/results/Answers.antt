@@ -18,7 +18,7 @@ use Rattle.ste_model.specs.Asked.{depth}
 use Rattle.ste_model.specs.Work.{latches_at, quints_work, symbolic_asked_at, symbolic_cuts_at, task_work}
 use Rattle.ste_model.proofs.Needs.{whole_exists}
 use Rattle.sym_step.specs.declared.frame.Frame.{Frame}
-use Rattle.sym_step.specs.private.Frames.{bare, next_of, nets_of}
+use Rattle.sym_step.specs.Frame.{bare, next_of, nets_of}
 use Rattle.sym_step.proofs.Cutting.{Demands-keep}
 use Rattle.sym_step.proofs.Framing.{frame_keeps}
 use Rattle.engine_parts.specs.declared.failing.Failure.TheVariants.{Strong, Weak}

@@ -1,7 +1,7 @@
 use Rattle.std.proofs.Common.{ℕ}
 use Rattle.net_core.specs.Work.{SymbolicSet}
 use Rattle.ste_model.specs.Need.{IsWholeTable}
-use Rattle.sym_step.specs.private.Frames.{IsFrame, next_of}
+use Rattle.sym_step.specs.Frame.{IsFrame, next_of}
 use Rattle.ste_engine.specs.private.Firsts.{AreFirsts}
 use Rattle.ste_engine.specs.private.Turns.{IsLine}
 use Rattle.ste_engine.proofs.Times.{ReachedAt}

@@ -12,7 +12,7 @@ use Rattle.dual_rail.proofs.Works.{So-start, Built-made, own_set, set_where, fir
 use Rattle.dual_rail.proofs.Turns.{Refs-keep}
 use Rattle.sym_step.specs.declared.cut.Cut.{Cut}
 use Rattle.sym_step.proofs.Cutting.{demands_long}
-use Rattle.sym_step.specs.private.Frames.{nets_of}
+use Rattle.sym_step.specs.Frame.{nets_of}
 use Rattle.ste_engine.specs.private.Finds.{AreFound, found_work, more_strong, more_weak}
 use Rattle.ste_engine.proofs.Found.{find_turn}
 use Rattle.ste_engine.proofs.find.find_all.Goals as goal

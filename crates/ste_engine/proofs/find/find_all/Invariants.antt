@@ -6,7 +6,7 @@ use Rattle.net_core.specs.Work.{SymbolicSet, SymbolicCut}
 use Rattle.dual_rail.specs.Rail.{AreRails}
 use Rattle.dual_rail.proofs.Works.{SoFar}
 use Rattle.sym_step.specs.Step.{IsCutBy, rails_at}
-use Rattle.sym_step.specs.private.Frames.{nets_of}
+use Rattle.sym_step.specs.Frame.{nets_of}
 use Rattle.ste_engine.specs.private.Finds.{AreFound, AreFoundRefs, found_work, more_strong, more_weak}
 use Rattle.ste_engine.proofs.find.find_all.Given as goal
 

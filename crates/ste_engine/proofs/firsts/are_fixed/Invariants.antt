@@ -1,5 +1,5 @@
 use Rattle.std.proofs.Common.{◌≡◌, drop}
-use Rattle.sym_step.specs.private.Frames.{nets_of}
+use Rattle.sym_step.specs.Frame.{nets_of}
 use Rattle.ste_engine.specs.private.Firsts.{are_fixed}
 use Rattle.ste_engine.proofs.firsts.are_fixed.Given as goal
 

@@ -13,7 +13,7 @@ use Rattle.ste_model.specs.Found.{IsTableOf}
 use Rattle.ste_model.specs.Work.{constant_set, latches_at, symbolic_cuts_at}
 use Rattle.sym_step.specs.declared.made.Step.{Step}
 use Rattle.sym_step.specs.Step.{IsCutBy, IsStep, rails_at}
-use Rattle.sym_step.specs.private.Frames.{next_of, nets_of, step_of}
+use Rattle.sym_step.specs.Frame.{next_of, nets_of, step_of}
 use Rattle.sym_step.proofs.Cutting.{Demands-keep}
 use Rattle.engine_parts.specs.declared.failing.Failure.{Failure}
 use Rattle.engine_parts.specs.Failing.{fixed_quint}

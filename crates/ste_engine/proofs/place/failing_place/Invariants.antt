@@ -2,7 +2,7 @@ use Rattle.std.proofs.Common.{ℕ, map}
 use Rattle.net_core.specs.declared.bit_set.BitSet.{BitSet}
 use Rattle.ste_model.specs.Found.{IsTableOf}
 use Rattle.engine_parts.specs.Failing.{MakesNothing, fixed_quint}
-use Rattle.sym_step.specs.private.Frames.{IsFrame, next_of}
+use Rattle.sym_step.specs.Frame.{IsFrame, next_of}
 use Rattle.ste_engine.specs.private.Turns.{IsLine}
 use Rattle.ste_engine.proofs.PlaceTurns.{IsPlaceAt}
 use Rattle.ste_engine.proofs.place.failing_place.Given as goal

@@ -6,7 +6,7 @@ use Rattle.dual_rail.specs.Rail.{AreRefs}
 use Rattle.net_core.specs.Sets.{first_set}
 use Rattle.ste_model.specs.Work.{constant_set}
 use Rattle.sym_step.specs.declared.frame.Frame.{Frame}
-use Rattle.sym_step.specs.private.Frames.{IsFrame}
+use Rattle.sym_step.specs.Frame.{IsFrame}
 use Rattle.engine_parts.specs.Latches.{first_rails}
 use Rattle.engine_parts.proofs.FirstSets.{firsts_are, zip_refs}
 use Rattle.ste_engine.proofs.turn.frame_from.Goals as goal

@@ -19,7 +19,7 @@ use Rattle.sym_step.specs.declared.cut.Cut.{Cut}
 use Rattle.sym_step.proofs.Cutting.{Demands-keep, own_demands}
 use Rattle.sym_step.proofs.Framing.{frame_keeps, rails_refs}
 use Rattle.sym_step.specs.declared.frame.Frame.{Frame}
-use Rattle.sym_step.specs.private.Frames.{bare, next_of, nets_of, step_of}
+use Rattle.sym_step.specs.Frame.{bare, next_of, nets_of, step_of}
 use Rattle.ste_engine.specs.declared.results.Found.{Found}
 use Rattle.ste_engine.specs.declared.turn.Turned.{Turned}
 use Rattle.ste_engine.specs.private.Finds.{AreFound, found_work, more_strong, more_weak}

@@ -5,8 +5,8 @@ use Rattle.dd_nodes.proofs.Stores.{Means-keeps}
 use Rattle.net_core.specs.Work.{negation}
 use Rattle.dual_rail.specs.Rail.{Built, HasFunction}
 use Rattle.dual_rail.proofs.Works.{here, not_built, So-start, Built-made, first, pass}
-use Rattle.sym_step.specs.declared.flagged.FlaggedRails.{FlaggedRails}
-use Rattle.sym_step.specs.private.NetSets.{HasFlagged}
+use Rattle.gate_sets.specs.declared.flagged.FlaggedRails.{FlaggedRails}
+use Rattle.gate_sets.specs.NetSets.{HasFlagged}
 use Rattle.sym_step.proofs.cuts.bound.Goals as goal
 
 pub returns-in_err-can0 : goal.returns-in_err-can0

@@ -6,10 +6,10 @@ use Rattle.dd_nodes.proofs.Stores.{Means-keeps}
 use Rattle.net_core.specs.Work.{some_bit}
 use Rattle.dual_rail.specs.Rail.{Built, HasFunction}
 use Rattle.dual_rail.proofs.Works.{here, or_built, So-start, Built-made, first, pass}
-use Rattle.sym_step.specs.declared.net_rails.NetRails.{NetRails}
-use Rattle.sym_step.specs.private.NetSets.{HasNetSet, IsKnown}
+use Rattle.gate_sets.specs.declared.net_rails.NetRails.{NetRails}
+use Rattle.gate_sets.specs.NetSets.{HasNetSet, IsKnown}
 use Rattle.dd_nodes.proofs.Spending.{one_means}
-use Rattle.sym_step.proofs.Known.{known_full}
+use Rattle.gate_sets.proofs.Known.{known_full}
 use Rattle.sym_step.proofs.cuts.completed.Goals as goal
 
 pub returns-in_err-some : goal.returns-in_err-some

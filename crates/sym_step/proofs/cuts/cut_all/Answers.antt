@@ -3,7 +3,7 @@ use Rattle.dd_nodes.specs.Stores.{Store, IsRef, function}
 use Rattle.dd_nodes.proofs.Walks.{IsFrom-grows}
 use Rattle.net_core.specs.Work.{SymbolicCut, SymbolicSet, after_cuts, cuts_work}
 use Rattle.sym_step.specs.private.CutLists.{IsNearest, no_cut, node_at}
-use Rattle.sym_step.specs.private.NetSets.{AreFlagged, HasFlagged}
+use Rattle.gate_sets.specs.NetSets.{AreFlagged, HasFlagged}
 use Rattle.dual_rail.proofs.Works.{So-start, Built-made, set_where, first, pass}
 use Rattle.dd_nodes.proofs.Stores.{Keeps-refl, Keeps-trans}
 use Rattle.sym_step.specs.declared.cut.Cut.{Cut}

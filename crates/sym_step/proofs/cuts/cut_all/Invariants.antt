@@ -3,7 +3,7 @@ use Rattle.std.specs.List.{AllZip}
 use Rattle.dd_nodes.specs.Stores.{Keeps}
 use Rattle.net_core.specs.Work.{SymbolicSet, SymbolicCut, after_cuts, cuts_work}
 use Rattle.sym_step.specs.private.CutLists.{node_at}
-use Rattle.sym_step.specs.private.NetSets.{AreFlagged, AreFlaggedRefs}
+use Rattle.gate_sets.specs.NetSets.{AreFlagged, AreFlaggedRefs}
 use Rattle.dual_rail.proofs.Works.{SoFar}
 use Rattle.sym_step.specs.Step.{IsCutBy}
 use Rattle.sym_step.proofs.cuts.cut_all.Given as goal

@@ -4,8 +4,8 @@ use Rattle.dd_nodes.specs.Stores.{Store}
 use Rattle.dd_nodes.proofs.Spending.{one_means}
 use Rattle.net_core.specs.Work.{SymbolicSet, after_cuts, cuts_work, some_bit}
 use Rattle.dual_rail.proofs.Works.{So-start, Built-made}
-use Rattle.sym_step.specs.declared.net_rails.NetRails.{NetRails}
-use Rattle.sym_step.specs.private.NetSets.{AreNetRails, HasNetSet}
+use Rattle.gate_sets.specs.declared.net_rails.NetRails.{NetRails}
+use Rattle.gate_sets.specs.NetSets.{AreNetRails, HasNetSet}
 use Rattle.sym_step.proofs.Cutting.{unmarked}
 use Rattle.sym_step.proofs.cuts.cut_full.Goals as goal
 

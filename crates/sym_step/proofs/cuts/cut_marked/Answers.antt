@@ -1,7 +1,7 @@
 use Rattle.std.proofs.Common.{◌≡◌, ℕ, false, get_or, sym, subst}
 use Rattle.dd_nodes.specs.Stores.{Store}
 use Rattle.net_core.specs.Work.{SymbolicSet, after_cuts, cuts_work}
-use Rattle.sym_step.specs.private.NetSets.{AreFlagged, HasFlagged}
+use Rattle.gate_sets.specs.NetSets.{AreFlagged, HasFlagged}
 use Rattle.dual_rail.proofs.Works.{So-start, Built-made}
 use Rattle.sym_step.proofs.Cutting.{unmarked}
 use Rattle.sym_step.proofs.cuts.cut_marked.Goals as goal

@@ -4,9 +4,9 @@ use Rattle.dd_nodes.specs.Stores.{Store}
 use Rattle.net_core.specs.Work.{SymbolicSet, after_cuts, cuts_work, some_bit}
 use Rattle.dual_rail.specs.Rail.{Built}
 use Rattle.dual_rail.proofs.Works.{here, behind, So-start, Built-wider, first, last, pass, own_set, set_where}
-use Rattle.sym_step.specs.private.NetSets.{AreFlagged, HasFlagged, HasNetSet}
+use Rattle.gate_sets.specs.NetSets.{AreFlagged, HasFlagged, HasNetSet}
 use Rattle.sym_step.proofs.Cutting.{own_demands, flagged_refs}
-use Rattle.sym_step.proofs.Summing.{within_one}
+use Rattle.gate_sets.proofs.Summing.{within_one}
 use Rattle.sym_step.proofs.cuts.cut_net.Goals as goal
 
 pub cut_marked-requires-clause-rails : goal.cut_marked-requires-clause-rails

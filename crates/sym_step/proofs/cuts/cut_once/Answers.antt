@@ -1,7 +1,7 @@
 use Rattle.std.proofs.Common.{◌≡◌, sym, ◌∙◌, ap, eqb-true, Ok}
 use Rattle.dd_nodes.specs.Stores.{Store}
 use Rattle.dual_rail.specs.declared.rails.Rails.{Rails}
-use Rattle.sym_step.proofs.NetRefs.{one_at}
+use Rattle.gate_sets.proofs.NetRefs.{one_at}
 use Rattle.sym_step.proofs.Cutting.{bound_here, cut_here, cut_elsewhere}
 use Rattle.sym_step.proofs.cuts.cut_once.Goals as goal
 

@@ -5,8 +5,8 @@ use Rattle.dd_nodes.specs.Stores.{Store}
 use Rattle.net_core.specs.Work.{cut_set, cut_work}
 use Rattle.dual_rail.specs.Rail.{Built, HasSet}
 use Rattle.dual_rail.proofs.Works.{So-start, Built-made, first, pass}
-use Rattle.sym_step.specs.declared.flagged.FlaggedRails.{FlaggedRails}
-use Rattle.sym_step.specs.private.NetSets.{HasFlagged}
+use Rattle.gate_sets.specs.declared.flagged.FlaggedRails.{FlaggedRails}
+use Rattle.gate_sets.specs.NetSets.{HasFlagged}
 use Rattle.sym_step.proofs.cuts.narrowed.Goals as goal
 
 pub returns-in_err-rails : goal.returns-in_err-rails

@@ -1,5 +1,5 @@
 use Rattle.std.proofs.Common.{◌≡◌, take, map}
-use Rattle.sym_step.specs.private.Frames.{input_rails, nets_of}
+use Rattle.sym_step.specs.Frame.{input_rails, nets_of}
 use Rattle.sym_step.proofs.frame.own_sets.Given as goal
 
 -- the sets of the first latches' inputs

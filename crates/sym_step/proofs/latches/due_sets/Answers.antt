@@ -9,10 +9,11 @@ use Rattle.net_core.specs.declared.raw.Gate.{Gate}
 use Rattle.dual_rail.specs.declared.rails.Rails.{Rails}
 use Rattle.sym_step.specs.declared.board.Board.{Board}
 use Rattle.sym_step.specs.declared.latches.LatchSet.{LatchSet}
-use Rattle.sym_step.specs.declared.net_rails.NetRails.{NetRails}
-use Rattle.sym_step.specs.private.Frames.{AreCarried, IsCarried, bare, input_rails}
+use Rattle.gate_sets.specs.declared.net_rails.NetRails.{NetRails}
+use Rattle.sym_step.specs.Frame.{bare, input_rails}
+use Rattle.sym_step.specs.private.Frames.{AreCarried, IsCarried}
 use Rattle.sym_step.specs.private.Latches.{HaveMarks, IsCopied, IsInPlace, IsSetOf, latch_set}
-use Rattle.sym_step.specs.private.NetSets.{net_at}
+use Rattle.gate_sets.specs.NetSets.{net_at}
 use Rattle.sym_step.specs.private.Readers.{AreReaders, flag_at}
 use Rattle.sym_step.proofs.Latched.{Grows, carried_next, in_place, next_at, own_next, own_set, places_next, places_to}
 use Rattle.sym_step.proofs.latches.due_sets.Goals as goal

@@ -2,7 +2,8 @@ use Rattle.std.proofs.Common.{◌≡◌, ◌≢◌, ◌+◌, ◌<◌, ◌≤◌,
 use Rattle.std.specs.Prelude.{◌⊎◌}
 use Rattle.ste_base.specs.declared.id.NodeId.{NodeId}
 use Rattle.net_core.specs.declared.raw.Latch.{Latch}
-use Rattle.sym_step.specs.private.Frames.{AreCarried, bare, input_rails}
+use Rattle.sym_step.specs.Frame.{bare, input_rails}
+use Rattle.sym_step.specs.private.Frames.{AreCarried}
 use Rattle.sym_step.specs.private.Latches.{HaveMarks, IsAmong, IsInPlace, IsSetOf}
 use Rattle.sym_step.specs.private.Readers.{flag_at}
 use Rattle.sym_step.proofs.latches.due_sets.Given as goal

@@ -3,8 +3,8 @@ use Rattle.std.specs.Prelude.{IfOk}
 use Rattle.std.proofs.lemmas.Result.{IfOk-weaker}
 use Rattle.ste_base.specs.declared.id.NodeId.{NodeId}
 use Rattle.dual_rail.specs.declared.rails.Rails.{Rails}
-use Rattle.sym_step.specs.declared.net_rails.NetRails.{NetRails}
-use Rattle.sym_step.specs.private.Frames.{first_or, input_rails, nets_of, next_of}
+use Rattle.gate_sets.specs.declared.net_rails.NetRails.{NetRails}
+use Rattle.sym_step.specs.Frame.{first_or, input_rails, nets_of, next_of}
 use Rattle.sym_step.specs.private.Latches.{AreLatchSets, HaveMarks}
 use Rattle.sym_step.proofs.latches.latch_sets.Goals as goal
 

@@ -6,9 +6,9 @@ use Rattle.net_core.specs.declared.raw.Latch.{Latch}
 use Rattle.net_core.specs.declared.raw.Init.TheVariants.{Zero}
 use Rattle.dual_rail.specs.declared.rails.Rails.{Rails}
 use Rattle.sym_step.specs.declared.latches.LatchSet.{LatchSet}
-use Rattle.sym_step.specs.declared.net_rails.NetRails.{NetRails}
+use Rattle.gate_sets.specs.declared.net_rails.NetRails.{NetRails}
 use Rattle.sym_step.specs.private.Latches.{HaveMarks, IsInPlace}
-use Rattle.sym_step.specs.private.NetSets.{net_at}
+use Rattle.gate_sets.specs.NetSets.{net_at}
 use Rattle.sym_step.proofs.Latched.{Grows, own_next, own_set, places_next}
 use Rattle.sym_step.proofs.latches.told_sets.Goals as goal
 use Rattle.sym_step.proofs.latches.told_sets.Goals.{in-Some+in_ok-push, in_default}

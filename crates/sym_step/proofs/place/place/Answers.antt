@@ -1,5 +1,5 @@
 use Rattle.std.proofs.lemmas.List.{get_or_default, length-map}
-use Rattle.sym_step.specs.private.Numbers.{kind_at}
+use Rattle.gate_sets.specs.private.Numbers.{kind_at}
 use Rattle.std.proofs.Common.{◌<◌, arith, map, ◌≡◌, Some, true, not, ℕ, List, ◌∷◌, ◌++◌, length, get_or, sym, ◌∙◌, ap, subst, Ok, Err}
 use Rattle.std.specs.Prelude.{All, slice_get}
 use Rattle.std.proofs.lemmas.List.Elements.{Contains-append_left, Contains-append_right}
@@ -10,19 +10,19 @@ use Rattle.net_core.specs.Work.{SymbolicSet, after_cuts, cover_work, cuts_work, 
 use Rattle.dual_rail.specs.Rail.{AreRails, Built, HasSet}
 use Rattle.dual_rail.proofs.Works.{Within, here, behind, So-start, Built-wider, first, last, pass, refs_of}
 use Rattle.dual_rail.proofs.Turns.{within_more}
-use Rattle.sym_step.specs.declared.rows.CoverRows.{CoverRows}
-use Rattle.sym_step.specs.private.NetSets.{HasNetSet, own_where}
+use Rattle.gate_sets.specs.declared.rows.CoverRows.{CoverRows}
+use Rattle.gate_sets.specs.NetSets.{HasNetSet, own_where}
 use Rattle.sym_step.proofs.Cutting.{Demands-keep}
-use Rattle.sym_step.proofs.NetRefs.{own_inputs}
-use Rattle.sym_step.proofs.Placed.{RowsAt, rows_at, by_cover, cover_is, full_output, known_output}
+use Rattle.gate_sets.proofs.NetRefs.{own_inputs}
+use Rattle.gate_sets.proofs.Placed.{RowsAt, rows_at, by_cover, cover_is, full_output, known_output}
 use Rattle.ste_base.specs.declared.id.NodeId.{NodeId}
 use Rattle.net_core.specs.declared.cover.Cover.{Cover}
 use Rattle.net_core.specs.declared.raw.Gate.{Gate}
 use Rattle.net_core.specs.Cases.{on_rows, off_rows}
 use Rattle.net_core.specs.Cover.{IsCover}
 use Rattle.net_core.specs.Work.{gate_set, gate_work}
-use Rattle.sym_step.specs.Step.{rows_of}
-use Rattle.sym_step.specs.private.NetSets.{HaveInputs, net_at, sets_at}
+use Rattle.gate_sets.specs.Lists.{rows_of}
+use Rattle.gate_sets.specs.NetSets.{HaveInputs, net_at, sets_at}
 use Rattle.sym_step.proofs.place.place.Goals as goal
 
 -- the lists that were read stand at the cover's number

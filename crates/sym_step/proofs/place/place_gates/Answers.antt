@@ -25,13 +25,13 @@ use Rattle.sym_step.proofs.Passing.{passed_to}
 use Rattle.sym_step.proofs.Reading.{follows_start, follows_then}
 use Rattle.ste_base.specs.declared.id.NodeId.{NodeId}
 use Rattle.sym_step.proofs.Cutting.{own_demands}
-use Rattle.sym_step.specs.declared.net_rails.NetRails.{NetRails}
+use Rattle.gate_sets.specs.declared.net_rails.NetRails.{NetRails}
 use Rattle.sym_step.specs.private.Boards.{Follows}
 use Rattle.sym_step.specs.private.Frames.{AreSpared, IsSpared}
 use Rattle.sym_step.specs.private.Readers.{flag_at}
 use Rattle.sym_step.specs.private.Parts.{HaveGates}
-use Rattle.sym_step.specs.private.NetSets.{AreNetRails, AreNetRefs, net_at, own_where}
-use Rattle.sym_step.proofs.NetRefs.{own_inputs, refs_of_net, All-net-refs-keep}
+use Rattle.gate_sets.specs.NetSets.{AreNetRails, AreNetRefs, net_at, own_where}
+use Rattle.gate_sets.proofs.NetRefs.{own_inputs, refs_of_net, All-net-refs-keep}
 use Rattle.net_core.specs.Work.{some_bit}
 use Rattle.std.proofs.Common.{◌∷◌}
 use Rattle.sym_step.proofs.place.place_gates.Goals as goal

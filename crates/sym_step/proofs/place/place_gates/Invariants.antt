@@ -6,7 +6,7 @@ use Rattle.net_core.specs.Work.{SymbolicSet, SymbolicCut, time_work}
 use Rattle.sym_step.specs.declared.cut.Cut.{Cut}
 use Rattle.sym_step.specs.private.Boards.{Follows}
 use Rattle.sym_step.specs.private.Frames.{AreSpared}
-use Rattle.sym_step.specs.private.NetSets.{AreNetRefs}
+use Rattle.gate_sets.specs.NetSets.{AreNetRefs}
 use Rattle.dual_rail.proofs.Works.{SoFar}
 use Rattle.sym_step.specs.Step.{IsCutBy}
 use Rattle.net_core.specs.Work.{ArePossibleEach}

@@ -10,14 +10,14 @@ use Rattle.net_core.specs.Cover.{IsCover}
 use Rattle.net_core.specs.Work.{SymbolicSet, after_cuts, cover_set, cover_work, cuts_work, gate_set, input_sets, output_set, some_bit}
 use Rattle.dual_rail.specs.Rail.{Whatever}
 use Rattle.dual_rail.proofs.Works.{Built-made, So-start, first, pass}
-use Rattle.sym_step.specs.declared.net_rails.NetRails.{NetRails}
-use Rattle.sym_step.specs.declared.rows.CoverRows.{CoverRows}
-use Rattle.sym_step.specs.private.Choices.{AreChoices, IsChoice}
-use Rattle.sym_step.specs.private.NetSets.{AreNetRails, AreNetRefs, HasNetSet, HaveInputs, net_at, sets_at}
-use Rattle.sym_step.specs.private.Numbers.{kind_at}
-use Rattle.sym_step.proofs.Choosing.{choice_net}
+use Rattle.gate_sets.specs.declared.net_rails.NetRails.{NetRails}
+use Rattle.gate_sets.specs.declared.rows.CoverRows.{CoverRows}
+use Rattle.gate_sets.specs.private.Choices.{AreChoices, IsChoice}
+use Rattle.gate_sets.specs.NetSets.{AreNetRails, AreNetRefs, HasNetSet, HaveInputs, net_at, sets_at}
+use Rattle.gate_sets.specs.private.Numbers.{kind_at}
+use Rattle.gate_sets.proofs.Choosing.{choice_net}
 use Rattle.sym_step.proofs.Cutting.{unmarked}
-use Rattle.sym_step.proofs.Placed.{BothLists, RowsAt, cover_lists, rows_at}
+use Rattle.gate_sets.proofs.Placed.{BothLists, RowsAt, cover_lists, rows_at}
 use Rattle.sym_step.proofs.Framing.{unlisted}
 use Rattle.sym_step.proofs.Sourced.{unknown}
 use Rattle.sym_step.proofs.place.renew.Goals as goal

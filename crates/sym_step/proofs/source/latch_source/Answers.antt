@@ -3,9 +3,9 @@ use Rattle.dd_nodes.specs.Diagram.{Function}
 use Rattle.dd_nodes.specs.Stores.{Store}
 use Rattle.net_core.specs.Work.{SymbolicSet, after_cuts, cuts_work, some_bit}
 use Rattle.dual_rail.proofs.Works.{So-start, Built-made}
-use Rattle.sym_step.specs.private.NetSets.{AreNetRails, HasNetSet}
+use Rattle.gate_sets.specs.NetSets.{AreNetRails, HasNetSet}
 use Rattle.sym_step.proofs.Cutting.{unmarked}
-use Rattle.sym_step.proofs.NetRefs.{net_by_rails}
+use Rattle.gate_sets.proofs.NetRefs.{net_by_rails}
 use Rattle.dd_nodes.specs.declared.node.Ref.{Ref}
 use Rattle.sym_step.proofs.source.latch_source.Goals as goal
 

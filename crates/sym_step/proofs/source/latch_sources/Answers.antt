@@ -1,7 +1,7 @@
 use Rattle.std.proofs.Common.{◌<◌, List, map, length, All, ℕ, ◌∙◌, arith, Ok, Err, subst, sym}
 use Rattle.sym_step.specs.private.Parts.{asks}
 use Rattle.sym_step.specs.private.Frames.{StayRight}
-use Rattle.sym_step.specs.private.NetSets.{AreNetRails, AreNetRefs, HasNetSet, net_at}
+use Rattle.gate_sets.specs.NetSets.{AreNetRails, AreNetRefs, HasNetSet, net_at}
 use Rattle.dd_nodes.specs.Diagram.{Function}
 use Rattle.dd_nodes.specs.Stores.{Store, IsRef, function}
 use Rattle.dd_nodes.proofs.Walks.{IsFrom-grows}
@@ -17,14 +17,14 @@ use Rattle.sym_step.proofs.Latched.{all_latches}
 use Rattle.dual_rail.proofs.Works.{Rails-keep, own_set}
 use Rattle.std.proofs.lemmas.List.{get_or_default}
 use Rattle.std.proofs.Common.{◌≡◌, get_or, false}
-use Rattle.sym_step.proofs.NetRefs.{Net-refs-keep, refs_of_net}
+use Rattle.gate_sets.proofs.NetRefs.{Net-refs-keep, refs_of_net}
 use Rattle.dual_rail.proofs.Turns.{Refs-keep}
 use Rattle.sym_step.proofs.Cutting.{Demands-keep}
 use Rattle.sym_step.proofs.Reading.{follows_start, follows_then}
 use Rattle.sym_step.proofs.Opened.{here_put, latches_next, set_is, stay_put, stay_start, stay_then}
 use Rattle.sym_step.proofs.Sourced.{cuts_within}
-use Rattle.sym_step.specs.declared.net_rails.NetRails.{NetRails}
-use Rattle.sym_step.proofs.NetRefs.{All-net-refs-keep}
+use Rattle.gate_sets.specs.declared.net_rails.NetRails.{NetRails}
+use Rattle.gate_sets.proofs.NetRefs.{All-net-refs-keep}
 use Rattle.sym_step.proofs.Turning.{set_refs, with_some}
 use Rattle.dual_rail.proofs.Works.{Built-covers}
 use Rattle.dual_rail.specs.Rail.{AreRails}

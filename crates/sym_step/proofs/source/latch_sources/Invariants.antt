@@ -9,7 +9,7 @@ use Rattle.net_core.specs.Work.{ArePossibleEach}
 use Rattle.sym_step.specs.private.Boards.{Follows}
 use Rattle.sym_step.specs.private.Frames.{StayRight}
 use Rattle.sym_step.specs.private.Latches.{AreGiven, HaveLatchSets}
-use Rattle.sym_step.specs.private.NetSets.{AreNetRefs}
+use Rattle.gate_sets.specs.NetSets.{AreNetRefs}
 use Rattle.sym_step.proofs.source.latch_sources.Given as goal
 
 -- the nets of the first sets have theirs

@@ -8,8 +8,8 @@ use Rattle.net_core.specs.declared.source.Source.TheVariants.{Input, Free, Latch
 use Rattle.net_core.specs.Work.{uncut, everything}
 use Rattle.dual_rail.proofs.Works.{Built-good}
 use Rattle.sym_step.proofs.Sourced.{unknown_set, before_by}
-use Rattle.sym_step.specs.private.NetSets.{HasNetSet}
-use Rattle.sym_step.proofs.NetRefs.{refs_of_net}
+use Rattle.gate_sets.specs.NetSets.{HasNetSet}
+use Rattle.gate_sets.proofs.NetRefs.{refs_of_net}
 use Rattle.net_core.specs.Work.{some_bit}
 use Rattle.std.proofs.Common.{◌∷◌}
 use Rattle.std.proofs.Common.{◌≡◌, ◌≢◌, ⊎_elim}
@@ -17,7 +17,8 @@ use Rattle.net_core.specs.declared.raw.RawNet.{RawNet}
 use Rattle.net_core.specs.declared.source.Source.{Source}
 use Rattle.net_core.specs.declared.source.Source.TheVariants.{Gate as OfGate}
 use Rattle.net_core.specs.Source.{source_of}
-use Rattle.sym_step.specs.private.Frames.{IsOpen, IsOpened}
+use Rattle.sym_step.specs.Frame.{IsOpen}
+use Rattle.sym_step.specs.private.Frames.{IsOpened}
 use Rattle.sym_step.proofs.source.open_source.Goals as goal
 
 driven : (net : RawNet) (id : ℕ) (src : Source) → src ≢ Input → src ≢ Free → source_of net id ≡ src → IsOpen net id → ⊥

@@ -1,10 +1,11 @@
 use Rattle.std.proofs.Common.{◌<◌, List, map, length, All, ℕ, ◌∙◌, arith, Ok, Err, subst, sym}
 use Rattle.sym_step.specs.private.Parts.{asks}
-use Rattle.sym_step.specs.private.Frames.{IsOpen, IsOpened, StayRight}
+use Rattle.sym_step.specs.Frame.{IsOpen}
+use Rattle.sym_step.specs.private.Frames.{IsOpened, StayRight}
 use Rattle.ste_base.specs.declared.id.NodeId.{NodeId}
 use Rattle.std.specs.Prelude.{◌⊎◌}
 use Rattle.std.proofs.Common.{[], inl, inr}
-use Rattle.sym_step.specs.private.NetSets.{AreNetRails, AreNetRefs, net_at, own_where}
+use Rattle.gate_sets.specs.NetSets.{AreNetRails, AreNetRefs, net_at, own_where}
 use Rattle.dd_nodes.specs.Diagram.{Function}
 use Rattle.dd_nodes.specs.Stores.{Store, IsRef, function}
 use Rattle.dd_nodes.proofs.Walks.{IsFrom-grows}
@@ -20,8 +21,8 @@ use Rattle.sym_step.proofs.Cutting.{Demands-keep}
 use Rattle.sym_step.proofs.Reading.{follows_start, follows_then}
 use Rattle.sym_step.proofs.Opened.{here_put, open_next, set_is, set_was, stay_put, stay_start, stay_then}
 use Rattle.sym_step.proofs.Sourced.{cuts_within, unknown}
-use Rattle.sym_step.specs.declared.net_rails.NetRails.{NetRails}
-use Rattle.sym_step.proofs.NetRefs.{All-net-refs-keep}
+use Rattle.gate_sets.specs.declared.net_rails.NetRails.{NetRails}
+use Rattle.gate_sets.proofs.NetRefs.{All-net-refs-keep}
 use Rattle.sym_step.proofs.Turning.{set_refs, with_some}
 use Rattle.dual_rail.proofs.Works.{Built-covers}
 use Rattle.net_core.specs.Work.{ArePossibleEach, some_bit}

@@ -8,7 +8,7 @@ use Rattle.sym_step.specs.Step.{IsCutBy}
 use Rattle.net_core.specs.Work.{ArePossibleEach}
 use Rattle.sym_step.specs.private.Boards.{Follows}
 use Rattle.sym_step.specs.private.Frames.{HaveOpen, StayRight}
-use Rattle.sym_step.specs.private.NetSets.{AreNetRefs}
+use Rattle.gate_sets.specs.NetSets.{AreNetRefs}
 use Rattle.sym_step.proofs.source.open_sources.Given as goal
 
 -- the first of the nets have their sets

@@ -7,7 +7,8 @@ use Rattle.dual_rail.specs.Rail.{Whatever}
 use Rattle.dual_rail.proofs.Works.{So-start, first, last, more, pass}
 use Rattle.ste_base.specs.declared.id.NodeId.{NodeId}
 use Rattle.sym_step.specs.declared.cut.Cut.{Cut}
-use Rattle.sym_step.specs.private.Frames.{HaveOpen, is_listed}
+use Rattle.sym_step.specs.Frame.{is_listed}
+use Rattle.sym_step.specs.private.Frames.{HaveOpen}
 use Rattle.sym_step.specs.private.Parts.{asks}
 use Rattle.sym_step.proofs.Cutting.{Demands-keep}
 use Rattle.sym_step.proofs.Reading.{follows_then}

@@ -6,8 +6,9 @@ use Rattle.ste_base.specs.declared.id.NodeId.{NodeId}
 use Rattle.dual_rail.specs.declared.rails.Rails.{Rails}
 use Rattle.dual_rail.specs.Rail.{AreRails}
 use Rattle.sym_step.specs.declared.frame.Frame.{Frame}
-use Rattle.sym_step.specs.declared.net_rails.NetRails.{NetRails}
-use Rattle.sym_step.specs.private.Frames.{AreCarried, next_of}
+use Rattle.gate_sets.specs.declared.net_rails.NetRails.{NetRails}
+use Rattle.sym_step.specs.Frame.{next_of}
+use Rattle.sym_step.specs.private.Frames.{AreCarried}
 use Rattle.sym_step.specs.private.Latches.{AreGiven, AreLatchSets, Begins, HaveMarks}
 use Rattle.sym_step.proofs.Framing.{next_first}
 use Rattle.sym_step.proofs.Latched.{begins, frame_given, next_same, sets_held}

@@ -11,7 +11,7 @@ use Rattle.dual_rail.proofs.Works.{So-start, Built-made, lost, first, pass}
 use Rattle.sym_step.specs.declared.frame.Frame.{Frame}
 use Rattle.sym_step.specs.declared.made.Step.{Step}
 use Rattle.sym_step.specs.Step.{IsStep}
-use Rattle.sym_step.specs.private.Frames.{AreFirst, first_or, input_rails, nets_of, step_of}
+use Rattle.sym_step.specs.Frame.{AreFirst, first_or, input_rails, nets_of, step_of}
 use Rattle.sym_step.proofs.Framing.{same_step, with_first}
 use Rattle.sym_step.proofs.time.made_at.Goals as goal
 

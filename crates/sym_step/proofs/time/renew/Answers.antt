@@ -6,7 +6,7 @@ use Rattle.net_core.proofs.Ordered.{settled_by_order}
 use Rattle.dual_rail.specs.declared.rails.Rails.{Rails}
 use Rattle.sym_step.specs.declared.frame.Frame.{Frame}
 use Rattle.sym_step.specs.Step.{IsStep}
-use Rattle.sym_step.specs.private.Frames.{AreFirst, next_of, step_of}
+use Rattle.sym_step.specs.Frame.{AreFirst, next_of, step_of}
 use Rattle.sym_step.proofs.Framing.{next_first}
 use Rattle.sym_step.proofs.Whole.{empty_ref, exist, own_call}
 use Rattle.net_core.specs.declared.raw.RawNet.{RawNet}

@@ -14,9 +14,10 @@ use Rattle.dual_rail.specs.Rail.{Whatever}
 use Rattle.dual_rail.proofs.Works.{So-start, Built-made, first, lost, pass, set_where}
 use Rattle.dual_rail.proofs.Turns.{own_zip}
 use Rattle.sym_step.specs.declared.frame.Frame.{Frame}
-use Rattle.sym_step.specs.declared.net_rails.NetRails.{NetRails}
+use Rattle.gate_sets.specs.declared.net_rails.NetRails.{NetRails}
 use Rattle.sym_step.specs.declared.latches.LatchSet.{LatchSet}
-use Rattle.sym_step.specs.private.Frames.{AreCarried, AreFirst, AreOpen, AreSpared, is_listed, next_of}
+use Rattle.sym_step.specs.Frame.{AreFirst, AreOpen, is_listed, next_of}
+use Rattle.sym_step.specs.private.Frames.{AreCarried, AreSpared}
 use Rattle.sym_step.specs.private.Latches.{AreGiven, HaveMarks, IsLatchSet}
 use Rattle.sym_step.specs.private.Readers.{AreReaders}
 use Rattle.sym_step.specs.private.Parts.{AreMarks, HaveNets}

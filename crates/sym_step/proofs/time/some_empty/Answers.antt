@@ -11,9 +11,9 @@ use Rattle.dual_rail.specs.Rail.{HasFunction}
 use Rattle.dd_nodes.proofs.Spending.{zero_means}
 use Rattle.dual_rail.proofs.Turns.{zip_long}
 use Rattle.sym_step.proofs.Emptied.{empty_turn}
-use Rattle.sym_step.specs.declared.net_rails.NetRails.{NetRails}
-use Rattle.sym_step.specs.private.NetSets.{AreNetRails, own_where}
-use Rattle.sym_step.proofs.NetRefs.{Net-refs-keep}
+use Rattle.gate_sets.specs.declared.net_rails.NetRails.{NetRails}
+use Rattle.gate_sets.specs.NetSets.{AreNetRails, own_where}
+use Rattle.gate_sets.proofs.NetRefs.{Net-refs-keep}
 use Rattle.sym_step.proofs.time.some_empty.Goals as goal
 
 abbrev none : NetRails

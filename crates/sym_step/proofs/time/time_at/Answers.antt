@@ -9,16 +9,16 @@ use Rattle.dd_nodes.specs.declared.node.Ref.{Ref}
 use Rattle.dual_rail.specs.declared.rails.Rails.{Rails}
 use Rattle.net_core.specs.declared.raw.RawNet.{RawNet}
 use Rattle.sym_step.specs.declared.frame.Frame.{Frame}
-use Rattle.sym_step.specs.private.Frames.{first_or, input_rails, nets_of, step_of}
-use Rattle.sym_step.specs.declared.net_rails.NetRails.{NetRails}
-use Rattle.sym_step.specs.private.NetSets.{AreNetRails, own_where}
+use Rattle.sym_step.specs.Frame.{first_or, input_rails, nets_of, step_of}
+use Rattle.gate_sets.specs.declared.net_rails.NetRails.{NetRails}
+use Rattle.gate_sets.specs.NetSets.{AreNetRails, own_where}
 use Rattle.sym_step.specs.private.Parts.{HaveNets}
 use Rattle.sym_step.specs.Step.{IsStep}
 use Rattle.std.specs.Prelude.{IsTrue}
 use Rattle.sym_step.specs.private.Boards.{AreFull}
 use Rattle.sym_step.proofs.Emptied.{none_empty}
 use Rattle.sym_step.proofs.Framing.{frame_keeps, own_nets, with_full}
-use Rattle.sym_step.proofs.NetRefs.{Net-keeps}
+use Rattle.gate_sets.proofs.NetRefs.{Net-keeps}
 use Rattle.sym_step.proofs.Sourced.{sets_zip, empties_within, step_is}
 use Rattle.sym_step.proofs.time.time_at.Goals as goal
 

@@ -1,7 +1,7 @@
 use Rattle.std.proofs.Common.{◌≡◌, All, length}
 use Rattle.dual_rail.specs.Rail.{AreRefs}
 use Rattle.sym_step.specs.Step.{IsCutOf}
-use Rattle.sym_step.specs.private.Frames.{IsFrame}
+use Rattle.sym_step.specs.Frame.{IsFrame}
 use Rattle.sym_step_tests.proofs.tests.frames_with.Given as goal
 
 -- what the next time goes on with is sound

@@ -4,7 +4,7 @@ use Rattle.dd_nodes.specs.Stores.{Keeps, Store, gets}
 use Rattle.dd_growing.specs.Growing.{grown_store}
 use Rattle.dd_growing.specs.private.GrowingLaws.{growing_diagram}
 use Rattle.sym_step.specs.declared.frame.Frame.{Frame}
-use Rattle.sym_step.specs.private.Frames.{IsFrame}
+use Rattle.sym_step.specs.Frame.{IsFrame}
 use Rattle.work_pool.proofs.Frames.{last_keeps}
 use Rattle.work_pool.proofs.alone.check_anew.Goals as goal
 

@@ -2,7 +2,7 @@ use Rattle.std.proofs.Common.{◌≡◌, length, take}
 use Rattle.std.specs.Prelude.{IfSome}
 use Rattle.std.specs.List.{AllZip}
 use Rattle.dd_growing.specs.Growing.{grown_store}
-use Rattle.sym_step.specs.private.Frames.{IsFrame}
+use Rattle.sym_step.specs.Frame.{IsFrame}
 use Rattle.work_pool.specs.Told.{IsToldOf}
 use Rattle.work_pool.proofs.alone.run_alone.Given as goal
 

@@ -2,7 +2,7 @@ use Rattle.std.proofs.Common.{Option, subst, sym}
 use Rattle.std.specs.Prelude.{IfSome}
 use Rattle.dd_nodes.specs.Stores.{Store}
 use Rattle.sym_step.specs.declared.frame.Frame.{Frame}
-use Rattle.sym_step.specs.private.Frames.{IsFrame}
+use Rattle.sym_step.specs.Frame.{IsFrame}
 use Rattle.work_pool.proofs.pool.pass_on.Goals as goal
 
 pub returns : goal.returns

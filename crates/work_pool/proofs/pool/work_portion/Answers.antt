@@ -1,7 +1,7 @@
 use Rattle.std.proofs.Common.{arith, subst, sym}
 use Rattle.std.specs.Prelude.{IfSome}
 use Rattle.std.proofs.lemmas.List.{get_or-set_same, length-set}
-use Rattle.sym_step.specs.private.Frames.{IsFrame}
+use Rattle.sym_step.specs.Frame.{IsFrame}
 use Rattle.work_pool.proofs.Portions.{done_next, long_next, one_table, rest_next, same_next}
 use Rattle.work_pool.proofs.pool.work_portion.Goals as goal
 

@@ -1,7 +1,7 @@
 use Rattle.std.proofs.Common.{◌≡◌, ◌<◌, ◌≤◌, ℕ, get_or, length}
 use Rattle.std.specs.Prelude.{IfSome}
 use Rattle.ste_model.specs.declared.task.Task.{Task}
-use Rattle.sym_step.specs.private.Frames.{IsFrame}
+use Rattle.sym_step.specs.Frame.{IsFrame}
 use Rattle.work_pool.specs.private.Jobs.{IsDone, IsLike}
 use Rattle.work_pool.proofs.pool.work_portion.Given as goal
 

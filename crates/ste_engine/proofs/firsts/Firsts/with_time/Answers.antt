@@ -1,7 +1,7 @@
 use Rattle.std.proofs.Common.{Option, sym, subst}
 use Rattle.std.specs.Prelude.{IfSome}
 use Rattle.ste_base.specs.declared.id.NodeId.{NodeId}
-use Rattle.sym_step.specs.private.Frames.{nets_of}
+use Rattle.sym_step.specs.Frame.{nets_of}
 use Rattle.engine_parts.specs.declared.failing.Failure.TheVariants.{Strong, Weak}
 use Rattle.ste_engine.specs.private.Firsts.{IsFirstAt}
 use Rattle.ste_engine.proofs.FirstPlaces.{clear_at, old_or_clear}

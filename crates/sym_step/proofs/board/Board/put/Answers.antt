@@ -1,6 +1,6 @@
 use Rattle.std.proofs.Common.{List, refl, ◌∙◌}
 use Rattle.std.proofs.lemmas.List.{get_or_default}
-use Rattle.sym_step.specs.declared.net_rails.NetRails.{NetRails}
+use Rattle.gate_sets.specs.declared.net_rails.NetRails.{NetRails}
 use Rattle.sym_step.proofs.Reading.{follows_marked, follows_same}
 use Rattle.sym_step.proofs.board.Board.put.Goals as goal
 

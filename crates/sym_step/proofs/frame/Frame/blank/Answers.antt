@@ -3,8 +3,8 @@ use Rattle.std.specs.Prelude.{AllPairs, ◌≢◌}
 use Rattle.net_core.specs.declared.raw.Gate.{Gate}
 use Rattle.net_core.specs.declared.raw.Latch.{Latch}
 use Rattle.net_core.specs.Flat.{IsSettledOrder}
-use Rattle.sym_step.specs.private.Frames.{mark_count}
-use Rattle.sym_step.specs.declared.net_rails.NetRails.{NetRails}
+use Rattle.sym_step.specs.Frame.{mark_count}
+use Rattle.gate_sets.specs.declared.net_rails.NetRails.{NetRails}
 use Rattle.sym_step.proofs.Apart.{apart}
 use Rattle.sym_step.proofs.Opened.{blank_is}
 use Rattle.sym_step.proofs.Reading.{few_numbers}

@@ -1,6 +1,6 @@
 use Rattle.std.proofs.Common.{◌≡◌, List, Some, subst}
 use Rattle.dual_rail.specs.declared.rails.Rails.{Rails}
-use Rattle.sym_step.specs.private.Frames.{AreFirst}
+use Rattle.sym_step.specs.Frame.{AreFirst}
 use Rattle.sym_step.proofs.Framing.{with_first}
 use Rattle.sym_step.proofs.frame.Frame.starting.Goals as goal
 

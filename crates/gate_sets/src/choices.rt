@@ -1,0 +1,161 @@
+//! The sets that gates of few inputs give where those of their inputs are constants; begin with `Choices`.
+
+ghost use Rattle.std.specs.Prelude.{◌≡◌, ◌≢◌, ◌↔◌, ◌≤◌, ◌<◌, ◌^◌, ◌/◌, ℕ, All, IsTrue, length, max};
+ghost use Rattle.std.specs.Int.{bit_at};
+ghost use Rattle.net_core.specs.Work.{AreWide};
+ghost use Rattle.gate_sets.specs.private.Choices.{AreChoices, AreConstant, HaveChoice, IsChoice, IsDigit, lit_bit, row_bit, rows_bit};
+ghost use Rattle.gate_sets.specs.NetSets.{net_at};
+
+use crate::net_rails::NetRails;
+use dd_nodes::Ref;
+use dual_rail::are_constant;
+use net_core::{Lit, Row};
+use ste_base::NodeId;
+
+/// The number of choices of constant sets for three inputs.
+pub const CHOICES: usize = 64;
+
+/// The most inputs of a cover with choices.
+const MOST_INPUTS: u32 = 3;
+
+/// For a cover of at most three inputs, whether its gate can be 0, and whether it can be 1, for each choice of constant
+/// sets of the inputs: a bit of a word for each choice. The digits of a choice to the base 4, from the lowest on, are the
+/// sets of the inputs, from the first on: 1 where a set has 0, and 2 more where it has 1.
+#[derive(Clone, Copy, Drop)]
+pub struct Choices {
+    pub can0: u64,
+    pub can1: u64,
+}
+
+/// The word of the choices in which the set at a place has 0.
+fn zero_word(place: usize) -> u64
+    requires { place < 3 }
+    ensures { (choice : ℕ) → choice < 64
+        → bit_at result choice ≡ bit_at (choice / 4 ^ place) 0 }
+{
+    if place == 0 {
+        0xAAAA_AAAA_AAAA_AAAA
+    } else if place == 1 {
+        0xF0F0_F0F0_F0F0_F0F0
+    } else {
+        0xFFFF_0000_FFFF_0000
+    }
+}
+
+/// The word of the choices in which the set at a place has 1.
+fn one_word(place: usize) -> u64
+    requires { place < 3 }
+    ensures { (choice : ℕ) → choice < 64
+        → bit_at result choice ≡ bit_at (choice / 4 ^ place) 1 }
+{
+    if place == 0 {
+        0xCCCC_CCCC_CCCC_CCCC
+    } else if place == 1 {
+        0xFF00_FF00_FF00_FF00
+    } else {
+        0xFFFF_FFFF_0000_0000
+    }
+}
+
+/// The word of the choices in which a literal admits some bit of the set at its place.
+fn lit_word(lit: Lit, place: usize) -> u64
+    requires { place < 3 }
+    ensures { (choice : ℕ) → choice < 64
+        → bit_at result choice ≡ lit_bit lit (choice / 4 ^ place) }
+{
+    match lit {
+        Lit::Zero => zero_word(place),
+        Lit::One => one_word(place),
+        Lit::Any => zero_word(place) | one_word(place),
+    }
+}
+
+/// The word of the choices in which each literal of a row admits some bit of its set.
+fn row_word(row: &[Lit]) -> u64
+    requires { length row.now ≤ 3 }
+    ensures { (choice : ℕ) → choice < 64 → bit_at result choice ≡ row_bit row.now choice }
+{
+    let mut word = u64::MAX;
+    for place in 0..row.len() {
+        word = word & lit_word(row[place], place);
+    }
+    word
+}
+
+/// The word of the choices in which some row matches bits of the sets.
+fn rows_word(rows: &[Row]) -> u64
+    requires { All (λ row. length row ≤ 3) rows.now }
+    ensures { (choice : ℕ) → choice < 64 → bit_at result choice ≡ rows_bit rows.now choice }
+{
+    let mut word = 0;
+    for row in rows {
+        word = word | row_word(row.as_slice());
+    }
+    word
+}
+
+impl Choices {
+    /// The choices of a cover with so many inputs, by the rows that match where it is 1, and where it is 0. Where there are
+    /// more than three inputs the words say nothing.
+    pub fn of(width: u32, on: &[Row], off: &[Row]) -> Choices
+        requires on { AreWide on.now width }
+        requires off { AreWide off.now width }
+        ensures { width ≤ 3 → AreChoices on.now off.now result }
+    {
+        if width > MOST_INPUTS {
+            return Choices { can0: 0, can1: 0 };
+        }
+        Choices {
+            can0: rows_word(off),
+            can1: rows_word(on),
+        }
+    }
+
+    /// The set of the gate's output for this choice.
+    pub fn net(self, choice: usize) -> NetRails
+        requires { choice < 64 }
+        ensures zero { result.can0.0 ≡ bit_at self.can0 choice }
+        ensures one { result.can1.0 ≡ bit_at self.can1 choice }
+        ensures some { result.some.0 ≡ max result.can0.0 result.can1.0 }
+        ensures known { IsTrue result.known ↔ (result.can0.0 ≢ result.can1.0) }
+    {
+        let can0 = ((self.can0 >> choice) & 1) as u32;
+        let can1 = ((self.can1 >> choice) & 1) as u32;
+        NetRails {
+            can0: Ref(can0),
+            can1: Ref(can1),
+            some: Ref(can0.max(can1)),
+            known: can0 != can1,
+        }
+    }
+}
+
+/// The digit of a net whose set is a constant, and 64 where it is none.
+fn digit(nets: &[NetRails], input: NodeId) -> usize
+    requires { input.0 < length nets.now }
+    ensures within { result ≤ 64 }
+    ensures digit { result < 64 → IsDigit (net_at nets.now input.0) result }
+    ensures constant { result < 64 ↔ AreConstant (net_at nets.now input.0) }
+{
+    let r = nets[input.0 as usize];
+    if are_constant(r.can0, r.can1) {
+        (r.can0.0 + 2 * r.can1.0) as usize
+    } else {
+        CHOICES
+    }
+}
+
+/// The choice which the sets of these nets are, where they are at most three, and constants; else no number below 64.
+pub fn choice_of(nets: &[NetRails], inputs: &[NodeId]) -> usize
+    requires { All (λ input. input.0 < length nets.now) inputs.now }
+    ensures choice { result < 64 → IsChoice nets.now inputs.now result }
+    ensures constant { result < 64 ↔ HaveChoice nets.now inputs.now }
+{
+    match inputs {
+        [] => 0,
+        [a] => digit(nets, *a),
+        [a, b] => digit(nets, *a) + 4 * digit(nets, *b),
+        [a, b, c] => digit(nets, *a) + 4 * digit(nets, *b) + 16 * digit(nets, *c),
+        _ => CHOICES,
+    }
+}

@@ -1,0 +1,280 @@
+//! Tables of the rows of covers with few inputs, and what they tell of some inputs' sets; begin with `settle` and `told`.
+
+ghost use Rattle.std.specs.Prelude.{◌≡◌, ◌≤◌, ◌<◌, ◌+◌, ℕ, Bool, false, true, not, List, IfSome, get_or, length, set};
+ghost use Rattle.std.specs.Int.{bit_at};
+ghost use Rattle.net_core.specs.Cover.{admits, matches, some_matches};
+ghost use Rattle.net_core.specs.Work.{AreWide};
+ghost use Rattle.dual_rail.specs.declared.rails.Rails.{Rails};
+ghost use Rattle.gate_sets.specs.private.Tables.{AreAlike, AreBothTold, AreSettled, AreTables, IsTold, in_table};
+
+use dd_nodes::Ref;
+use dual_rail::Rails;
+use net_core::{Lit, Row};
+
+/// The most inputs of a cover with tables.
+pub const MOST_INPUTS: usize = 6;
+
+/// For a cover of at most six inputs, its tables: the choices of bits for which its gate is 0, and those for which it is 1, a
+/// bit of a word for each choice. The digits of a choice to the base 2, from the lowest on, are the inputs' bits, from the
+/// first on. Where there are fewer inputs, all choices that differ in other digits alone are treated alike.
+#[derive(Clone, Copy, PartialEq, Eq, Drop)]
+pub struct Tables {
+    pub can0: u64,
+    pub can1: u64,
+}
+
+/// The table of the choices in which the input at a place is 0.
+fn zeros(place: usize) -> u64
+    requires { place < 6 }
+    ensures bits { (k : ℕ) → k < 64 → bit_at result k + bit_at k place ≡ 1 }
+    ensures choices { (choice : List Bool) → length choice ≤ 6 → place < length choice
+        → in_table result choice ≡ not (get_or choice place false) }
+{
+    if place == 0 {
+        0x5555_5555_5555_5555
+    } else if place == 1 {
+        0x3333_3333_3333_3333
+    } else if place == 2 {
+        0x0F0F_0F0F_0F0F_0F0F
+    } else if place == 3 {
+        0x00FF_00FF_00FF_00FF
+    } else if place == 4 {
+        0x0000_FFFF_0000_FFFF
+    } else {
+        0x0000_0000_FFFF_FFFF
+    }
+}
+
+/// The table of the choices in which the input at a place is 1.
+fn ones(place: usize) -> u64
+    requires { place < 6 }
+    ensures bits { (k : ℕ) → k < 64 → bit_at result k ≡ bit_at k place }
+    ensures choices { (choice : List Bool) → length choice ≤ 6 → place < length choice
+        → in_table result choice ≡ get_or choice place false }
+{
+    if place == 0 {
+        0xAAAA_AAAA_AAAA_AAAA
+    } else if place == 1 {
+        0xCCCC_CCCC_CCCC_CCCC
+    } else if place == 2 {
+        0xF0F0_F0F0_F0F0_F0F0
+    } else if place == 3 {
+        0xFF00_FF00_FF00_FF00
+    } else if place == 4 {
+        0xFFFF_0000_FFFF_0000
+    } else {
+        0xFFFF_FFFF_0000_0000
+    }
+}
+
+/// The table of the choices that are in this one with the input at a place 0.
+fn with_zero(table: u64, place: usize) -> u64
+    requires { place < 6 }
+    ensures { (choice : List Bool) → length choice ≤ 6 → place < length choice
+        → in_table result choice ≡ in_table table (set choice place false) }
+{
+    let low = table & zeros(place);
+    low | (low << (1u32 << place))
+}
+
+/// The table of the choices that are in this one with the input at a place 1.
+fn with_one(table: u64, place: usize) -> u64
+    requires { place < 6 }
+    ensures { (choice : List Bool) → length choice ≤ 6 → place < length choice
+        → in_table result choice ≡ in_table table (set choice place true) }
+{
+    let high = table & ones(place);
+    high | (high >> (1u32 << place))
+}
+
+/// The tables with the input at a place free, where its set is a constant: of those choices alone that the constant has.
+fn constant_at(tables: Tables, place: usize, r: Rails) -> Option<Tables>
+    requires { place < 6 }
+    ensures { IfSome result (λ after. AreSettled tables after place r) }
+{
+    if r.can0 == Ref::FALSE {
+        return Some(Tables {
+            can0: with_one(tables.can0, place),
+            can1: with_one(tables.can1, place),
+        });
+    }
+    if r.can1 == Ref::FALSE {
+        return Some(Tables {
+            can0: with_zero(tables.can0, place),
+            can1: with_zero(tables.can1, place),
+        });
+    }
+    if r.can0 == Ref::TRUE && r.can1 == Ref::TRUE {
+        return Some(Tables {
+            can0: with_zero(tables.can0, place) | with_one(tables.can0, place),
+            can1: with_zero(tables.can1, place) | with_one(tables.can1, place),
+        });
+    }
+    None
+}
+
+/// The tables with the input at a place free, where they do not depend on it.
+fn unused_at(tables: Tables, place: usize) -> Option<Tables>
+    requires { place < 6 }
+    ensures { IfSome result (λ after. (r : Rails) → AreSettled tables after place r) }
+{
+    let can0 = with_zero(tables.can0, place);
+    if can0 != with_one(tables.can0, place) {
+        return None;
+    }
+    let can1 = with_zero(tables.can1, place);
+    if can1 != with_one(tables.can1, place) {
+        return None;
+    }
+    Some(Tables { can0, can1 })
+}
+
+/// Makes the input at a place free where its set is a constant, and gives the tables then.
+fn settle_constant(tables: Tables, operands: &mut [Rails], place: usize) -> Tables
+    requires few { length operands.old ≤ 6 }
+    requires place { place < length operands.old }
+    ensures { AreAlike tables result operands.old operands.new }
+{
+    let Some(after) = constant_at(tables, place, operands[place]) else {
+        return tables;
+    };
+    operands[place] = Rails {
+        can0: Ref::TRUE,
+        can1: Ref::TRUE,
+    };
+    after
+}
+
+/// Whether the set has both bits everywhere.
+fn is_free(r: Rails) -> bool {
+    r.can0 == Ref::TRUE && r.can1 == Ref::TRUE
+}
+
+/// Makes the input at a place free where the tables do not depend on it, and gives the tables then. One that is free already
+/// is not looked at again.
+fn settle_unused(tables: Tables, operands: &mut [Rails], place: usize) -> Tables
+    requires few { length operands.old ≤ 6 }
+    requires place { place < length operands.old }
+    ensures { AreAlike tables result operands.old operands.new }
+{
+    if is_free(operands[place]) {
+        return tables;
+    }
+    let Some(after) = unused_at(tables, place) else {
+        return tables;
+    };
+    operands[place] = Rails {
+        can0: Ref::TRUE,
+        can1: Ref::TRUE,
+    };
+    after
+}
+
+/// Takes out of the tables what the constants among some sets tell: each of them, and then each set that the tables do not
+/// depend on any more, becomes that of both bits. Where the sets have bits that are a choice of a table stays the same, if
+/// none of them is empty anywhere.
+pub fn settle(tables: Tables, operands: &mut [Rails]) -> Tables
+    requires { length operands.old ≤ 6 }
+    ensures { AreAlike tables result operands.old operands.new }
+{
+    let mut now = tables;
+    for place in 0..operands.len() {
+        now = settle_constant(now, operands, place);
+    }
+    for place in 0..operands.len() {
+        now = settle_unused(now, operands, place);
+    }
+    now
+}
+
+/// Where some sets, none of which is empty anywhere, have bits that are a choice of the table, if no more than one of them
+/// decides; else none.
+fn told_by(table: u64, operands: &[Rails]) -> Option<Ref>
+    requires { length operands.now ≤ 6 }
+    ensures { IfSome result (λ r. IsTold table operands.now r) }
+{
+    if table == 0 {
+        return Some(Ref::FALSE);
+    }
+    if table == u64::MAX {
+        return Some(Ref::TRUE);
+    }
+    for place in 0..operands.len() {
+        if table == ones(place) {
+            return Some(operands[place].can1);
+        }
+        if table == zeros(place) {
+            return Some(operands[place].can0);
+        }
+    }
+    None
+}
+
+/// The same for both tables.
+pub fn told(tables: Tables, operands: &[Rails]) -> Option<Rails>
+    requires { length operands.now ≤ 6 }
+    ensures { IfSome result (λ r. AreBothTold tables operands.now r) }
+{
+    let can0 = told_by(tables.can0, operands)?;
+    let can1 = told_by(tables.can1, operands)?;
+    Some(Rails { can0, can1 })
+}
+
+/// The table of the choices in which a literal admits the bit at its place.
+fn lit_table(lit: Lit, place: usize) -> u64
+    requires { place < 6 }
+    ensures { (choice : List Bool) → length choice ≤ 6 → place < length choice
+        → in_table result choice ≡ admits lit (get_or choice place false) }
+{
+    match lit {
+        Lit::Zero => zeros(place),
+        Lit::One => ones(place),
+        Lit::Any => u64::MAX,
+    }
+}
+
+/// The table of the choices that a row matches.
+fn row_table(row: &[Lit]) -> u64
+    requires { length row.now ≤ 6 }
+    ensures { (choice : List Bool) → length choice ≡ length row.now
+        → in_table result choice ≡ matches row.now choice }
+{
+    let mut table = u64::MAX;
+    for place in 0..row.len() {
+        table = table & lit_table(row[place], place);
+    }
+    table
+}
+
+/// The table of the choices that some row matches.
+fn rows_table(rows: &[Row], width: u32) -> u64
+    requires few { width ≤ 6 }
+    requires wide { AreWide rows.now width }
+    ensures { (choice : List Bool) → length choice ≡ width
+        → in_table result choice ≡ some_matches rows.now choice }
+{
+    let _ = width;
+    let mut table = 0;
+    for row in rows {
+        table = table | row_table(row.as_slice());
+    }
+    table
+}
+
+impl Tables {
+    /// The tables of a cover with so many inputs, by the rows that match where it is 1, and where it is 0. Where there are more
+    /// than six inputs they say nothing.
+    pub fn of(width: u32, on: &[Row], off: &[Row]) -> Tables
+        requires on { AreWide on.now width }
+        requires off { AreWide off.now width }
+        ensures { width ≤ 6 → AreTables on.now off.now width result }
+    {
+        if width as usize > MOST_INPUTS {
+            return Tables { can0: 0, can1: 0 };
+        }
+        Tables {
+            can0: rows_table(off, width),
+            can1: rows_table(on, width),
+        }
+    }
+}
