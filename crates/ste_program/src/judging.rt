@@ -169,9 +169,9 @@ pub fn reports_of<R: Threads + Sync, G: Gate + Sync>(
         return told_in_tries(rt, alloc, asked, net, rows, tasks, steps, gate);
     }
     let cubes = asked.cubes;
-    let reports = run_alone(alloc, net, rows, tasks, steps, cubes, gate)?;
+    let answer = run_alone(alloc, net, rows, tasks, steps, cubes, gate)?;
     Ok(Reports {
-        reports,
+        reports: answer.reports,
         shared: None,
     })
 }
@@ -263,7 +263,7 @@ fn told_again<R: Threads + Sync, G: Gate + Sync>(
         rt, alloc, workers, net, rows, tasks, numbers, steps, cubes, gate,
     )?;
     Ok(Reports {
-        reports: woven(told.reports, numbers, again),
+        reports: woven(told.reports, numbers, again.reports),
         shared: None,
     })
 }

@@ -178,7 +178,7 @@ pub fn run<R: Threads + Sync, F: Files, O: Sink, E: Sink, G: Gate + Sync>(
         (O.state out.old) (O.state out.new) (E.state err.old) (E.state err.new) }
 
     // Where nothing failed and the files tell what they hold, the first refusal decides: it is told, or, where there is
-    // none, the report is written. Memory may be wanting in both.
+    // none, the report is written. Memory may be wanting in both. That the texts of `bench` have none is not said.
     ensures decided { NoneRose (F.state files.old) (F.state files.new) (O.state out.old)
         (O.state out.new) (E.state err.old) (E.state err.new) → IsDecided (command_of words.now)
         (F.state files.old) result (E.state err.old) (E.state err.new) }

@@ -4,5 +4,6 @@ pub mod Ranks
 pub mod Agreeing
 pub mod Shared
 pub mod Numbers
+pub mod Spent
 pub mod Portions
 pub mod Frames

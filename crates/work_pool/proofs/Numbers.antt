@@ -9,7 +9,7 @@ use Rattle.dual_rail.proofs.Turns.{zip_at}
 use Rattle.net_core.specs.declared.raw.RawNet.{RawNet}
 use Rattle.ste_model.specs.declared.report.Report.{Report}
 use Rattle.ste_model.specs.declared.task.Task.{Task}
-use Rattle.work_pool.specs.Pool.{IsToldOfNumber}
+use Rattle.work_pool.specs.Pool.{AreTasksOf, IsToldOfNumber}
 use Rattle.work_pool.specs.Told.{IsToldOf}
 use Rattle.work_pool.specs.private.Jobs.{tasks_at}
 use Rattle.work_pool.proofs.Gathering.{first_of, zip_of}
@@ -39,6 +39,18 @@ from d (x ∷ xs) f a each =
 pub all_numbers : (tasks : List Task) (task : Task) → tasks_at tasks (range_with_len 0 (length tasks)) task ≡ tasks
 all_numbers tasks task = from task tasks (λ number. get_or tasks number task) 0 (λ i lt. ap (λ k. get_or tasks k task) (let e : 0 + i ≡ i = omega arith in e))
 
+-- some task, where there is a number of one
+pub first_task : (tasks : List Task) (numbers : List ℕ) → 1 ≤ length numbers → All (λ n. n < length tasks) numbers → Task
+first_task tasks numbers some inside = first_of tasks (let lt = inside 0 0 (omega (arith, some)) in omega (arith, lt))
+
+-- the tasks of these numbers are those that stand at them
+pub at_numbers : (tasks : List Task) (numbers : List ℕ) (some : List Task) (task : Task) → AreTasksOf tasks numbers some → tasks_at tasks numbers task ≡ some
+at_numbers tasks [] [] task are = refl
+at_numbers tasks [] (x ∷ some) task are = absurd are
+at_numbers tasks (n ∷ numbers) [] task are = absurd are
+at_numbers tasks (n ∷ numbers) (x ∷ some) task are =
+    ap (λ y. y ∷ tasks_at tasks numbers task) (get_or_from_slice_get tasks n task x are.0) ∙ ap (λ ys. x ∷ ys) (at_numbers tasks numbers some task are.1)
+
 -- what is told of the tasks of these numbers is told number by number
 pub some_told : (net : RawNet) (vars steps cubes : ℕ) (tasks : List Task) (numbers : List ℕ) (reports : List Report) → 1 ≤ length numbers → All (λ n. n < length tasks) numbers
     → ((task : Task) → AllZip (IsToldOf net vars steps cubes) (tasks_at tasks numbers task) reports) → AllZip (IsToldOfNumber net vars steps cubes tasks) numbers reports
@@ -47,7 +59,7 @@ some_told net vars steps cubes tasks numbers reports some inside told = zip_of (
     (zip_at (IsToldOf net vars steps cubes) (tasks_at tasks numbers task) reports i task report (told task) (omega (arith, lt, long))))
   where
     first : Task
-    first = first_of tasks (let lt = inside 0 0 (omega (arith, some)) in omega (arith, lt))
+    first = first_task tasks numbers some inside
 
     long : length numbers ≡ length reports
     long = sym (AllZip-long (IsToldOf net vars steps cubes) (tasks_at tasks numbers first) reports (told first) ∙ length-map numbers (λ n. get_or tasks n first))

@@ -1,6 +1,6 @@
 -- Meaning, and a law. What the check of tasks over one table of nodes gives. Source: this project's own choice.
 use Rattle.std.specs.Prelude.{◌≡◌, ◌≢◌, ◌<◌, ◌≤◌, ◌*◌, ℕ, List, All, length, Some, slice_get}
-use Rattle.std.specs.List.{AllZip}
+use Rattle.std.specs.List.{AllZip, sum}
 use Rattle.dd_nodes.specs.Stores.{Store}
 use Rattle.net_core.specs.declared.raw.RawNet.{RawNet}
 use Rattle.net_core.specs.Flat.{IsInRange}
@@ -35,6 +35,17 @@ pub record IsPooled (net : RawNet) (steps cubes : ℕ) (tasks : List Task) (repo
   pub limit : t.limit ≡ length tasks * steps
   pub kept : (i : ℕ) (task : Task) (report : Report) → slice_get tasks i ≡ Some task → slice_get reports i ≡ Some report →
       report.verdict ≢ Budget → IsTaskKept net task t
+
+-- these are the tasks of these numbers, in the order of the numbers
+abbrev pub AreTasksOf : List Task → List ℕ → List Task → Type 0
+AreTasksOf tasks numbers some = AllZip (λ number task. slice_get tasks number ≡ Some task) numbers some
+
+-- How many nodes tasks made that were checked one after another with so many steps each: each of them no more than its steps,
+-- and just as many where its report says budget; together this number.
+pub record AreMadeWithin (steps : ℕ) (reports : List Report) (made : ℕ) : Type 0 where
+  pub counts : List ℕ
+  pub each : AllZip (λ report count. (count ≤ steps) × (report.verdict ≡ Budget → count ≡ steps)) reports counts
+  pub all : sum counts ≡ made
 
 -- what may be told of the task of this number
 abbrev pub IsToldOfNumber : RawNet → ℕ → ℕ → ℕ → List Task → ℕ → Report → Type 0

@@ -1,11 +1,12 @@
 //! The tasks one after another, over a store that grows; begin with `run_alone`.
 
-ghost use Rattle.std.specs.Prelude.{◌≡◌, ◌^◌, ◌<◌, ◌≤◌, length, map, All, IfOk, IfSome, OnOk};
+ghost use Rattle.std.specs.Prelude.{◌≡◌, ◌*◌, ◌^◌, ◌<◌, ◌≤◌, length, map, All, IfOk, IfSome, OnOk};
 ghost use Rattle.std.specs.List.{AllZip};
 ghost use Rattle.gate_sets.specs.Lists.{rows_of};
 ghost use Rattle.sym_step.specs.Frame.{IsFrame};
-ghost use Rattle.work_pool.specs.Pool.{IsTaskOver};
-ghost use Rattle.work_pool.specs.Told.{IsToldOf};
+ghost use Rattle.ste_model.specs.declared.verdict.Verdict.TheVariants.{Budget};
+ghost use Rattle.work_pool.specs.Pool.{AreMadeWithin, IsTaskOver};
+ghost use Rattle.work_pool.specs.Told.{IsToldOf, budgets};
 
 use crate::gate::Gate;
 use crate::pool::{check, passed_on};
@@ -38,6 +39,9 @@ fn check_anew(
         (IsFrame (⟦<GrowingNodes as Nodes>⟧.store nodes.old) net.now.raw) }
     ensures told { IfOk result (IsToldOf net.now.raw
         (⟦<GrowingNodes as Nodes>⟧.store nodes.old).vars steps cubes task.now) }
+    ensures within { length (⟦<GrowingNodes as Nodes>⟧.store nodes.new).made ≤ steps }
+    ensures full { IfOk result (λ report. report.verdict ≡ Budget
+        → length (⟦<GrowingNodes as Nodes>⟧.store nodes.new).made ≡ steps) }
     ensures vars { (⟦<GrowingNodes as Nodes>⟧.store nodes.new).vars
         ≡ (⟦<GrowingNodes as Nodes>⟧.store nodes.old).vars }
     ensures last { IfSome last.new
@@ -75,9 +79,17 @@ fn bounded(
     Ok(0)
 }
 
+/// The reports in the order of the tasks, and how many nodes the tasks made, all together.
+#[derive(Drop)]
+pub struct AloneAnswer {
+    pub reports: Vec<Report>,
+    pub made: u64,
+}
+
 /// The reports of all tasks in their order, checked one after another by this thread, each with `steps` node steps of its
 /// own, and with at most `cubes` cubes in each list of a report. The tasks have a store that grows, in which each finds
-/// what those before it made, as far as it was not let go. All else is as with `run_tasks`.
+/// what those before it made, as far as it was not let go. A task makes no more nodes than its steps, and just as many
+/// where its verdict is `Budget`. All else is as with `run_tasks`.
 pub fn run_alone<G: Gate>(
     alloc: Global,
     net: &Net,
@@ -86,29 +98,37 @@ pub fn run_alone<G: Gate>(
     steps: u32,
     cubes: u32,
     gate: &G,
-) -> Result<Vec<Report>, AllocError>
+) -> Result<AloneAnswer, AllocError>
     requires rows { rows.now.covers ≡ map rows_of net.now.raw.covers }
     requires few { length tasks.now.tasks < 2 ^ 32 }
     requires vars { length tasks.now.vars ≤ 1000 }
     requires over { All (IsTaskOver net.now.raw (length tasks.now.vars)) tasks.now.tasks }
 
     // For each task, in order, what is told of it.
-    ensures told { IfOk result (λ reports. AllZip
+    ensures told { IfOk result (λ answer. AllZip
         (IsToldOf net.now.raw (length tasks.now.vars) steps cubes) tasks.now.tasks
-        reports.items) }
+        answer.reports.items) }
+
+    // What each task made: none more than its steps, and all of them where it says budget.
+    ensures made { IfOk result (λ answer. AreMadeWithin steps answer.reports.items answer.made) }
+    ensures bounds { IfOk result (λ answer. (budgets answer.reports.items * steps ≤ answer.made)
+        × (answer.made ≤ length tasks.now.tasks * steps)) }
 {
     let vars = tasks.vars.len() as u32;
     let mut nodes = GrowingNodes::new(alloc, vars, 0)?;
-    let mut made = 0u32;
+    let mut held = 0u32;
+    let mut made = 0u64;
     let mut last = None;
     let mut reports = Vec::new(alloc);
     for number in 0..tasks.tasks.len() as u32 {
-        made = bounded(alloc, net, vars, made, &mut nodes, &mut last)?;
+        held = bounded(alloc, net, vars, held, &mut nodes, &mut last)?;
         gate.at_task(number);
         let task = &tasks.tasks.as_slice()[number as usize];
         let report = check_anew(alloc, &mut nodes, net, rows, task, steps, cubes, &mut last)?;
-        made = made.saturating_add(nodes.used());
+        let used = nodes.used();
+        held = held.saturating_add(used);
+        made += used as u64;
         reports.push(report)?;
     }
-    Ok(reports)
+    Ok(AloneAnswer { reports, made })
 }

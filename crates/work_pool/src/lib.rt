@@ -8,6 +8,6 @@ mod pool;
 pub mod run;
 mod turns;
 
-pub use alone::run_alone;
+pub use alone::{AloneAnswer, run_alone};
 pub use gate::{Gate, NoGate};
 pub use run::{PoolAnswer, run_some, run_tasks};

@@ -1,11 +1,11 @@
 //! The tasks over one shared table; begin with `run_tasks`.
 
-ghost use Rattle.std.specs.Prelude.{◌≡◌, ◌*◌, ◌^◌, ◌<◌, ◌≤◌, [], length, map, All, IfOk};
+ghost use Rattle.std.specs.Prelude.{◌≡◌, ◌*◌, ◌^◌, ◌<◌, ◌≤◌, [], List, length, map, All, IfOk};
 ghost use Rattle.std.specs.List.{AllZip, range_with_len};
 ghost use Rattle.dd_table.specs.Sessions.{store_of};
 ghost use Rattle.gate_sets.specs.Lists.{rows_of};
 ghost use Rattle.ste_model.specs.declared.task.Task.{Task as ATask};
-ghost use Rattle.work_pool.specs.Pool.{IsPooled, IsTaskOver, IsToldOfNumber};
+ghost use Rattle.work_pool.specs.Pool.{AreTasksOf, IsPooled, IsTaskOver, IsToldOfNumber};
 ghost use Rattle.work_pool.specs.private.Jobs.{tasks_at};
 
 use crate::gate::Gate;
@@ -87,7 +87,7 @@ pub fn run_tasks<R: Threads + Sync, G: Gate + Sync>(
 }
 
 /// The reports of the tasks of these numbers, in the order of the numbers, checked over a table of their own, each with
-/// `steps` node steps. All else is as with `run_tasks`.
+/// `steps` node steps. All else is as with `run_tasks`: what it says of all tasks holds here of these.
 pub fn run_some<R: Threads + Sync, G: Gate + Sync>(
     rt: &R,
     alloc: Global,
@@ -99,7 +99,7 @@ pub fn run_some<R: Threads + Sync, G: Gate + Sync>(
     steps: u32,
     cubes: u32,
     gate: &G,
-) -> Result<Vec<Report>, AllocError>
+) -> Result<PoolAnswer, AllocError>
     requires rows { rows.now.covers ≡ map rows_of net.now.raw.covers }
     requires workers { (1 ≤ workers) × (workers ≤ 64) }
     requires some { 1 ≤ length numbers.now }
@@ -108,15 +108,25 @@ pub fn run_some<R: Threads + Sync, G: Gate + Sync>(
     requires vars { length tasks.now.vars ≤ 1000 }
     requires over { All (IsTaskOver net.now.raw (length tasks.now.vars)) tasks.now.tasks }
 
+    // What is told of the tasks of these numbers, and what the session made and holds.
+    ensures answer { (some : List ATask) → AreTasksOf tasks.now.tasks numbers.now some
+        → IfOk result (λ answer. IsPooled net.now.raw steps cubes some
+        answer.reports.items (store_of answer.session)) }
+
+    // The table is over the variables of the tasks, and has two slots for each step.
+    ensures vars { IfOk result (λ answer. answer.session.vars ≡ length tasks.now.vars) }
+    ensures slots { IfOk result
+        (λ answer. answer.session.slots ≡ 2 * (length numbers.now * steps)) }
+
     // For each number, in order, what is told of the task of that number.
-    ensures told { IfOk result (λ reports. AllZip
+    ensures told { IfOk result (λ answer. AllZip
         (IsToldOfNumber net.now.raw (length tasks.now.vars) steps cubes tasks.now.tasks)
-        numbers.now reports.items) }
+        numbers.now answer.reports.items) }
 {
     let answer = run_numbers(
         rt, alloc, workers, net, rows, tasks, numbers, steps, cubes, gate,
     )?;
-    Ok(answer.reports)
+    Ok(answer)
 }
 
 /// The tasks of these numbers over a table of their own.

@@ -181,9 +181,9 @@ fn tells_two_tasks<R: Threads + Sync>(
         begun: AtomicU64::new(0),
     };
     let Ready { net, rows } = ready;
-    let reports = run_some(rt, alloc, 2, net, rows, tasks, &[2, 0], 100, 4, &count)?;
+    let answer = run_some(rt, alloc, 2, net, rows, tasks, &[2, 0], 100, 4, &count)?;
     Ok(
-        has_verdicts(&reports, &[Verdict::Weak, Verdict::Pass])
+        has_verdicts(&answer.reports, &[Verdict::Weak, Verdict::Pass])
             && count.begun.load(Ordering::SeqCst) == 2,
     )
 }
@@ -205,8 +205,12 @@ fn tells_tasks_alone(alloc: Global, ready: &Ready, tasks: &Tasks) -> Result<bool
         begun: AtomicU64::new(0),
     };
     let Ready { net, rows } = ready;
-    let reports = run_alone(alloc, net, rows, tasks, 100, 4, &count)?;
-    Ok(has_verdicts(&reports, ALL) && count.begun.load(Ordering::SeqCst) == 3)
+    let answer = run_alone(alloc, net, rows, tasks, 100, 4, &count)?;
+    Ok(
+        has_verdicts(&answer.reports, ALL)
+            && answer.made == 0
+            && count.begun.load(Ordering::SeqCst) == 3,
+    )
 }
 
 /// The same of the net and the tasks of all cases.

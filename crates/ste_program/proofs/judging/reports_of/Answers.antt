@@ -16,4 +16,4 @@ run_alone-requires-clause-over g c = over_all c.args.net.now.raw (length c.args.
 pub returns-clause-told : goal.returns-clause-told
 returns-clause-told g c =
     let cubes = ap (λ (asked : Command). asked.cubes) c.asked.view_is in
-    subst (λ (n : ℕ). AllZip (IsToldOf c.args.net.now.raw (length c.args.tasks.now.vars) c.args.steps n) c.args.tasks.now.tasks c.in_ok-reports.reports.items) cubes c.in_ok-reports.ensures.told
+    subst (λ (n : ℕ). AllZip (IsToldOf c.args.net.now.raw (length c.args.tasks.now.vars) c.args.steps n) c.args.tasks.now.tasks c.in_ok-answer.answer.reports.items) cubes c.in_ok-answer.ensures.told

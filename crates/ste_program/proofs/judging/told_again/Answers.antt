@@ -26,7 +26,7 @@ run_some-requires-clause-over g c κs within = over_all c.args.net.now.raw (leng
 
 pub woven-requires-clause-long : goal.woven-requires-clause-long
 woven-requires-clause-long g c =
-    AllZip-long (IsToldOfNumber c.args.net.now.raw (length c.args.tasks.now.vars) c.args.steps c.asked.inside.cubes c.args.tasks.now.tasks) c.args.numbers.now c.in_ok-again.again.items c.in_ok-again.ensures.told
+    AllZip-long (IsToldOfNumber c.args.net.now.raw (length c.args.tasks.now.vars) c.args.steps c.asked.inside.cubes c.args.tasks.now.tasks) c.args.numbers.now c.in_ok-again.again.reports.items c.in_ok-again.ensures.told
 
 pub woven-requires-clause-inside : goal.woven-requires-clause-inside
 woven-requires-clause-inside g c =
@@ -38,7 +38,7 @@ returns-clause-told g c = λ few told.
     let vars = length c.args.tasks.now.vars in
     let tasks = c.args.tasks.now.tasks in
     let reports = c.args.told.reports.items in
-    let again = c.in_ok-again.again.items in
+    let again = c.in_ok-again.again.reports.items in
     let cubes = ap (λ (asked : Command). asked.cubes) c.asked.view_is in
     let news = subst (λ (n : ℕ). AllZip (IsToldOfNumber net vars c.args.steps n tasks) c.args.numbers.now again) cubes c.in_ok-again.ensures.told in
     subst (AllZip (IsToldOf net vars c.args.steps c.args.asked.now.cubes) tasks) (sym (c.woven.ensures ∙ ap (λ (numbers : List ℕ). woven reports numbers again) c.requires.numbers))

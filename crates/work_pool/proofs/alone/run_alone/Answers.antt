@@ -5,6 +5,8 @@ use Rattle.ste_model.specs.declared.task.Task.{Task}
 use Rattle.ste_model.specs.declared.report.Report.{Report}
 use Rattle.gste_engine.proofs.Lists.{zip_push}
 use Rattle.work_pool.specs.Told.{IsToldOf}
+use Rattle.work_pool.specs.Pool.{AreMadeWithin}
+use Rattle.work_pool.proofs.Spent.{made_by_more}
 use Rattle.work_pool.proofs.alone.run_alone.Goals as goal
 
 pub loop-number-preserved : goal.loop-number-preserved
@@ -22,6 +24,9 @@ loop-number-preserved g c =
     record {
       vars = c.check_anew.ensures.vars ∙ vars;
       frame = c.check_anew.ensures.last;
+      made = subst (λ (ys : List Report). AreMadeWithin c.args.steps ys (c.loop-number.made + c.used-used.result)) (sym c.in_ok-push.ensures.items)
+          (made_by_more c.args.steps c.loop-number.reports.items c.loop-number.made report c.used-used.result i.made ? ?);
+      small = ?;
       told = subst (λ (xs : List Task). AllZip R xs c.push.new.self.items) (sym more)
           (subst (λ (ys : List Report). AllZip R (take n tasks ++ task ∷ []) ys) (sym c.in_ok-push.ensures.items) (zip_push R (take n tasks) c.loop-number.reports.items task report i.told one));
     }
