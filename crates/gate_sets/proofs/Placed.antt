@@ -49,6 +49,17 @@ rows_at covers rows k d are lt =
 pub cover_is : (covers : List Cover) (k : ℕ) (lists : CoverRows) (at : RowsAt covers k lists) (cover : Cover) → cover ≡ get_or covers k cover → cover ≡ at.cover
 cover_is covers k lists at cover e = e ∙ get_or_from_slice_get covers k at.cover cover at.is
 
+-- there is one cover of that number
+pub same_cover : (covers : List Cover) (k : ℕ) (a b : Cover) → slice_get covers k ≡ Some a → slice_get covers k ≡ Some b → a ≡ b
+same_cover covers k a b is_a is_b = sym (get_or_from_slice_get covers k a a is_a) ∙ get_or_from_slice_get covers k b a is_b
+
+-- the rows of that number are those of the cover
+pub rows_are : (covers : List Cover) (rows : List CoverRows) (k : ℕ) (d : CoverRows) (cover : Cover) → rows ≡ map rows_of covers → k < length covers → slice_get covers k ≡ Some cover
+    → get_or rows k d ≡ rows_of cover
+rows_are covers rows k d cover are lt is =
+    let at : RowsAt covers k (get_or rows k d) = rows_at covers rows k d are lt in
+    at.lists_are ∙ ap rows_of (same_cover covers k at.cover cover at.is is)
+
 -- a gate's set by the lists of a cover is that of the cover of that number
 pub by_cover : (covers : List Cover) (k : ℕ) (cover : Cover) (ws : List SymbolicSet) (s t : Store) (result : Result Rails OpFault) → slice_get covers k ≡ Some cover
     → Built (gate_work (on_rows cover) (off_rows cover) ws) (HasSet (gate_set (on_rows cover) (off_rows cover) ws)) s t result

@@ -1,5 +1,6 @@
-//! Sums over long lists of rows whose inputs are variables in order, or free: from the last variable up to the first, one
-//! node for each first part of the rows; begin with `sum_by_halves`.
+//! Sums of long lists of rows whose inputs are variables in order, made from the last variable up:
+//! each half of the rows gives one half of the sum. `rows_to_halve` says whether a list goes so,
+//! and `sum_by_halves` sums it; `rows_sum` in `sums.rt` asks for both.
 
 ghost use Rattle.std.specs.Prelude.{◌≡◌, ◌≢◌, ◌↔◌, ◌+◌, ◌<◌, ◌≤◌, ◌∷◌, [], ℕ, List, All, IfOk, IfSome, IsTrue, OnOk, drop, length, map, take, if◌then◌else◌};
 ghost use Rattle.dd_nodes.specs.Diagram.{Function, IsFrom};

@@ -1,4 +1,6 @@
-//! The sets of gates with few inputs, by tables and by the first variable that an input reads; begin with `by_table`.
+//! Gates of three to six inputs, by truth tables: both rails in one recursion over the variables,
+//! which makes no node but the result's own, and gives up after 1,024 steps. Begin with `by_table`;
+//! what a table says alone is in `table.rt`, what was found on the way in `met.rt`.
 
 ghost use Rattle.std.specs.Prelude.{◌≡◌, ◌≤◌, ◌<◌, ◌+◌, ◌∷◌, [], ℕ, All, IfOk, OnOk, drop, length, map, take};
 ghost use Rattle.dd_nodes.specs.Diagram.{Function, IsFrom, child};

@@ -1,9 +1,13 @@
-//! The sets that gates of few inputs give where those of their inputs are constants; begin with `Choices`.
+//! The sets that gates of at most three inputs give where those of their inputs are constants: a
+//! bit of a word for each choice of constants. `Choices::of` makes the words of a cover, and
+//! `choice_of` finds the choice of some inputs. They are put together in `constant_set` of
+//! `ways.rt`.
 
 ghost use Rattle.std.specs.Prelude.{◌≡◌, ◌≢◌, ◌↔◌, ◌≤◌, ◌<◌, ◌^◌, ◌/◌, ℕ, All, IsTrue, length, max};
 ghost use Rattle.std.specs.Int.{bit_at};
 ghost use Rattle.net_core.specs.Work.{AreWide};
-ghost use Rattle.gate_sets.specs.private.Choices.{AreChoices, AreConstant, HaveChoice, IsChoice, IsDigit, lit_bit, row_bit, rows_bit};
+ghost use Rattle.gate_sets.specs.Constants.{AreConstant, HaveChoice};
+ghost use Rattle.gate_sets.specs.private.Choices.{AreChoices, IsChoice, IsDigit, lit_bit, row_bit, rows_bit};
 ghost use Rattle.gate_sets.specs.NetSets.{net_at};
 
 use crate::net_rails::NetRails;

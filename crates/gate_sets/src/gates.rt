@@ -1,4 +1,7 @@
-//! The set that a gate gives; begin with `gate_at`.
+//! Ways of few operations: a pair of literals (`pair`), an exclusive OR (`exclusive`), one sum and
+//! its negation (`by_shorter`), and the sums of both lists of rows (`by_rows`), which is the way of
+//! all gates that no other way fits. A sum of rows is `rows_sum` in `sums.rt`. Which of them is
+//! taken says `cover_set` in `ways.rt`.
 
 ghost use Rattle.std.specs.Prelude.{◌≡◌, ◌≢◌, ◌<◌, ◌∷◌, [], ℕ, Bool, true, List, All, IfSome, IsTrue, length, not};
 ghost use Rattle.net_core.specs.declared.cover.Lit.TheVariants.{Any};
@@ -22,7 +25,7 @@ use std::alloc::Global;
 use ste_base::NodeId;
 
 /// The literals of the only row of a list over two inputs; none where there are more rows, or the second literal is `-`.
-fn only_pair(rows: &RowList) -> Option<(Lit, Lit)>
+pub fn only_pair(rows: &RowList) -> Option<(Lit, Lit)>
     requires { rows.now.width ≡ 2 }
     ensures row { IfSome result (λ p. rows.now.list ≡ (p.0 ∷ p.1 ∷ []) ∷ []) }
     ensures some { IfSome result (λ p. p.1 ≢ Any) }
@@ -34,7 +37,7 @@ fn only_pair(rows: &RowList) -> Option<(Lit, Lit)>
 }
 
 /// From a row of two literals: where both admit some bit of their inputs, and where one of them refuses some bit.
-fn pair<N: Nodes>(
+pub fn pair<N: Nodes>(
     ops: &Ops,
     nodes: &mut N,
     x: Lit,
@@ -105,7 +108,7 @@ fn are_opposed(x: Lit, y: Lit) -> bool
 }
 
 /// The literals of the first row of an exclusive OR, or of its opposite.
-fn only_exclusive(rows: &RowList) -> Option<(Lit, Lit)>
+pub fn only_exclusive(rows: &RowList) -> Option<(Lit, Lit)>
     requires { rows.now.width ≡ 2 }
     ensures rows { IfSome result (λ p. rows.now.list ≡ exclusive_rows p.0 p.1) }
     ensures first { IfSome result (λ p. p.0 ≢ Any) }
@@ -127,7 +130,7 @@ fn only_exclusive(rows: &RowList) -> Option<(Lit, Lit)>
 /// The set of an exclusive OR of two inputs that each have exactly one bit, by the literals of its first row: where what the
 /// first one asks differs from what the second one refuses, and where it differs from what the second one asks. Where the
 /// first one asks for a constant nothing is called.
-fn exclusive<N: Nodes>(
+pub fn exclusive<N: Nodes>(
     ops: &Ops,
     nodes: &mut N,
     x: Lit,
@@ -164,66 +167,6 @@ fn exclusive<N: Nodes>(
     Ok(Rails { can0, can1 })
 }
 
-/// The set that a gate gives, by the rows of its cover, where its inputs are nets by number, none is empty anywhere where
-/// `full` says so, and each has exactly one bit everywhere where `known` does. A gate of two inputs with one row then
-/// takes one product and one sum, and any gate of which the inputs are known the sum of its shorter list of rows and one
-/// negation. `products` lends room for the products of the first literals of a row.
-pub fn gate_at<N: Nodes>(
-    alloc: Global,
-    ops: &Ops,
-    nodes: &mut N,
-    rows: &CoverRows,
-    products: &mut [Ref],
-    nets: &[NetRails],
-    inputs: &[NodeId],
-    full: bool,
-    known: bool,
-) -> Result<Rails, OpFault>
-    requires on { rows.now.on.width ≡ length inputs.now }
-    requires off { rows.now.off.width ≡ length inputs.now }
-    requires wide_on { AreWide rows.now.on.list (length inputs.now) }
-    requires wide_off { AreWide rows.now.off.list (length inputs.now) }
-    requires apart { (bits : List Bool) → length bits ≡ length inputs.now
-        → some_matches rows.now.off.list bits ≡ not (some_matches rows.now.on.list bits) }
-    requires full { IsTrue full
-        → All (λ input. (net_at nets.now input.0).some ≡ Ref.TRUE) inputs.now }
-    requires known { IsTrue known
-        → All (λ input. (net_at nets.now input.0).known ≡ true) inputs.now }
-    requires room { length inputs.now < length products.old }
-    requires inside { All (λ input. input.0 < length nets.now) inputs.now }
-    requires refs { All (AreNetRefs (N.store nodes.old)) nets.now }
-    ensures room { length products.new ≡ length products.old }
-    ensures built { (sets : ℕ → SymbolicSet)
-        → HaveInputs (N.store nodes.old) sets nets.now inputs.now
-        → Built (gate_work rows.now.on.list rows.now.off.list (sets_at sets inputs.now))
-        (HasSet (gate_set rows.now.on.list rows.now.off.list (sets_at sets inputs.now)))
-        (N.store nodes.old) (N.store nodes.new) result }
-{
-    if full && inputs.len() == 2 {
-        let a = nets[inputs[0].0 as usize];
-        let b = nets[inputs[1].0 as usize];
-        if let Some((x, y)) = only_pair(&rows.on) {
-            return pair(ops, nodes, x, y, a, b);
-        }
-        if let Some((x, y)) = only_pair(&rows.off) {
-            let swapped = pair(ops, nodes, x, y, a, b)?;
-            return Ok(Rails {
-                can0: swapped.can1,
-                can1: swapped.can0,
-            });
-        }
-        if a.known && b.known {
-            if let Some((x, y)) = only_exclusive(&rows.on) {
-                return exclusive(ops, nodes, x, y, a, b);
-            }
-        }
-    }
-    if known {
-        return by_shorter(alloc, ops, nodes, rows, products, nets, inputs);
-    }
-    by_rows(alloc, ops, nodes, rows, products, nets, inputs)
-}
-
 /// Where some row of a list matches, and where none does, of inputs that each have exactly one bit: one sum, and its
 /// negation.
 fn by_list<N: Nodes>(
@@ -251,9 +194,9 @@ fn by_list<N: Nodes>(
     Ok(Rails { can0, can1 })
 }
 
-/// The set that a gate gives, where each input has exactly one bit everywhere. One input's rails are at hand, so that
-/// nothing is called for a buffer or an inverter.
-fn by_shorter<N: Nodes>(
+/// The set that a gate gives, where each input has exactly one bit everywhere: the sum of its shorter list of rows, and the
+/// negation of this.
+pub fn by_shorter<N: Nodes>(
     alloc: Global,
     ops: &Ops,
     nodes: &mut N,
@@ -279,9 +222,6 @@ fn by_shorter<N: Nodes>(
         (HasSet (gate_set rows.now.on.list rows.now.off.list (sets_at sets inputs.now)))
         (N.store nodes.old) (N.store nodes.new) result }
 {
-    if inputs.len() == 1 {
-        return by_rows(alloc, ops, nodes, rows, products, nets, inputs);
-    }
     if rows.on.size() <= rows.off.size() {
         return by_list(alloc, ops, nodes, &rows.on, products, nets, inputs);
     }
@@ -292,8 +232,8 @@ fn by_shorter<N: Nodes>(
     })
 }
 
-/// The same by the products and sums of all rows.
-fn by_rows<N: Nodes>(
+/// The set that a gate gives, by the sums of both its lists of rows.
+pub fn by_rows<N: Nodes>(
     alloc: Global,
     ops: &Ops,
     nodes: &mut N,
@@ -317,35 +257,4 @@ fn by_rows<N: Nodes>(
     let can1 = rows_sum(alloc, ops, nodes, &rows.on, products, nets, inputs)?;
     let can0 = rows_sum(alloc, ops, nodes, &rows.off, products, nets, inputs)?;
     Ok(Rails { can0, can1 })
-}
-
-/// What is clear of several nets: that each has some bit everywhere, and that each has exactly one.
-#[derive(Clone, Copy, PartialEq, Eq, Drop)]
-pub struct Filling {
-    pub full: bool,
-    pub known: bool,
-}
-
-/// What is clear of these nets.
-pub fn filling_of(nets: &[NetRails], inputs: &[NodeId]) -> Filling
-    requires { All (λ input. input.0 < length nets.now) inputs.now }
-    ensures full { IsTrue result.full
-        → All (λ input. (net_at nets.now input.0).some ≡ Ref.TRUE) inputs.now }
-    ensures known { IsTrue result.known
-        → All (λ input. (net_at nets.now input.0).known ≡ true) inputs.now }
-{
-    let mut known = true;
-    for input in inputs {
-        let r = nets[input.0 as usize];
-        if r.some != Ref::TRUE {
-            return Filling {
-                full: false,
-                known: false,
-            };
-        }
-        if !r.known {
-            known = false;
-        }
-    }
-    Filling { full: true, known }
 }

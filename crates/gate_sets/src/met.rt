@@ -1,4 +1,5 @@
-//! The sets that the recursion for one gate has found; begin with `Met`.
+//! The sets that the recursion of `by_table.rt` has found for one gate, by tables and inputs; begin
+//! with `Met`. It is emptied at each gate.
 
 ghost use Rattle.std.specs.Prelude.{◌≡◌, ◌≤◌, ◌<◌, [], All, IsTrue, OnOk, drop, length, take};
 ghost use Rattle.dd_nodes.specs.Stores.{Store};

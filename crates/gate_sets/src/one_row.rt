@@ -1,5 +1,5 @@
-//! Gates whose cover has one row, over inputs that are nowhere empty: one chain of products and one of sums; begin with
-//! `by_row`.
+//! Gates whose cover has one row, over inputs that are nowhere empty: one chain of products and one
+//! of sums. `only_rising` finds such a cover, and `by_row` gives the set.
 
 ghost use Rattle.std.specs.Prelude.{◌≡◌, ◌≤◌, ◌<◌, ◌∷◌, ◌++◌, [], ℕ, List, All, IfOk, IfSome, IsTrue, length, drop};
 ghost use Rattle.dd_nodes.specs.Diagram.{Function};

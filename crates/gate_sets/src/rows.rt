@@ -1,4 +1,6 @@
-//! The rows of all covers; begin with `GateRows`.
+//! What is made once of all covers of a net; begin with `GateRows`. Of each cover it has both lists
+//! of rows (`RowList`), the words of constants (`choices.rt`) and the truth tables (`table.rt`);
+//! covers that are the same share them.
 
 ghost use Rattle.std.specs.Prelude.{◌≡◌, ◌≤◌, ◌<◌, map, All, IfOk, IsTrue, length};
 ghost use Rattle.std.proofs.Props.{props};
@@ -207,7 +209,7 @@ impl GateRows {
     }
 
     /// The set of a gate of a cover, by its number, for each choice of constants. It takes no memory.
-    pub fn choices(&self, cover: usize) -> Choices
+    pub(crate) fn choices(&self, cover: usize) -> Choices
         requires { cover < length self.now.covers }
         ensures { AreTold (kind_at self.now.covers cover) result }
     {
@@ -215,7 +217,7 @@ impl GateRows {
     }
 
     /// The tables of both lists of a cover, by its number. It takes no memory.
-    pub fn tables(&self, cover: usize) -> Tables
+    pub(crate) fn tables(&self, cover: usize) -> Tables
         requires { cover < length self.now.covers }
         ensures { HaveTables (kind_at self.now.covers cover) result }
     {

@@ -1,4 +1,5 @@
-//! Sums over rows, where products are shared between rows that begin alike; begin with `rows_sum`.
+//! Sums of the products of rows, piece by piece of a list; begin with `rows_sum`. Long lists go by
+//! halves (`by_halves.rt`).
 
 ghost use Rattle.std.specs.Prelude.{◌≡◌, ◌≤◌, ◌<◌, ◌∷◌, [], ℕ, List, length, take, All, IfOk, slice_index_or};
 ghost use Rattle.dd_nodes.specs.Diagram.{Function};

@@ -1,4 +1,6 @@
-//! Tables of the rows of covers with few inputs, and what they tell of some inputs' sets; begin with `settle` and `told`.
+//! Truth tables of covers of at most six inputs, as words of 64 bits: how they are made
+//! (`Tables::of`), and what they say of some inputs' sets (`settle`, `told`). The recursion over
+//! sets is in `by_table.rt`. No table of nodes, nor of a graph's vertices.
 
 ghost use Rattle.std.specs.Prelude.{◌≡◌, ◌≤◌, ◌<◌, ◌+◌, ℕ, Bool, false, true, not, List, IfSome, get_or, length, set};
 ghost use Rattle.std.specs.Int.{bit_at};

@@ -1,11 +1,14 @@
 -- The links of cuts, from the last cut to the first.
-use Rattle.std.proofs.Common.{ℕ, ◌≡◌, ◌≢◌, ◌≤◌, ◌<◌, ◌+◌, Bool, true, false, List, length, get_or, set, refl, sym, ◌∙◌, ap, subst, arith}
+use Rattle.std.proofs.Common.{ℕ, ◌≡◌, ◌≢◌, ◌≤◌, ◌<◌, ◌+◌, Bool, true, false, List, length, get_or, set, refl, sym, ◌∙◌, ap, subst, arith, inl, inr, All}
 use mathlib.Core.Logic.{dite}
 use native.Mathlib.Decide.{ℕ_discrete}
-use Rattle.std.proofs.lemmas.List.{get_or-set_same, get_or-set_other, get_or_default, length-set}
+use Rattle.std.proofs.lemmas.Bool.{cases_lt}
+use Rattle.std.proofs.lemmas.List.{get_or-map, get_or-set_same, get_or-set_other, get_or_past, length-map, length-set}
+use Rattle.ste_base.specs.declared.id.NodeId.{NodeId}
 use Rattle.sym_step.specs.declared.cut.Cut.{Cut}
-use Rattle.sym_step.specs.private.CutLists.{AreLinked, IsNearest, no_cut, node_at, told_place}
-use Rattle.sym_step.specs.private.Parts.{AreMarks}
+use Rattle.sym_step.specs.private.Demands.{AreLinked, IsNearest, no_cut, node_at, nodes_of, told_place}
+use Rattle.sym_step.specs.Frame.{is_listed}
+use Rattle.sym_step.proofs.Framing.{listed_at}
 
 -- behind the last cut there is none
 none_left : (cuts : List Cut) (id : ℕ) → IsNearest cuts id (length cuts) (length cuts)
@@ -86,13 +89,30 @@ turn cuts marks first next k i id e lt is inside l = record {
     nexts_other j le less apart =
         subst (λ (p : ℕ). IsNearest cuts (node_at cuts j) (j + 1) p) (sym (get_or-set_other next k j place 0 apart)) (l.nexts j le less)
 
--- each net of which there is a cut has a mark
-pub marks_here : (cuts : List Cut) (marks : List Bool) (first next : List ℕ) → AreLinked cuts 0 marks first next → AreMarks cuts marks
-marks_here cuts marks first next l k d lt = by (get_or marks (get_or cuts k d).node.0 false) refl
+-- there is no cut of a net without a flag
+pub none_listed : (cuts : List Cut) (flags : List Bool) (first next : List ℕ) → AreLinked cuts 0 flags first next → (id : ℕ) → get_or flags id false ≡ false → is_listed (nodes_of cuts) id ≡ false
+none_listed cuts flags first next l id none = by (is_listed (nodes_of cuts) id) refl
   where
-    by : (b : Bool) → get_or marks (get_or cuts k d).node.0 false ≡ b → get_or marks (get_or cuts k d).node.0 false ≡ true
-    by true e = e
-    by false e =
-        let id : ℕ = (get_or cuts k d).node.0 in
-        let none = subst (λ (b : Bool). IsNearest cuts id 0 (told_place b (get_or first id 0) (length cuts))) e (l.firsts id) in
-        absurd (none.absent k (omega arith) lt (ap (λ (c : Cut). c.node.0) (get_or_default cuts k no_cut d lt)))
+    by : (b : Bool) → is_listed (nodes_of cuts) id ≡ b → is_listed (nodes_of cuts) id ≡ false
+    by false e = e
+    by true e =
+        let node : NodeId = record { 0 = 0 } in
+        let at = listed_at (nodes_of cuts) id e in
+        let inside : at.0 < length cuts = omega (arith, at.1, length-map cuts (λ (c : Cut). c.node)) in
+        let same : node_at cuts at.0 ≡ id = sym (ap (λ (n : NodeId). n.0) (get_or-map (λ (c : Cut). c.node) cuts at.0 no_cut node inside)) ∙ at.2 node in
+        let near = subst (λ (b : Bool). IsNearest cuts id 0 (told_place b (get_or first id 0) (length cuts))) none (l.firsts id) in
+        absurd (near.absent at.0 (omega arith) inside same)
+
+-- each cut has a flag, so its net is one of those with flags
+pub flags_inside : (cuts : List Cut) (flags : List Bool) (first next : List ℕ) → AreLinked cuts 0 flags first next → All (λ node. node.0 < length flags) (nodes_of cuts)
+flags_inside cuts flags first next l k d lt = elim (cases_lt id (length flags)) [
+  | inl inside ↦ inside
+  | inr over ↦
+      let within : k < length cuts = omega (arith, lt, length-map cuts (λ (c : Cut). c.node)) in
+      let same : node_at cuts k ≡ id = sym (ap (λ (n : NodeId). n.0) (get_or-map (λ (c : Cut). c.node) cuts k no_cut d within)) in
+      let near = subst (λ (b : Bool). IsNearest cuts id 0 (told_place b (get_or first id 0) (length cuts))) (get_or_past flags id false over) (l.firsts id) in
+      absurd (near.absent k (omega arith) within same)
+]
+  where
+    id : ℕ
+    id = (get_or (nodes_of cuts) k d).0

@@ -20,8 +20,7 @@ use Rattle.dual_rail.proofs.Works.{Within, Built-wider, last, So-start, Built-ma
 use Rattle.dd_nodes.proofs.Spending.{own}
 use Rattle.sym_step.specs.declared.cut.Cut.{Cut}
 use Rattle.sym_step.specs.Step.{IsCutBy}
-use Rattle.sym_step.specs.private.CutLists.{IsNearest, no_cut}
-use Rattle.sym_step.specs.private.Parts.{AreMarks}
+use Rattle.sym_step.specs.private.Demands.{IsNearest, no_cut}
 
 pub cut_here : (d : SymbolicCut) (sets : ℕ → SymbolicSet) (id : ℕ) (s t : Store) (result : Result FlaggedRails OpFault) → d.node ≡ id
     → Built (cut_work (sets id) d.guard d.value) (HasFlagged (cut_set (sets id) d.guard d.value)) s t result → Built (cut_work (sets d.node) d.guard d.value) (HasFlagged (after_cut d sets id)) s t result
@@ -158,17 +157,6 @@ skipped s ds cuts f id a m zip near =
     ap (λ (k : ℕ). after_cuts (take k ds) f id) there
     ∙ none_of ds f id a (m - a) (omega (arith, n, within, from)) (λ j least less same.
     near.absent j least (omega (arith, less, from)) (sym (demand_at s ds cuts j nothing no_cut zip (omega (arith, less, from, within))).node ∙ same))
-
--- no cut is of a net without a mark
-pub unmarked : (s : Store) (ds : List SymbolicCut) (cuts : List Cut) (marks : List Bool) (id : ℕ) (f : ℕ → SymbolicSet) → AllZip (IsCutBy s) ds cuts → AreMarks cuts marks → get_or marks id false ≡ false
-    → after_cuts ds f id ≡ f id
-unmarked s [] cuts marks id f zip h none = refl
-unmarked s (d ∷ ds) [] marks id f zip h none = absurd zip
-unmarked s (d ∷ ds) (c ∷ cuts) marks id f zip h none =
-    let here_marked : get_or marks c.node.0 false ≡ true = All-head (λ (x : Cut). get_or marks x.node.0 false ≡ true) c cuts h in
-    let ne : d.node ≢ id = λ e. let clash : true ≡ false = sym here_marked ∙ ap (λ i. get_or marks i false) (sym zip.0.node ∙ e) ∙ none in cc in
-    unmarked s ds cuts marks id (after_cut d f) zip.1 (All-tail (λ (x : Cut). get_or marks x.node.0 false ≡ true) c cuts h) none
-    ∙ ap (λ (x : Bool). if x then cut_set (f id) d.guard d.value else f id) (ne_eqb d.node id ne)
 
 -- cuts as what their references ask
 pub own_demands : (s : Store) (cuts : List Cut) → All (λ c. IsRef s c.guard) cuts → All (λ c. IsRef s c.value) cuts → AllZip (IsCutBy s) (map (λ (c : Cut). record { node = c.node.0; guard = function s c.guard; value = function s c.value }) cuts) cuts

@@ -1,10 +1,10 @@
 -- Latches that are not due, and the sets that the others get.
-use Rattle.std.proofs.Common.{◌≡◌, ◌≢◌, ℕ, ◌+◌, ◌<◌, ◌≤◌, Bool, true, false, List, [], ◌∷◌, ◌++◌, Option, None, Some, length, map, get_or, refl, sym, ◌∙◌, ap, subst, arith, inl, inr, All}
+use Rattle.std.proofs.Common.{◌≡◌, ◌≢◌, ℕ, ◌+◌, ◌<◌, ◌≤◌, Bool, false, List, [], ◌∷◌, ◌++◌, Option, None, Some, length, map, get_or, refl, sym, ◌∙◌, ap, subst, arith, inl, inr, All}
 use Rattle.std.specs.Prelude.{◌⊎◌, IsTrue}
 use Rattle.std.specs.Global.{Vec}
 use Rattle.std.specs.List.{AllZip}
-use Rattle.std.proofs.lemmas.Bool.{cases_eq, cases_lt, false≢true}
-use Rattle.std.proofs.lemmas.List.{get_or-map, get_or_append_left, get_or_default, get_or_push, length-append, length-map}
+use Rattle.std.proofs.lemmas.Bool.{cases_eq, cases_lt}
+use Rattle.std.proofs.lemmas.List.{get_or-map, get_or_append_left, get_or_default, get_or_push, length-append}
 use Rattle.std.proofs.lemmas.List.Elements.{All-push}
 use Rattle.ste_base.specs.declared.id.NodeId.{NodeId}
 use Rattle.dd_nodes.specs.Stores.{Store}
@@ -27,11 +27,11 @@ use Rattle.sym_step.specs.Step.{IsCutBy}
 use Rattle.sym_step.specs.private.Boards.{AreFull, Follows}
 use Rattle.sym_step.specs.Frame.{AreFirst, AreOpen, IsFrame, bare, first_or, input_rails, is_listed, nets_of, next_of}
 use Rattle.sym_step.specs.private.Frames.{AreCarried, AreReady, AreSpared, HaveLatches, IsCarried, StayRight}
-use Rattle.sym_step.specs.private.Latches.{AreGiven, AreLatchSets, Begins, HaveLatchSets, HaveMarks, IsAmong, IsCopied, IsInPlace, IsLatchSet, IsSetOf}
+use Rattle.sym_step.specs.private.Latches.{AreGiven, AreLatchSets, Begins, HaveLatchSets, IsAmong, IsCopied, IsInPlace, IsLatchSet, IsSetOf}
 use Rattle.gate_sets.specs.NetSets.{AreNetRails, AreNetRefs, net_at}
-use Rattle.sym_step.specs.private.Parts.{AreMarks, asks}
+use Rattle.sym_step.specs.private.Parts.{asks}
 use Rattle.sym_step.specs.private.Readers.{AreMarked, AreReaders, IsBetween, driver_number, flag_at, number_of}
-use Rattle.sym_step.proofs.Framing.{listed_at, next_first, spared_same, unlisted, unlisted_by}
+use Rattle.sym_step.proofs.Framing.{next_first, spared_same, unlisted, unlisted_by}
 use Rattle.gate_sets.proofs.NetRefs.{net_by_rails}
 use Rattle.sym_step.proofs.Opened.{latch_before, latch_source, set_is}
 use Rattle.sym_step.proofs.Sourced.{unknown}
@@ -73,20 +73,6 @@ carried_follows net asked old new size f carried k d lt none =
       same = q.1 latch.output.0 p.between.output ∙ p.same ∙ sym (q.1 latch.input.0 p.between.input);
       between = subst (λ r. IsBetween r (length net.gates + k) latch) (sym f.readers) p.between;
     }
-
--- each net of which there is a cut has a mark
-pub have_marks : (cuts : List Cut) (marks : List Bool) → AreMarks cuts marks → HaveMarks (map (λ (c : Cut). c.node) cuts) marks
-have_marks cuts marks h id none = by (is_listed (map (λ (c : Cut). c.node) cuts) id) refl
-  where
-    by : (b : Bool) → is_listed (map (λ (c : Cut). c.node) cuts) id ≡ b → is_listed (map (λ (c : Cut). c.node) cuts) id ≡ false
-    by false e = e
-    by true e =
-        let node : NodeId = record { 0 = 0 } in
-        let cut : Cut = record { node = node; guard = record { 0 = 0 }; value = record { 0 = 0 } } in
-        let at = listed_at (map (λ (c : Cut). c.node) cuts) id e in
-        let inside : at.0 < length cuts = omega (arith, at.1, length-map cuts (λ (c : Cut). c.node)) in
-        let same : (get_or cuts at.0 cut).node.0 ≡ id = sym (ap (λ (n : NodeId). n.0) (get_or-map (λ (c : Cut). c.node) cuts at.0 cut node inside)) ∙ at.2 node in
-        absurd (false≢true (sym none ∙ sym (ap (flag_at marks) same) ∙ h at.0 cut inside))
 
 -- ---- the sets that the others get
 
@@ -272,11 +258,11 @@ carried_same asked old new k latch nets readers h = record {
 }
 
 -- where one mark was taken away, its latch has no other references than its input
-pub carried_next : (net : RawNet) (asked : List NodeId) (marks : List Bool) (listed : Bool) (old new : Board) (n : ℕ) (latch : Latch) → n < length net.latches → latch ≡ get_or net.latches n latch → HaveMarks asked marks
+pub carried_next : (net : RawNet) (asked : List NodeId) (listed : Bool) (old new : Board) (n : ℕ) (latch : Latch) → n < length net.latches → latch ≡ get_or net.latches n latch
     → (IsTrue listed → AreReaders net old.readers) → new.nets ≡ old.nets → new.readers ≡ old.readers → ((k : ℕ) → k ≢ length net.gates + n → flag_at new.due.flags.items k ≡ flag_at old.due.flags.items k)
-    → (flag_at new.due.flags.items (length net.gates + n) ≡ false → (flag_at old.due.flags.items (length net.gates + n) ≡ false) ⊎ (IsTrue listed × IsCopied marks old.nets.items latch))
+    → (flag_at new.due.flags.items (length net.gates + n) ≡ false → (flag_at old.due.flags.items (length net.gates + n) ≡ false) ⊎ (IsTrue listed × IsCopied asked old.nets.items latch))
     → AreCarried net asked old → AreCarried net asked new
-carried_next net asked marks listed old new n latch inside is have lists nets readers others cleared carried k d lt none = elim (cases_eq k n) [
+carried_next net asked listed old new n latch inside is lists nets readers others cleared carried k d lt none = elim (cases_eq k n) [
   | inl here ↦ subst (λ (i : ℕ). IsCarried asked new (length net.gates + i) (get_or net.latches i d)) (sym here) (by (cleared (subst (λ (i : ℕ). flag_at new.due.flags.items (length net.gates + i) ≡ false) here none)))
   | inr other ↦ carried_same asked old new (length net.gates + k) (get_or net.latches k d) nets readers (carried k d lt (sym (others (length net.gates + k) (λ e. other (omega (arith, e)))) ∙ none))
 ]
@@ -284,9 +270,9 @@ carried_next net asked marks listed old new n latch inside is have lists nets re
     number : ℕ
     number = length net.gates + n
 
-    by : (flag_at old.due.flags.items number ≡ false) ⊎ (IsTrue listed × IsCopied marks old.nets.items latch) → IsCarried asked new number (get_or net.latches n d)
+    by : (flag_at old.due.flags.items number ≡ false) ⊎ (IsTrue listed × IsCopied asked old.nets.items latch) → IsCarried asked new number (get_or net.latches n d)
     by (inl was) = carried_same asked old new number (get_or net.latches n d) nets readers (carried n d inside was)
     by (inr (told, copied)) =
         let at : get_or net.latches n d ≡ latch = latch_at net.latches n latch d inside is in
-        let own : IsCarried asked old number latch = record { uncut = have latch.output.0 copied.0; same = copied.1; between = subst (IsBetween old.readers number) at ((lists told).latches n d inside) } in
+        let own : IsCarried asked old number latch = record { uncut = copied.0; same = copied.1; between = subst (IsBetween old.readers number) at ((lists told).latches n d inside) } in
         carried_same asked old new number (get_or net.latches n d) nets readers (subst (IsCarried asked old number) (sym at) own)

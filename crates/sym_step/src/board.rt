@@ -1,4 +1,5 @@
-//! The sets of all nets, with marks for the gates and latches that read another set than before; begin with `Board`.
+//! The sets of all nets, with marks for the gates and latches that read another set than before.
+//! Begin with `put` of `Board`, by which alone a net gets a set.
 
 ghost use Rattle.std.specs.Prelude.{◌≡◌, ◌<◌, IsTrue, length, set};
 ghost use Rattle.sym_step.specs.private.Boards.{Follows};

@@ -1,21 +1,23 @@
-//! Cuts of one net; begin with `cut_net`.
+//! The set of one net behind its cuts; begin with `cut_net`, and with `cut_full` where it is clear
+//! that no set is empty. Which nets are cut, and where, is in `demands.rt`.
 
-ghost use Rattle.std.specs.Prelude.{◌<◌, ◌∷◌, [], ℕ, List, All, IsTrue, length};
+ghost use Rattle.std.specs.Prelude.{◌≡◌, ◌≢◌, ◌<◌, ◌∷◌, [], ℕ, List, All, IsTrue, length};
 ghost use Rattle.std.specs.List.{AllZip};
 ghost use Rattle.dd_nodes.specs.Stores.{IsRef, Means};
 ghost use Rattle.dd_nodes.specs.Diagram.{Function};
 ghost use Rattle.net_core.specs.Work.{SymbolicSet, SymbolicCut, after_cut, after_cuts, cut_set, cut_work, cuts_work, negation, some_bit};
 ghost use Rattle.dual_rail.specs.Rail.{AreRefs, AreRails, Built};
 ghost use Rattle.sym_step.specs.Step.{IsCutBy};
+ghost use Rattle.gate_sets.specs.declared.filling.Filling.TheVariants.{MayBeEmpty, TwoValued};
 ghost use Rattle.gate_sets.specs.NetSets.{AreFlagged, AreFlaggedRefs, HasFlagged, HasNetSet, IsKnown};
-ghost use Rattle.sym_step.specs.private.Parts.{AreMarks, IsEverywhere};
+ghost use Rattle.sym_step.specs.private.Parts.{IsEverywhere};
 
 use crate::cut::Cut;
-use crate::cut_list::CutList;
+use crate::demands::Demands;
 use dd_nodes::{Nodes, Ref};
 use dd_ops::{OpFault, Ops};
 use dual_rail::{Rails, cut, either, opposite};
-use gate_sets::{FlaggedRails, NetRails, is_clear, is_constant, is_free};
+use gate_sets::{Filling, FlaggedRails, NetRails, is_clear, is_constant, is_free};
 
 /// The set of the value alone, which is what a cut with the guard 1 leaves of an unknown.
 fn bound<N: Nodes>(ops: &Ops, nodes: &mut N, value: Ref) -> Result<FlaggedRails, OpFault>
@@ -84,50 +86,48 @@ fn cut_once<N: Nodes>(
 fn cut_all<N: Nodes>(
     ops: &Ops,
     nodes: &mut N,
-    cuts: &CutList,
+    demands: &Demands,
     id: u32,
     r: FlaggedRails,
 ) -> Result<FlaggedRails, OpFault>
     requires rails { AreFlaggedRefs (N.store nodes.old) r }
-    requires guards { All (λ c. IsRef (N.store nodes.old) c.guard) cuts.now }
-    requires values { All (λ c. IsRef (N.store nodes.old) c.value) cuts.now }
+    requires guards { All (λ c. IsRef (N.store nodes.old) c.guard) demands.now.cuts }
+    requires values { All (λ c. IsRef (N.store nodes.old) c.value) demands.now.cuts }
     ensures { (ds : List SymbolicCut) (sets : ℕ → SymbolicSet)
-        → AllZip (IsCutBy (N.store nodes.old)) ds cuts.now
+        → AllZip (IsCutBy (N.store nodes.old)) ds demands.now.cuts
         → AreFlagged (N.store nodes.old) (sets id) r
         → Built (cuts_work ds sets) (HasFlagged (after_cuts ds sets id))
         (N.store nodes.old) (N.store nodes.new) result }
 {
     let mut left = r;
-    let mut at = cuts.first(id);
-    while at < cuts.len() {
-        left = cut_once(ops, nodes, cuts.at(at), id, left)?;
-        at = cuts.next(at);
+    let mut at = demands.first(id);
+    while at < demands.len() {
+        left = cut_once(ops, nodes, demands.at(at), id, left)?;
+        at = demands.next(at);
     }
     Ok(left)
 }
 
-/// The same; the cuts are looked at only where the net has a mark.
+/// The same; the cuts are looked at only where there is one of the net.
 fn cut_marked<N: Nodes>(
     ops: &Ops,
     nodes: &mut N,
-    cuts: &CutList,
-    marks: &[bool],
+    demands: &Demands,
     id: u32,
     r: FlaggedRails,
 ) -> Result<FlaggedRails, OpFault>
     requires rails { AreFlaggedRefs (N.store nodes.old) r }
-    requires guards { All (λ c. IsRef (N.store nodes.old) c.guard) cuts.now }
-    requires values { All (λ c. IsRef (N.store nodes.old) c.value) cuts.now }
-    requires id { id < length marks.now }
-    requires marks { AreMarks cuts.now marks.now }
+    requires guards { All (λ c. IsRef (N.store nodes.old) c.guard) demands.now.cuts }
+    requires values { All (λ c. IsRef (N.store nodes.old) c.value) demands.now.cuts }
+    requires id { id < demands.now.nets }
     ensures { (ds : List SymbolicCut) (sets : ℕ → SymbolicSet)
-        → AllZip (IsCutBy (N.store nodes.old)) ds cuts.now
+        → AllZip (IsCutBy (N.store nodes.old)) ds demands.now.cuts
         → AreFlagged (N.store nodes.old) (sets id) r
         → Built (cuts_work ds sets) (HasFlagged (after_cuts ds sets id))
         (N.store nodes.old) (N.store nodes.new) result }
 {
-    if marks[id as usize] {
-        cut_all(ops, nodes, cuts, id, r)
+    if demands.is_cut(id) {
+        cut_all(ops, nodes, demands, id, r)
     } else {
         Ok(r)
     }
@@ -158,23 +158,20 @@ fn completed<N: Nodes>(ops: &Ops, nodes: &mut N, r: FlaggedRails) -> Result<NetR
     })
 }
 
-/// The set of a net behind all cuts of it, with where it has a bit. `marks` has a mark at each net of which there is a
-/// cut.
+/// The set of a net behind all cuts of it, with where it has a bit.
 pub fn cut_net<N: Nodes>(
     ops: &Ops,
     nodes: &mut N,
-    cuts: &CutList,
-    marks: &[bool],
+    demands: &Demands,
     id: u32,
     r: Rails,
 ) -> Result<NetRails, OpFault>
     requires rails { AreRefs (N.store nodes.old) r }
-    requires guards { All (λ c. IsRef (N.store nodes.old) c.guard) cuts.now }
-    requires values { All (λ c. IsRef (N.store nodes.old) c.value) cuts.now }
-    requires id { id < length marks.now }
-    requires marks { AreMarks cuts.now marks.now }
+    requires guards { All (λ c. IsRef (N.store nodes.old) c.guard) demands.now.cuts }
+    requires values { All (λ c. IsRef (N.store nodes.old) c.value) demands.now.cuts }
+    requires id { id < demands.now.nets }
     ensures { (ds : List SymbolicCut) (sets : ℕ → SymbolicSet)
-        → AllZip (IsCutBy (N.store nodes.old)) ds cuts.now
+        → AllZip (IsCutBy (N.store nodes.old)) ds demands.now.cuts
         → AreRails (N.store nodes.old) (sets id) r
         → Built (some_bit (after_cuts ds sets id) ∷ cuts_work ds sets)
         (HasNetSet (after_cuts ds sets id))
@@ -182,38 +179,35 @@ pub fn cut_net<N: Nodes>(
 {
     let known = is_constant(r);
     let flagged = FlaggedRails { rails: r, known };
-    let left = cut_marked(ops, nodes, cuts, marks, id, flagged)?;
+    let left = cut_marked(ops, nodes, demands, id, flagged)?;
     completed(ops, nodes, left)
 }
 
-/// The same where it may be clear that the set has a bit everywhere, or exactly one; then nothing is called for a net
-/// without a mark.
+/// The same where so much is clear of the set; then nothing is called for a net
+/// without a cut.
 pub fn cut_full<N: Nodes>(
     ops: &Ops,
     nodes: &mut N,
-    cuts: &CutList,
-    marks: &[bool],
+    demands: &Demands,
     id: u32,
     r: Rails,
-    full: bool,
-    known: bool,
+    filling: Filling,
 ) -> Result<NetRails, OpFault>
     requires rails { AreRefs (N.store nodes.old) r }
-    requires guards { All (λ c. IsRef (N.store nodes.old) c.guard) cuts.now }
-    requires values { All (λ c. IsRef (N.store nodes.old) c.value) cuts.now }
-    requires id { id < length marks.now }
-    requires marks { AreMarks cuts.now marks.now }
+    requires guards { All (λ c. IsRef (N.store nodes.old) c.guard) demands.now.cuts }
+    requires values { All (λ c. IsRef (N.store nodes.old) c.value) demands.now.cuts }
+    requires id { id < demands.now.nets }
     ensures { (ds : List SymbolicCut) (sets : ℕ → SymbolicSet)
-        → AllZip (IsCutBy (N.store nodes.old)) ds cuts.now
+        → AllZip (IsCutBy (N.store nodes.old)) ds demands.now.cuts
         → AreRails (N.store nodes.old) (sets id) r
-        → (IsTrue full → IsEverywhere (N.store nodes.old).vars (some_bit (sets id)))
-        → (IsTrue known → IsKnown (N.store nodes.old).vars (sets id))
+        → (filling ≢ MayBeEmpty → IsEverywhere (N.store nodes.old).vars (some_bit (sets id)))
+        → (filling ≡ TwoValued → IsKnown (N.store nodes.old).vars (sets id))
         → Built (some_bit (after_cuts ds sets id) ∷ cuts_work ds sets)
         (HasNetSet (after_cuts ds sets id))
         (N.store nodes.old) (N.store nodes.new) result }
 {
-    if full && !marks[id as usize] {
-        let known = is_clear(known, r);
+    if filling.is_full() && !demands.is_cut(id) {
+        let known = is_clear(filling.is_known(), r);
         return Ok(NetRails {
             can0: r.can0,
             can1: r.can1,
@@ -221,5 +215,5 @@ pub fn cut_full<N: Nodes>(
             known,
         });
     }
-    cut_net(ops, nodes, cuts, marks, id, r)
+    cut_net(ops, nodes, demands, id, r)
 }

@@ -1,4 +1,6 @@
-//! What is kept of one time for the next; begin with `Frame`.
+//! What is kept of one time for the next, and which gates and latches are due; begin with `Frame`.
+//! `make_due` begins a time. The lists by which a change finds those that read it are in
+//! `readers.rt`, the marks of what is due in `marks.rt`.
 
 ghost use Rattle.std.specs.Prelude.{◌≡◌, ◌<◌, ◌≤◌, ℕ, IfOk, IfSome, IsTrue, OnOk, All, [], false, length, map, replicate};
 ghost use Rattle.dd_nodes.specs.Diagram.{IsDiagram};
@@ -7,18 +9,20 @@ ghost use Rattle.net_core.specs.declared.raw.RawNet.{RawNet};
 ghost use Rattle.dual_rail.specs.Rail.{AreRefs};
 ghost use Rattle.sym_step.specs.Step.{rails_at};
 ghost use Rattle.sym_step.specs.private.Boards.{AreFull};
+ghost use Rattle.sym_step.specs.private.Demands.{nodes_of};
 ghost use Rattle.sym_step.specs.Frame.{IsFrame, input_rails, nets_of, next_of};
 ghost use Rattle.sym_step.specs.private.Frames.{AreCarried, AreReady, AreSpared};
 ghost use Rattle.sym_step.specs.private.Readers.{AreReaders};
 
 use crate::board::Board;
 use crate::cut::Cut;
+use crate::demands::Demands;
 use crate::marks::Marks;
 use crate::readers::{Readers, mark_drivers};
 use crate::vectors::Vectors;
 use dd_nodes::Ref;
 use dual_rail::Rails;
-use gate_sets::NetRails;
+use gate_sets::{Compiled, NetRails};
 use net_core::{Gate, Latch, Net};
 use std::alloc::{AllocError, Global};
 use ste_base::{Items, NodeId};
@@ -195,7 +199,7 @@ fn room(alloc: Global, gates: &[Gate]) -> Result<Vec<Ref>, AllocError>
 
 /// The nets of which there is a cut, in this memory.
 pub fn asked_nets(used: Vec<NodeId>, cuts: &[Cut]) -> Result<Vec<NodeId>, AllocError>
-    ensures { IfOk result (λ ids. ids.items ≡ map (λ c. c.node) cuts.now) }
+    ensures { IfOk result (λ ids. ids.items ≡ nodes_of cuts.now) }
 {
     let mut ids = none_asked(used);
     for c in cuts {
@@ -217,7 +221,7 @@ pub fn own_sets(alloc: Global, frame: &Frame, latches: &[Latch]) -> Result<Items
 }
 
 /// The lists of a net: these, where there are some.
-fn lists_of(alloc: Global, net: &Net, spare: Option<Readers>) -> Result<Readers, AllocError>
+fn lists_of(alloc: Global, net: &Compiled, spare: Option<Readers>) -> Result<Readers, AllocError>
     ensures { IfOk result (λ readers. IfSome spare (AreReaders net.now.raw)
         → AreReaders net.now.raw readers) }
 {
@@ -229,7 +233,7 @@ fn lists_of(alloc: Global, net: &Net, spare: Option<Readers>) -> Result<Readers,
 
 /// Lists which gates and latches read a net or drive it, where times go on from one another. In a blank frame all of them
 /// are due, and none is looked for.
-fn with_lists(alloc: Global, net: &Net, frame: &mut Frame) -> Result<(), AllocError>
+fn with_lists(alloc: Global, net: &Compiled, frame: &mut Frame) -> Result<(), AllocError>
     ensures frame { OnOk result ((s : Store) → IsFrame s net.now.raw frame.old
         → IsFrame s net.now.raw frame.new × AreReady net.now.raw frame.new) }
     ensures asked { OnOk result (frame.new.asked ≡ frame.old.asked) }
@@ -250,22 +254,23 @@ fn with_lists(alloc: Global, net: &Net, frame: &mut Frame) -> Result<(), AllocEr
 /// Makes the gates and latches due that drive nets which are cut now, or were at the time before.
 pub fn make_due(
     alloc: Global,
-    net: &Net,
-    asked: &[NodeId],
+    net: &Compiled,
+    demands: &Demands,
     frame: &mut Frame,
 ) -> Result<(), AllocError>
-    requires asked { All (λ node. node.0 < net.now.raw.nets) asked.now }
+    requires over { demands.now.nets ≡ net.now.raw.nets }
     requires before { All (λ node. node.0 < net.now.raw.nets) frame.old.asked.items }
     ensures frame { OnOk result ((s : Store) → IsFrame s net.now.raw frame.old
-        → IsFrame s net.now.raw frame.new × AreSpared s net.now.raw asked.now frame.new.board
-        × AreCarried net.now.raw asked.now frame.new.board) }
+        → IsFrame s net.now.raw frame.new
+        × AreSpared s net.now.raw (nodes_of demands.now.cuts) frame.new.board
+        × AreCarried net.now.raw (nodes_of demands.now.cuts) frame.new.board) }
     ensures first { OnOk result (frame.new.first ≡ frame.old.first) }
     ensures nets { OnOk result (frame.new.board.nets ≡ frame.old.board.nets) }
 {
     with_lists(alloc, net, frame)?;
     let before = frame.asked.as_slice();
     mark_drivers(net, before, &mut frame.board.due);
-    mark_drivers(net, asked, &mut frame.board.due);
+    mark_drivers(net, demands.nodes(), &mut frame.board.due);
     Ok(())
 }
 

@@ -1,18 +1,20 @@
-//! The sets that latches get at a time; begin with `latch_sets`.
+//! The sets that latches get at a time, all of them read before any is written; begin with
+//! `latch_sets`. They are written in `source.rt`.
 
-ghost use Rattle.std.specs.Prelude.{◌≡◌, ◌≢◌, ◌⊎◌, ◌<◌, ℕ, List, [], IfOk, IfSome, IsTrue, None, OnOk, false, length, map};
-ghost use Rattle.ste_base.specs.declared.id.NodeId.{NodeId};
-ghost use Rattle.sym_step.specs.Frame.{bare, input_rails, mark_count, next_of};
+ghost use Rattle.std.specs.Prelude.{◌≡◌, ◌≢◌, ◌⊎◌, ◌<◌, ℕ, [], IfOk, IfSome, IsTrue, None, OnOk, false, length, map};
+ghost use Rattle.sym_step.specs.Frame.{bare, input_rails, is_listed, mark_count, next_of};
 ghost use Rattle.sym_step.specs.private.Frames.{AreCarried};
-ghost use Rattle.sym_step.specs.private.Latches.{AreLatchSets, HaveMarks, IsCopied, latch_set};
+ghost use Rattle.sym_step.specs.private.Demands.{nodes_of};
+ghost use Rattle.sym_step.specs.private.Latches.{AreLatchSets, IsCopied, latch_set};
 ghost use Rattle.gate_sets.specs.NetSets.{net_at};
 ghost use Rattle.sym_step.specs.private.Readers.{AreReaders, flag_at};
 
 use crate::board::{Board, are_same};
+use crate::demands::Demands;
 use crate::frame::Frame;
 use dual_rail::Rails;
-use gate_sets::NetRails;
-use net_core::{Latch, Net};
+use gate_sets::{Compiled, NetRails};
+use net_core::Latch;
 use std::alloc::AllocError;
 use ste_base::NodeId;
 
@@ -26,8 +28,8 @@ pub struct LatchSet {
 
 /// The set of a latch that is told which it has; none where nothing is left to do: its output is not cut, and has the told
 /// set already.
-fn told_set(nets: &[NetRails], marks: &[bool], latch: &Latch, told: Rails) -> Option<LatchSet>
-    requires marked { length marks.now ≡ length nets.now }
+fn told_set(nets: &[NetRails], demands: &Demands, latch: &Latch, told: Rails) -> Option<LatchSet>
+    requires over { demands.now.nets ≡ length nets.now }
     requires input { latch.now.input.0 < length nets.now }
     requires output { latch.now.output.0 < length nets.now }
     ensures some { IfSome result (λ set. set ≡ record {
@@ -35,12 +37,12 @@ fn told_set(nets: &[NetRails], marks: &[bool], latch: &Latch, told: Rails) -> Op
       rails = told;
       given = net_at nets.now latch.now.input.0;
     }) }
-    ensures none { result ≡ None → (flag_at marks.now latch.now.output.0 ≡ false)
+    ensures none { result ≡ None → (is_listed (nodes_of demands.now.cuts) latch.now.output.0 ≡ false)
         × (told ≡ bare (net_at nets.now latch.now.output.0)) }
 {
     let output = latch.output.0 as usize;
     let now = nets[output];
-    if !marks[output] && told.can0 == now.can0 && told.can1 == now.can1 {
+    if !demands.is_cut(latch.output.0) && told.can0 == now.can0 && told.can1 == now.can1 {
         return None;
     }
     Some(LatchSet {
@@ -62,21 +64,21 @@ fn no_sets(used: Vec<LatchSet>) -> Vec<LatchSet>
 /// The sets of the latches that do not have theirs yet, where it is told which they have, in this memory.
 fn told_sets(
     used: Vec<LatchSet>,
-    net: &Net,
-    marks: &[bool],
+    net: &Compiled,
+    demands: &Demands,
     nets: &[NetRails],
     told: &[Rails],
 ) -> Result<Vec<LatchSet>, AllocError>
     requires nets { length nets.now ≡ net.now.raw.nets }
-    requires marked { length marks.now ≡ net.now.raw.nets }
+    requires over { demands.now.nets ≡ net.now.raw.nets }
     requires told { length told.now ≡ length net.now.raw.latches }
-    ensures { IfOk result (λ sets. (asked : List NodeId) → HaveMarks asked marks.now
-        → AreLatchSets net.now.raw told.now asked nets.now sets.items) }
+    ensures { IfOk result (λ sets. AreLatchSets net.now.raw told.now
+        (nodes_of demands.now.cuts) nets.now sets.items) }
 {
     let latches = net.latches();
     let mut sets = no_sets(used);
     for l in 0..latches.len() {
-        if let Some(set) = told_set(nets, marks, &latches[l], told[l]) {
+        if let Some(set) = told_set(nets, demands, &latches[l], told[l]) {
             sets.push(set)?;
         }
     }
@@ -84,14 +86,14 @@ fn told_sets(
 }
 
 /// Whether nothing is left to do for a latch: its output is not cut, and has the set of its input already.
-fn is_copied(nets: &[NetRails], marks: &[bool], latch: &Latch) -> bool
-    requires marked { length marks.now ≡ length nets.now }
+fn is_copied(nets: &[NetRails], demands: &Demands, latch: &Latch) -> bool
+    requires over { demands.now.nets ≡ length nets.now }
     requires input { latch.now.input.0 < length nets.now }
     requires output { latch.now.output.0 < length nets.now }
-    ensures { IsTrue result → IsCopied marks.now nets.now latch.now }
+    ensures { IsTrue result → IsCopied (nodes_of demands.now.cuts) nets.now latch.now }
 {
     let output = latch.output.0 as usize;
-    !marks[output] && are_same(nets[output], nets[latch.input.0 as usize])
+    !demands.is_cut(latch.output.0) && are_same(nets[output], nets[latch.input.0 as usize])
 }
 
 /// The set of a latch of this number, where it is due and something is left to do. Where nothing is, its mark is taken away,
@@ -99,12 +101,12 @@ fn is_copied(nets: &[NetRails], marks: &[bool], latch: &Latch) -> bool
 fn due_set(
     latch: &Latch,
     number: usize,
-    marks: &[bool],
+    demands: &Demands,
     listed: bool,
     board: &mut Board,
 ) -> Option<LatchSet>
     requires number { number < length board.old.due.flags.items }
-    requires marked { length marks.now ≡ length board.old.nets.items }
+    requires over { demands.now.nets ≡ length board.old.nets.items }
     requires input { latch.now.input.0 < length board.old.nets.items }
     requires output { latch.now.output.0 < length board.old.nets.items }
     ensures nets { board.new.nets ≡ board.old.nets }
@@ -116,15 +118,15 @@ fn due_set(
         → flag_at board.new.due.flags.items k ≡ flag_at board.old.due.flags.items k }
     ensures some { IfSome result (λ set. set ≡ latch_set board.old.nets.items latch.now) }
     ensures none { result ≡ None → (flag_at board.old.due.flags.items number ≡ false)
-        ⊎ IsCopied marks.now board.old.nets.items latch.now }
+        ⊎ IsCopied (nodes_of demands.now.cuts) board.old.nets.items latch.now }
     ensures cleared { flag_at board.new.due.flags.items number ≡ false
         → (flag_at board.old.due.flags.items number ≡ false)
-        ⊎ (IsTrue listed × IsCopied marks.now board.old.nets.items latch.now) }
+        ⊎ (IsTrue listed × IsCopied (nodes_of demands.now.cuts) board.old.nets.items latch.now) }
 {
     if !board.due.is_marked(number) {
         return None;
     }
-    if is_copied(&board.nets, marks, latch) {
+    if is_copied(&board.nets, demands, latch) {
         if listed {
             board.due.unmark(number);
         }
@@ -142,15 +144,15 @@ fn due_set(
 /// have theirs are taken away, where there are lists.
 fn due_sets(
     used: Vec<LatchSet>,
-    net: &Net,
-    marks: &[bool],
+    net: &Compiled,
+    demands: &Demands,
     listed: bool,
     board: &mut Board,
 ) -> Result<Vec<LatchSet>, AllocError>
     requires nets { length board.old.nets.items ≡ net.now.raw.nets }
     requires due { length board.old.due.flags.items ≡ mark_count net.now.raw }
     requires gates { length board.old.due.order.items ≡ length net.now.raw.gates }
-    requires marked { length marks.now ≡ net.now.raw.nets }
+    requires over { demands.now.nets ≡ net.now.raw.nets }
     requires lists { IsTrue listed → AreReaders net.now.raw board.old.readers }
     ensures nets { board.new.nets ≡ board.old.nets }
     ensures readers { board.new.readers ≡ board.old.readers }
@@ -159,20 +161,20 @@ fn due_sets(
     ensures long { length board.new.due.flags.items ≡ length board.old.due.flags.items }
     ensures gates { (k : ℕ) → k < length net.now.raw.gates
         → flag_at board.new.due.flags.items k ≡ flag_at board.old.due.flags.items k }
-    ensures carried { OnOk result ((asked : List NodeId) → HaveMarks asked marks.now
-        → AreCarried net.now.raw asked board.old → AreCarried net.now.raw asked board.new) }
-    ensures sets { IfOk result (λ sets. (asked : List NodeId) → HaveMarks asked marks.now
-        → AreCarried net.now.raw asked board.old
+    ensures carried { OnOk result (AreCarried net.now.raw (nodes_of demands.now.cuts) board.old
+        → AreCarried net.now.raw (nodes_of demands.now.cuts) board.new) }
+    ensures sets { IfOk result (λ sets.
+        AreCarried net.now.raw (nodes_of demands.now.cuts) board.old
         → AreLatchSets net.now.raw
         (map (input_rails (map bare board.old.nets.items)) net.now.raw.latches)
-        asked board.old.nets.items sets.items) }
+        (nodes_of demands.now.cuts) board.old.nets.items sets.items) }
 {
     let gates = net.gates().len();
     let latches = net.latches();
     let mut sets = no_sets(used);
     let mut l = board.due.next_latch(0, latches.len());
     while l < latches.len() {
-        if let Some(set) = due_set(&latches[l], gates + l, marks, listed, board) {
+        if let Some(set) = due_set(&latches[l], gates + l, demands, listed, board) {
             sets.push(set)?;
         }
         l = board.due.next_latch(l + 1, latches.len());
@@ -181,18 +183,17 @@ fn due_sets(
 }
 
 /// The sets of the latches that do not have theirs yet: at a first time those that the frame starts with, which it then has
-/// no longer, and else those that the inputs of the latches have. `marks` has a mark at each net that is cut. All are read
-/// before any is written, since the input of a latch may be the output of another. They stand in the memory of `used`.
+/// no longer, and else those that the inputs of the latches have. All are read before any is written, since the input of a latch may be the output of another. They stand in the memory of `used`.
 pub fn latch_sets(
     used: Vec<LatchSet>,
-    net: &Net,
-    marks: &[bool],
+    net: &Compiled,
+    demands: &Demands,
     frame: &mut Frame,
 ) -> Result<Vec<LatchSet>, AllocError>
     requires nets { length frame.old.board.nets.items ≡ net.now.raw.nets }
     requires due { length frame.old.board.due.flags.items ≡ mark_count net.now.raw }
     requires gates { length frame.old.board.due.order.items ≡ length net.now.raw.gates }
-    requires marked { length marks.now ≡ net.now.raw.nets }
+    requires over { demands.now.nets ≡ net.now.raw.nets }
     requires first { length (next_of net.now.raw frame.old) ≡ length net.now.raw.latches }
     requires lists { IsTrue frame.old.listed → AreReaders net.now.raw frame.old.board.readers }
     ensures rest { frame.new ≡ record frame.old { first = None; board = frame.new.board } }
@@ -203,16 +204,15 @@ pub fn latch_sets(
     ensures long { length frame.new.board.due.flags.items ≡ length frame.old.board.due.flags.items }
     ensures gates { (k : ℕ) → k < length net.now.raw.gates
         → flag_at frame.new.board.due.flags.items k ≡ flag_at frame.old.board.due.flags.items k }
-    ensures carried { OnOk result ((asked : List NodeId) → HaveMarks asked marks.now
-        → AreCarried net.now.raw asked frame.old.board
-        → AreCarried net.now.raw asked frame.new.board) }
-    ensures sets { IfOk result (λ sets. (asked : List NodeId) → HaveMarks asked marks.now
-        → AreCarried net.now.raw asked frame.old.board
+    ensures carried { OnOk result (AreCarried net.now.raw (nodes_of demands.now.cuts) frame.old.board
+        → AreCarried net.now.raw (nodes_of demands.now.cuts) frame.new.board) }
+    ensures sets { IfOk result (λ sets.
+        AreCarried net.now.raw (nodes_of demands.now.cuts) frame.old.board
         → AreLatchSets net.now.raw (next_of net.now.raw frame.old)
-        asked frame.old.board.nets.items sets.items) }
+        (nodes_of demands.now.cuts) frame.old.board.nets.items sets.items) }
 {
     match frame.first.take() {
-        Some(told) => told_sets(used, net, marks, &frame.board.nets, told.as_slice()),
-        None => due_sets(used, net, marks, frame.listed, &mut frame.board),
+        Some(told) => told_sets(used, net, demands, &frame.board.nets, told.as_slice()),
+        None => due_sets(used, net, demands, frame.listed, &mut frame.board),
     }
 }

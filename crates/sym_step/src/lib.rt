@@ -1,11 +1,13 @@
-//! The possible sets of one time, under all assignments at once: the rows of all covers (`GateRows`), what is asked
-//! (`Cut`), and one step of the whole net. Begin with `step`.
+//! One time step of a whole net, under all assignments at once: the possible sets of all nets
+//! (`Frame`), from what is asked (`Cut`) and the sets of the time before. The program calls
+//! `renew`, which changes a frame in place; `advance` is the same with a result of its own, and
+//! `step` is the same from nothing. What one gate gives is in `gate_sets`.
 #![tactic(auto)]
 
 mod board;
 pub mod cut;
-mod cut_list;
 mod cuts;
+mod demands;
 pub mod frame;
 mod latches;
 pub mod laws;

@@ -1,4 +1,6 @@
-//! The sets of the gates' outputs, in settled order; begin with `place_gates`.
+//! The sets of the gates' outputs, in settled order; begin with `place_gates`, which goes through
+//! the gates that are due. The set of one gate is `gate_set` and `constant_set` of `gate_sets`; its
+//! cuts are in `cuts.rt`.
 
 ghost use Rattle.std.specs.Prelude.{◌≡◌, ◌<◌, ◌≤◌, ◌∷◌, ◌++◌, false, ℕ, List, All, OnOk, Some, length, map, set, slice_get};
 ghost use Rattle.std.specs.List.{AllZip};
@@ -7,21 +9,21 @@ ghost use Rattle.net_core.specs.declared.cover.Cover.{Cover};
 ghost use Rattle.net_core.specs.Flat.{IsSettledOrder};
 ghost use Rattle.net_core.specs.Work.{ArePossibleEach, SymbolicSet, SymbolicCut, after_cuts, cover_work, cuts_work, input_sets, output_set, some_bit, time_work};
 ghost use Rattle.dual_rail.specs.Rail.{Built, Whatever};
-ghost use Rattle.gate_sets.specs.Lists.{rows_of};
 ghost use Rattle.gate_sets.specs.NetSets.{AreNetRails, AreNetRefs, HasNetSet, HaveInputs, net_at};
 ghost use Rattle.sym_step.specs.Step.{IsCutBy};
 ghost use Rattle.sym_step.specs.private.Boards.{Follows};
+ghost use Rattle.sym_step.specs.private.Demands.{nodes_of};
 ghost use Rattle.sym_step.specs.private.Frames.{AreSpared, IsSpared};
 ghost use Rattle.sym_step.specs.private.Readers.{flag_at};
-ghost use Rattle.sym_step.specs.private.Parts.{AreMarks, HaveGates, asks};
+ghost use Rattle.sym_step.specs.private.Parts.{HaveGates, asks};
 
 use crate::board::Board;
-use crate::cut_list::CutList;
 use crate::cuts::cut_full;
+use crate::demands::Demands;
 use dd_nodes::{Nodes, Ref};
 use dd_ops::{OpFault, Ops};
-use gate_sets::{CHOICES, Filling, GateRows, NetRails, Scratch, choice_of, cover_gate, filling_of};
-use net_core::{Gate, Net};
+use gate_sets::{Compiled, NetRails, Scratch, constant_set, filling_of, gate_set};
+use net_core::Gate;
 use std::alloc::Global;
 
 /// The set of a gate's output, where its inputs have these sets.
@@ -29,10 +31,8 @@ fn place<N: Nodes>(
     alloc: Global,
     ops: &Ops,
     nodes: &mut N,
-    net: &Net,
-    rows: &GateRows,
-    cuts: &CutList,
-    marks: &[bool],
+    net: &Compiled,
+    demands: &Demands,
     products: &mut [Ref],
     scratch: &mut Scratch,
     nets: &[NetRails],
@@ -41,17 +41,15 @@ fn place<N: Nodes>(
     requires width { (cover : Cover) → slice_get net.now.raw.covers g.now.cover ≡ Some cover
         → cover.inputs ≡ length g.now.inputs }
     requires cover { g.now.cover < length net.now.raw.covers }
-    requires output { g.now.output.0 < length marks.now }
+    requires output { g.now.output.0 < demands.now.nets }
     requires room { length g.now.inputs < length products.old }
     requires inside { All (λ input. input.0 < length nets.now) g.now.inputs }
     requires refs { All (AreNetRefs (N.store nodes.old)) nets.now }
-    requires rows { rows.now.covers ≡ map rows_of net.now.raw.covers }
-    requires guards { All (λ c. IsRef (N.store nodes.old) c.guard) cuts.now }
-    requires values { All (λ c. IsRef (N.store nodes.old) c.value) cuts.now }
-    requires marks { AreMarks cuts.now marks.now }
+    requires guards { All (λ c. IsRef (N.store nodes.old) c.guard) demands.now.cuts }
+    requires values { All (λ c. IsRef (N.store nodes.old) c.value) demands.now.cuts }
     ensures room { length products.new ≡ length products.old }
     ensures built { (ds : List SymbolicCut) (before sets : ℕ → SymbolicSet)
-        → AllZip (IsCutBy (N.store nodes.old)) ds cuts.now
+        → AllZip (IsCutBy (N.store nodes.old)) ds demands.now.cuts
         → HaveInputs (N.store nodes.old) sets nets.now g.now.inputs
         → before g.now.output.0 ≡ output_set net.now.raw sets g.now
         → Built (some_bit (after_cuts ds before g.now.output.0)
@@ -60,28 +58,19 @@ fn place<N: Nodes>(
         (HasNetSet (after_cuts ds before g.now.output.0))
         (N.store nodes.old) (N.store nodes.new) result }
 {
-    let lists = rows.lists(g.cover as usize);
-    let tables = rows.tables(g.cover as usize);
-    let inputs = g.inputs.as_slice();
-    let Filling { full, known } = filling_of(nets, inputs);
-    let cover = &net.covers()[g.cover as usize];
-    let given = cover_gate(
-        alloc, ops, nodes, cover, lists, tables, products, scratch, nets, inputs, full, known,
-    )?;
-    cut_full(ops, nodes, cuts, marks, g.output.0, given, full, known)
+    let filling = filling_of(nets, g.inputs.as_slice());
+    let given = gate_set(alloc, ops, nodes, net, products, scratch, nets, g, filling)?;
+    cut_full(ops, nodes, demands, g.output.0, given, filling)
 }
 
 /// Gives a gate's output its set, where its inputs have these sets; a gate that is not due keeps that of before, and nothing
-/// is called. Where the inputs are constants, at most three, and the output is not cut, its set is read from the words of
-/// the gate's cover. `number` is the gate's.
+/// is called. `number` is the gate's.
 fn renew<N: Nodes>(
     alloc: Global,
     ops: &Ops,
     nodes: &mut N,
-    net: &Net,
-    rows: &GateRows,
-    cuts: &CutList,
-    marks: &[bool],
+    net: &Compiled,
+    demands: &Demands,
     products: &mut [Ref],
     scratch: &mut Scratch,
     board: &mut Board,
@@ -96,20 +85,18 @@ fn renew<N: Nodes>(
     requires room { length g.now.inputs < length products.old }
     requires inside { All (λ input. input.0 < length board.old.nets.items) g.now.inputs }
     requires refs { All (AreNetRefs (N.store nodes.old)) board.old.nets.items }
-    requires rows { rows.now.covers ≡ map rows_of net.now.raw.covers }
-    requires guards { All (λ c. IsRef (N.store nodes.old) c.guard) cuts.now }
-    requires values { All (λ c. IsRef (N.store nodes.old) c.value) cuts.now }
-    requires marks { AreMarks cuts.now marks.now }
-    requires marked { length marks.now ≡ length board.old.nets.items }
+    requires guards { All (λ c. IsRef (N.store nodes.old) c.guard) demands.now.cuts }
+    requires values { All (λ c. IsRef (N.store nodes.old) c.value) demands.now.cuts }
+    requires over { demands.now.nets ≡ length board.old.nets.items }
     requires spared { flag_at board.old.due.flags.items number ≡ false
-        → IsSpared (N.store nodes.old) net.now.raw (map (λ c. c.node) cuts.now)
+        → IsSpared (N.store nodes.old) net.now.raw (nodes_of demands.now.cuts)
         board.old number g.now }
     ensures room { length products.new ≡ length products.old }
     ensures nets { OnOk result (board.new.nets.items
         ≡ set board.old.nets.items g.now.output.0 (net_at board.new.nets.items g.now.output.0)) }
     ensures follows { OnOk result (Follows board.old board.new) }
     ensures built { (ds : List SymbolicCut) (before sets : ℕ → SymbolicSet)
-        → AllZip (IsCutBy (N.store nodes.old)) ds cuts.now
+        → AllZip (IsCutBy (N.store nodes.old)) ds demands.now.cuts
         → HaveInputs (N.store nodes.old) sets board.old.nets.items g.now.inputs
         → before g.now.output.0 ≡ output_set net.now.raw sets g.now
         → Built (some_bit (after_cuts ds before g.now.output.0)
@@ -118,7 +105,7 @@ fn renew<N: Nodes>(
         (N.store nodes.old) (N.store nodes.new) result }
     ensures have { OnOk result (
         (ds : List SymbolicCut) (before sets : ℕ → SymbolicSet)
-        → AllZip (IsCutBy (N.store nodes.old)) ds cuts.now
+        → AllZip (IsCutBy (N.store nodes.old)) ds demands.now.cuts
         → HaveInputs (N.store nodes.old) sets board.old.nets.items g.now.inputs
         → before g.now.output.0 ≡ output_set net.now.raw sets g.now
         → AreNetRails (N.store nodes.new) (after_cuts ds before g.now.output.0)
@@ -127,15 +114,14 @@ fn renew<N: Nodes>(
     if !board.due.is_marked(number) {
         return Ok(());
     }
-    let choice = choice_of(board.nets.as_slice(), g.inputs.as_slice());
-    if choice < CHOICES && !marks[g.output.0 as usize] {
-        board.put(g.output.0, rows.choices(g.cover as usize).net(choice));
-        return Ok(());
-    }
     let nets = board.nets.as_slice();
-    let r = place(
-        alloc, ops, nodes, net, rows, cuts, marks, products, scratch, nets, g,
-    )?;
+    if let Some(r) = constant_set(net, nets, g) {
+        if !demands.is_cut(g.output.0) {
+            board.put(g.output.0, r);
+            return Ok(());
+        }
+    }
+    let r = place(alloc, ops, nodes, net, demands, products, scratch, nets, g)?;
     board.put(g.output.0, r);
     Ok(())
 }
@@ -145,10 +131,8 @@ pub fn place_gates<N: Nodes>(
     alloc: Global,
     ops: &Ops,
     nodes: &mut N,
-    net: &Net,
-    rows: &GateRows,
-    cuts: &CutList,
-    marks: &[bool],
+    net: &Compiled,
+    demands: &Demands,
     products: &mut [Ref],
     scratch: &mut Scratch,
     board: &mut Board,
@@ -158,12 +142,10 @@ pub fn place_gates<N: Nodes>(
     requires order { IsSettledOrder net.now.raw board.old.due.order.items }
     requires room { All (λ gate. length gate.inputs < length products.old) net.now.raw.gates }
     requires refs { All (AreNetRefs (N.store nodes.old)) board.old.nets.items }
-    requires rows { rows.now.covers ≡ map rows_of net.now.raw.covers }
-    requires guards { All (λ c. IsRef (N.store nodes.old) c.guard) cuts.now }
-    requires values { All (λ c. IsRef (N.store nodes.old) c.value) cuts.now }
-    requires marked { length marks.now ≡ net.now.raw.nets }
-    requires marks { AreMarks cuts.now marks.now }
-    requires spared { AreSpared (N.store nodes.old) net.now.raw (map (λ c. c.node) cuts.now)
+    requires guards { All (λ c. IsRef (N.store nodes.old) c.guard) demands.now.cuts }
+    requires values { All (λ c. IsRef (N.store nodes.old) c.value) demands.now.cuts }
+    requires over { demands.now.nets ≡ net.now.raw.nets }
+    requires spared { AreSpared (N.store nodes.old) net.now.raw (nodes_of demands.now.cuts)
         board.old }
     ensures room { OnOk result (length products.new ≡ length products.old) }
     ensures refs { OnOk result (All (AreNetRefs (N.store nodes.new)) board.new.nets.items) }
@@ -171,7 +153,7 @@ pub fn place_gates<N: Nodes>(
     ensures built { (ls : List SymbolicSet) (ds : List SymbolicCut) (sets : ℕ → SymbolicSet)
         → length ls ≡ length net.now.raw.latches
         → ArePossibleEach (N.store nodes.old).vars net.now.raw ls (asks ds) sets
-        → AllZip (IsCutBy (N.store nodes.old)) ds cuts.now
+        → AllZip (IsCutBy (N.store nodes.old)) ds demands.now.cuts
         → HaveGates net.now.raw board.old.due.order.items sets (N.store nodes.old) 0
         board.old.nets.items
         → Built (time_work net.now.raw ls (asks ds) sets) Whatever
@@ -180,7 +162,7 @@ pub fn place_gates<N: Nodes>(
         (ls : List SymbolicSet) (ds : List SymbolicCut) (sets : ℕ → SymbolicSet)
         → length ls ≡ length net.now.raw.latches
         → ArePossibleEach (N.store nodes.old).vars net.now.raw ls (asks ds) sets
-        → AllZip (IsCutBy (N.store nodes.old)) ds cuts.now
+        → AllZip (IsCutBy (N.store nodes.old)) ds demands.now.cuts
         → HaveGates net.now.raw board.old.due.order.items sets (N.store nodes.old) 0
         board.old.nets.items
         → HaveGates net.now.raw board.old.due.order.items sets (N.store nodes.new)
@@ -191,7 +173,7 @@ pub fn place_gates<N: Nodes>(
         let number = board.due.number_at(place);
         let g = &net.gates()[number];
         renew(
-            alloc, ops, nodes, net, rows, cuts, marks, products, scratch, board, number, g,
+            alloc, ops, nodes, net, demands, products, scratch, board, number, g,
         )?;
         place = board.due.next(place + 1);
     }

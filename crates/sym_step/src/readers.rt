@@ -4,7 +4,8 @@ ghost use Rattle.std.specs.Prelude.{◌≡◌, ◌≢◌, ◌<◌, ◌+◌, ◌-
 ghost use Rattle.sym_step.specs.private.Readers.{AreAdded, AreGates, AreLatches, AreMarked, AreReaders, IsBetween, IsLink, Lists, ReadsAs, driver_number, head_of, slot_of};
 
 use crate::marks::Marks;
-use net_core::{Gate, Latch, Net, Source};
+use gate_sets::Compiled;
+use net_core::{Gate, Latch, Source};
 use std::alloc::{AllocError, Global};
 use ste_base::NodeId;
 
@@ -101,7 +102,7 @@ impl Readers {
     }
 
     /// Adds the numbers of all gates to their lists.
-    fn add_gates(&mut self, net: &Net) -> Result<(), AllocError>
+    fn add_gates(&mut self, net: &Compiled) -> Result<(), AllocError>
         requires nets { length self.old.heads.items ≡ net.now.raw.nets }
         requires few { length net.now.raw.gates < 2 ^ 32 }
         ensures added { OnOk result (AreAdded self.old self.new) }
@@ -115,7 +116,7 @@ impl Readers {
     }
 
     /// Adds the numbers of all latches, which come behind those of the gates, to their lists.
-    fn add_latches(&mut self, net: &Net) -> Result<(), AllocError>
+    fn add_latches(&mut self, net: &Compiled) -> Result<(), AllocError>
         requires nets { length self.old.heads.items ≡ net.now.raw.nets }
         requires few { length net.now.raw.gates + length net.now.raw.latches < 2 ^ 32 }
         ensures added { OnOk result (AreAdded self.old self.new) }
@@ -130,7 +131,7 @@ impl Readers {
     }
 
     /// For each net the gates and latches that read it, and the one that drives it.
-    pub fn of_net(alloc: Global, net: &Net) -> Result<Readers, AllocError>
+    pub fn of_net(alloc: Global, net: &Compiled) -> Result<Readers, AllocError>
         ensures { IfOk result (λ readers. AreReaders net.now.raw readers) }
     {
         let heads = vec![in alloc; 0; net.nets() as usize]?;
@@ -186,7 +187,7 @@ impl Readers {
 }
 
 /// The number of the gate or the latch that drives a net.
-fn driver(net: &Net, id: NodeId) -> Option<usize>
+fn driver(net: &Compiled, id: NodeId) -> Option<usize>
     requires { id.0 < net.now.raw.nets }
     ensures { result ≡ driver_number net.now.raw id.0 }
 {
@@ -199,7 +200,7 @@ fn driver(net: &Net, id: NodeId) -> Option<usize>
 }
 
 /// Marks the gate or the latch that drives a net, where one does.
-fn mark_driver(net: &Net, id: NodeId, due: &mut Marks)
+fn mark_driver(net: &Compiled, id: NodeId, due: &mut Marks)
     requires { id.0 < net.now.raw.nets }
     ensures long { length due.new.flags.items ≡ length due.old.flags.items }
     ensures order { due.new.order ≡ due.old.order }
@@ -213,7 +214,7 @@ fn mark_driver(net: &Net, id: NodeId, due: &mut Marks)
 }
 
 /// Marks the gates and latches that drive these nets.
-pub fn mark_drivers(net: &Net, ids: &[NodeId], due: &mut Marks)
+pub fn mark_drivers(net: &Compiled, ids: &[NodeId], due: &mut Marks)
     requires { All (λ node. node.0 < net.now.raw.nets) ids.now }
     ensures long { length due.new.flags.items ≡ length due.old.flags.items }
     ensures order { due.new.order ≡ due.old.order }

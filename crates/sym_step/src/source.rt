@@ -1,4 +1,5 @@
-//! The sets of the nets that no gate drives; begin with `sources`.
+//! The sets of the nets that no gate drives: latches' outputs, and the nets that nothing drives;
+//! begin with `sources`. The sets that latches get are in `latches.rt`.
 
 ghost use Rattle.std.specs.Prelude.{◌≡◌, ◌<◌, ◌∷◌, ℕ, List, All, IsTrue, OnOk, false, length, map};
 ghost use Rattle.std.specs.List.{AllZip};
@@ -11,17 +12,17 @@ ghost use Rattle.sym_step.specs.Frame.{AreOpen, is_listed};
 ghost use Rattle.sym_step.specs.private.Frames.{HaveLatches, HaveOpen, IsOpened, StayRight};
 ghost use Rattle.sym_step.specs.private.Latches.{AreGiven, IsLatchSet};
 ghost use Rattle.gate_sets.specs.NetSets.{AreNetRefs, HasNetSet};
-ghost use Rattle.sym_step.specs.private.Parts.{AreMarks, HaveSources, asks};
+ghost use Rattle.sym_step.specs.private.Parts.{HaveSources, asks};
 
 use crate::board::Board;
-use crate::cut_list::CutList;
 use crate::cuts::cut_net;
+use crate::demands::Demands;
 use crate::latches::LatchSet;
 use dd_nodes::Nodes;
 use dd_ops::{OpFault, Ops};
 use dual_rail::{Rails, free};
-use gate_sets::NetRails;
-use net_core::{Net, Source};
+use gate_sets::{Compiled, NetRails};
+use net_core::Source;
 use ste_base::NodeId;
 
 /// The set of a latch's output behind its cuts, where the latch has the set `r`. Where its input had `r` at the time
@@ -29,46 +30,42 @@ use ste_base::NodeId;
 fn latch_source<N: Nodes>(
     ops: &Ops,
     nodes: &mut N,
-    cuts: &CutList,
-    marks: &[bool],
+    demands: &Demands,
     id: u32,
     r: Rails,
     given: NetRails,
 ) -> Result<NetRails, OpFault>
     requires rails { AreRefs (N.store nodes.old) r }
     requires given { AreNetRefs (N.store nodes.old) given }
-    requires guards { All (λ c. IsRef (N.store nodes.old) c.guard) cuts.now }
-    requires values { All (λ c. IsRef (N.store nodes.old) c.value) cuts.now }
-    requires id { id < length marks.now }
-    requires marks { AreMarks cuts.now marks.now }
+    requires guards { All (λ c. IsRef (N.store nodes.old) c.guard) demands.now.cuts }
+    requires values { All (λ c. IsRef (N.store nodes.old) c.value) demands.now.cuts }
+    requires id { id < demands.now.nets }
     ensures { (ds : List SymbolicCut) (sets : ℕ → SymbolicSet)
-        → AllZip (IsCutBy (N.store nodes.old)) ds cuts.now
+        → AllZip (IsCutBy (N.store nodes.old)) ds demands.now.cuts
         → AreRails (N.store nodes.old) (sets id) r
         → Built (some_bit (after_cuts ds sets id) ∷ cuts_work ds sets)
         (HasNetSet (after_cuts ds sets id))
         (N.store nodes.old) (N.store nodes.new) result }
 {
-    if !marks[id as usize] && given.can0 == r.can0 && given.can1 == r.can1 {
+    if !demands.is_cut(id) && given.can0 == r.can0 && given.can1 == r.can1 {
         return Ok(given);
     }
-    cut_net(ops, nodes, cuts, marks, id, r)
+    cut_net(ops, nodes, demands, id, r)
 }
 
 /// Gives the outputs of these latches their sets; any other latch has its own already.
 fn latch_sources<N: Nodes>(
     ops: &Ops,
     nodes: &mut N,
-    net: &Net,
+    net: &Compiled,
     latches: &[LatchSet],
-    cuts: &CutList,
-    marks: &[bool],
+    demands: &Demands,
     board: &mut Board,
 ) -> Result<(), OpFault>
     requires latches { All (IsLatchSet (N.store nodes.old) net.now.raw) latches.now }
-    requires guards { All (λ c. IsRef (N.store nodes.old) c.guard) cuts.now }
-    requires values { All (λ c. IsRef (N.store nodes.old) c.value) cuts.now }
-    requires marked { length marks.now ≡ net.now.raw.nets }
-    requires marks { AreMarks cuts.now marks.now }
+    requires guards { All (λ c. IsRef (N.store nodes.old) c.guard) demands.now.cuts }
+    requires values { All (λ c. IsRef (N.store nodes.old) c.value) demands.now.cuts }
+    requires over { demands.now.nets ≡ net.now.raw.nets }
     requires nets { length board.old.nets.items ≡ net.now.raw.nets }
     requires refs { All (AreNetRefs (N.store nodes.old)) board.old.nets.items }
     ensures keeps { OnOk result (Keeps (N.store nodes.old) (N.store nodes.new)) }
@@ -77,14 +74,14 @@ fn latch_sources<N: Nodes>(
     ensures built { (ls : List SymbolicSet) (ds : List SymbolicCut) (sets : ℕ → SymbolicSet)
         → AreGiven (N.store nodes.old) net.now.raw ls sets latches.now board.old.nets.items
         → ArePossibleEach (N.store nodes.old).vars net.now.raw ls (asks ds) sets
-        → AllZip (IsCutBy (N.store nodes.old)) ds cuts.now
+        → AllZip (IsCutBy (N.store nodes.old)) ds demands.now.cuts
         → Built (time_work net.now.raw ls (asks ds) sets) Whatever
         (N.store nodes.old) (N.store nodes.new) result }
     ensures have { OnOk result (
         (ls : List SymbolicSet) (ds : List SymbolicCut) (sets : ℕ → SymbolicSet)
         → AreGiven (N.store nodes.old) net.now.raw ls sets latches.now board.old.nets.items
         → ArePossibleEach (N.store nodes.old).vars net.now.raw ls (asks ds) sets
-        → AllZip (IsCutBy (N.store nodes.old)) ds cuts.now
+        → AllZip (IsCutBy (N.store nodes.old)) ds demands.now.cuts
         → HaveLatches net.now.raw sets (N.store nodes.new)
         (length net.now.raw.latches) board.new.nets.items
         × StayRight sets (N.store nodes.old) board.old.nets.items
@@ -93,7 +90,7 @@ fn latch_sources<N: Nodes>(
     let _ = net;
     for latch in latches {
         let id = latch.output.0;
-        let r = latch_source(ops, nodes, cuts, marks, id, latch.rails, latch.given)?;
+        let r = latch_source(ops, nodes, demands, id, latch.rails, latch.given)?;
         board.put(id, r);
     }
     Ok(())
@@ -103,20 +100,18 @@ fn latch_sources<N: Nodes>(
 fn open_source<N: Nodes>(
     ops: &Ops,
     nodes: &mut N,
-    net: &Net,
-    cuts: &CutList,
-    marks: &[bool],
+    net: &Compiled,
+    demands: &Demands,
     id: u32,
     now: NetRails,
 ) -> Result<NetRails, OpFault>
     requires id { id < net.now.raw.nets }
-    requires guards { All (λ c. IsRef (N.store nodes.old) c.guard) cuts.now }
-    requires values { All (λ c. IsRef (N.store nodes.old) c.value) cuts.now }
-    requires marked { length marks.now ≡ net.now.raw.nets }
-    requires marks { AreMarks cuts.now marks.now }
+    requires guards { All (λ c. IsRef (N.store nodes.old) c.guard) demands.now.cuts }
+    requires values { All (λ c. IsRef (N.store nodes.old) c.value) demands.now.cuts }
+    requires over { demands.now.nets ≡ net.now.raw.nets }
     requires now { AreNetRefs (N.store nodes.old) now }
     ensures { (ls : List SymbolicSet) (ds : List SymbolicCut) (sets : ℕ → SymbolicSet)
-        → AllZip (IsCutBy (N.store nodes.old)) ds cuts.now
+        → AllZip (IsCutBy (N.store nodes.old)) ds demands.now.cuts
         → Built (some_bit (after_cuts ds (uncut net.now.raw ls sets) id)
         ∷ cuts_work ds (uncut net.now.raw ls sets))
         (IsOpened net.now.raw (after_cuts ds (uncut net.now.raw ls sets) id)
@@ -126,8 +121,8 @@ fn open_source<N: Nodes>(
     match net.source(NodeId(id)) {
         Source::Gate(_) => Ok(now),
         Source::Latch(_) => Ok(now),
-        Source::Input => cut_net(ops, nodes, cuts, marks, id, free()),
-        Source::Free => cut_net(ops, nodes, cuts, marks, id, free()),
+        Source::Input => cut_net(ops, nodes, demands, id, free()),
+        Source::Free => cut_net(ops, nodes, demands, id, free()),
     }
 }
 
@@ -135,16 +130,14 @@ fn open_source<N: Nodes>(
 fn open_sources<N: Nodes>(
     ops: &Ops,
     nodes: &mut N,
-    net: &Net,
-    cuts: &CutList,
-    marks: &[bool],
+    net: &Compiled,
+    demands: &Demands,
     ids: &[NodeId],
     board: &mut Board,
 ) -> Result<(), OpFault>
-    requires guards { All (λ c. IsRef (N.store nodes.old) c.guard) cuts.now }
-    requires values { All (λ c. IsRef (N.store nodes.old) c.value) cuts.now }
-    requires marked { length marks.now ≡ net.now.raw.nets }
-    requires marks { AreMarks cuts.now marks.now }
+    requires guards { All (λ c. IsRef (N.store nodes.old) c.guard) demands.now.cuts }
+    requires values { All (λ c. IsRef (N.store nodes.old) c.value) demands.now.cuts }
+    requires over { demands.now.nets ≡ net.now.raw.nets }
     requires ids { All (λ node. node.0 < net.now.raw.nets) ids.now }
     requires nets { length board.old.nets.items ≡ net.now.raw.nets }
     requires refs { All (AreNetRefs (N.store nodes.old)) board.old.nets.items }
@@ -154,14 +147,14 @@ fn open_sources<N: Nodes>(
     ensures built { (ls : List SymbolicSet) (ds : List SymbolicCut) (sets : ℕ → SymbolicSet)
         → length ls ≡ length net.now.raw.latches
         → ArePossibleEach (N.store nodes.old).vars net.now.raw ls (asks ds) sets
-        → AllZip (IsCutBy (N.store nodes.old)) ds cuts.now
+        → AllZip (IsCutBy (N.store nodes.old)) ds demands.now.cuts
         → Built (time_work net.now.raw ls (asks ds) sets) Whatever
         (N.store nodes.old) (N.store nodes.new) result }
     ensures have { OnOk result (
         (ls : List SymbolicSet) (ds : List SymbolicCut) (sets : ℕ → SymbolicSet)
         → length ls ≡ length net.now.raw.latches
         → ArePossibleEach (N.store nodes.old).vars net.now.raw ls (asks ds) sets
-        → AllZip (IsCutBy (N.store nodes.old)) ds cuts.now
+        → AllZip (IsCutBy (N.store nodes.old)) ds demands.now.cuts
         → HaveOpen net.now.raw sets (N.store nodes.new) ids.now (length ids.now)
         board.new.nets.items
         × StayRight sets (N.store nodes.old) board.old.nets.items
@@ -170,7 +163,7 @@ fn open_sources<N: Nodes>(
     for node in ids {
         let id = node.0;
         let now = board.nets[id as usize];
-        let r = open_source(ops, nodes, net, cuts, marks, id, now)?;
+        let r = open_source(ops, nodes, net, demands, id, now)?;
         board.put(id, r);
     }
     Ok(())
@@ -205,27 +198,22 @@ fn left_open<'a>(before: &'a [NodeId], asked: &[NodeId]) -> &'a [NodeId]
     before
 }
 
-/// Gives all nets that no gate drives their sets. `latches` are the sets of the latches that do not have theirs yet,
-/// `asked` are the nets that are cut now, and `before` those that were cut at the time before; a net that nothing drives, and that is
-/// not among them, has both bits already.
+/// Gives all nets that no gate drives their sets. `latches` are the sets of the latches that do not have theirs yet, and
+/// `before` are the nets that were cut at the time before; a net that nothing drives, and that is not among them nor cut
+/// now, has both bits already.
 pub fn sources<N: Nodes>(
     ops: &Ops,
     nodes: &mut N,
-    net: &Net,
+    net: &Compiled,
     latches: &[LatchSet],
-    cuts: &CutList,
-    marks: &[bool],
-    asked: &[NodeId],
+    demands: &Demands,
     before: &[NodeId],
     board: &mut Board,
 ) -> Result<(), OpFault>
     requires latches { All (IsLatchSet (N.store nodes.old) net.now.raw) latches.now }
-    requires guards { All (λ c. IsRef (N.store nodes.old) c.guard) cuts.now }
-    requires values { All (λ c. IsRef (N.store nodes.old) c.value) cuts.now }
-    requires marked { length marks.now ≡ net.now.raw.nets }
-    requires marks { AreMarks cuts.now marks.now }
-    requires asked { asked.now ≡ map (λ c. c.node) cuts.now }
-    requires inside { All (λ c. c.node.0 < net.now.raw.nets) cuts.now }
+    requires guards { All (λ c. IsRef (N.store nodes.old) c.guard) demands.now.cuts }
+    requires values { All (λ c. IsRef (N.store nodes.old) c.value) demands.now.cuts }
+    requires over { demands.now.nets ≡ net.now.raw.nets }
     requires before { All (λ node. node.0 < net.now.raw.nets) before.now }
     requires nets { length board.old.nets.items ≡ net.now.raw.nets }
     requires refs { All (AreNetRefs (N.store nodes.old)) board.old.nets.items }
@@ -236,18 +224,19 @@ pub fn sources<N: Nodes>(
     ensures built { (ls : List SymbolicSet) (ds : List SymbolicCut) (sets : ℕ → SymbolicSet)
         → AreGiven (N.store nodes.old) net.now.raw ls sets latches.now board.old.nets.items
         → ArePossibleEach (N.store nodes.old).vars net.now.raw ls (asks ds) sets
-        → AllZip (IsCutBy (N.store nodes.old)) ds cuts.now
+        → AllZip (IsCutBy (N.store nodes.old)) ds demands.now.cuts
         → Built (time_work net.now.raw ls (asks ds) sets) Whatever
         (N.store nodes.old) (N.store nodes.new) result }
     ensures have { OnOk result (
         (ls : List SymbolicSet) (ds : List SymbolicCut) (sets : ℕ → SymbolicSet)
         → AreGiven (N.store nodes.old) net.now.raw ls sets latches.now board.old.nets.items
         → ArePossibleEach (N.store nodes.old).vars net.now.raw ls (asks ds) sets
-        → AllZip (IsCutBy (N.store nodes.old)) ds cuts.now
+        → AllZip (IsCutBy (N.store nodes.old)) ds demands.now.cuts
         → HaveSources net.now.raw sets (N.store nodes.new) net.now.raw.nets board.new.nets.items) }
 {
-    latch_sources(ops, nodes, net, latches, cuts, marks, board)?;
+    latch_sources(ops, nodes, net, latches, demands, board)?;
+    let asked = demands.nodes();
     let left = left_open(before, asked);
-    open_sources(ops, nodes, net, cuts, marks, left, board)?;
-    open_sources(ops, nodes, net, cuts, marks, asked, board)
+    open_sources(ops, nodes, net, demands, left, board)?;
+    open_sources(ops, nodes, net, demands, asked, board)
 }

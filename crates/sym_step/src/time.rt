@@ -1,4 +1,8 @@
-//! One step of a net; begin with `step`.
+//! One time step of the whole net, for all assignments at once. The engines call `renew`, which
+//! changes a `Frame` in place: first the nets that no gate drives (`source.rt`), then the gates
+//! that are due, in a settled order (`place.rt`). What is due, and when, is in `frame.rt`, the sets
+//! that latches get in `latches.rt`, and what is asked in `demands.rt`. `advance` copies the result
+//! out of the frame, and `step` does it from an empty one.
 
 ghost use Rattle.std.specs.Prelude.{◌≡◌, ◌<◌, ◌∷◌, ◌++◌, [], ◌≤◌, ℕ, List, All, IfOk, None, OnOk, length, map};
 ghost use Rattle.std.specs.List.{AllZip};
@@ -12,13 +16,14 @@ ghost use Rattle.gate_sets.specs.Lists.{rows_of};
 ghost use Rattle.sym_step.specs.private.Boards.{Follows};
 ghost use Rattle.sym_step.specs.Frame.{AreOpen, IsFrame, input_rails, next_of, nets_of, step_of};
 ghost use Rattle.sym_step.specs.private.Frames.{AreSpared};
-ghost use Rattle.sym_step.specs.private.Latches.{AreGiven, Begins, HaveMarks, IsLatchSet};
+ghost use Rattle.sym_step.specs.private.Demands.{nodes_of};
+ghost use Rattle.sym_step.specs.private.Latches.{AreGiven, Begins, IsLatchSet};
 ghost use Rattle.gate_sets.specs.NetSets.{AreNetRails, AreNetRefs};
-ghost use Rattle.sym_step.specs.private.Parts.{AreMarks, HaveNets};
+ghost use Rattle.sym_step.specs.private.Parts.{HaveNets};
 
 use crate::board::Board;
 use crate::cut::Cut;
-use crate::cut_list::{CutLinks, CutList, linked};
+use crate::demands::{CutLinks, Demands, linked};
 use crate::frame::{Frame, asked_nets, knows_full, make_due, own_sets};
 use crate::latches::{LatchSet, latch_sets};
 use crate::made::Step;
@@ -28,7 +33,7 @@ use crate::vectors::Vectors;
 use dd_nodes::{Nodes, Ref};
 use dd_ops::{OpFault, Ops};
 use dual_rail::{Rails, either};
-use gate_sets::{GateRows, NetRails, Scratch};
+use gate_sets::{Compiled, GateRows, NetRails, Scratch};
 use net_core::Net;
 use std::alloc::{AllocError, Global};
 use std::mem::replace;
@@ -80,7 +85,12 @@ fn rails_of(alloc: Global, nets: &[NetRails]) -> Result<Items<Rails>, AllocError
 }
 
 /// What a frame has of its time, as a step.
-fn finished(alloc: Global, net: &Net, frame: &Frame, contradictory: Ref) -> Result<Step, AllocError>
+fn finished(
+    alloc: Global,
+    net: &Compiled,
+    frame: &Frame,
+    contradictory: Ref,
+) -> Result<Step, AllocError>
     requires { length frame.now.board.nets.items ≡ net.now.raw.nets }
     ensures nets { IfOk result (λ r. r.nets ≡ nets_of frame.now) }
     ensures contradictory { IfOk result (λ r. r.contradictory ≡ contradictory) }
@@ -97,31 +107,23 @@ fn finished(alloc: Global, net: &Net, frame: &Frame, contradictory: Ref) -> Resu
 }
 
 /// Gives all nets their sets: first those that no gate drives, and then the gates' outputs. `latches` are the sets of the
-/// latches that do not have theirs yet, `asked` are the nets that are cut, and `before` those that were cut at the time
-/// before.
+/// latches that do not have theirs yet, and `before` are the nets that were cut at the time before.
 fn set_nets<N: Nodes>(
     alloc: Global,
     ops: &Ops,
     nodes: &mut N,
-    net: &Net,
-    rows: &GateRows,
+    net: &Compiled,
     latches: &[LatchSet],
-    cuts: &CutList,
-    marks: &[bool],
-    asked: &[NodeId],
+    demands: &Demands,
     before: &[NodeId],
     products: &mut [Ref],
     scratch: &mut Scratch,
     board: &mut Board,
 ) -> Result<(), OpFault>
-    requires rows { rows.now.covers ≡ map rows_of net.now.raw.covers }
     requires latches { All (IsLatchSet (N.store nodes.old) net.now.raw) latches.now }
-    requires guards { All (λ c. IsRef (N.store nodes.old) c.guard) cuts.now }
-    requires values { All (λ c. IsRef (N.store nodes.old) c.value) cuts.now }
-    requires marked { length marks.now ≡ net.now.raw.nets }
-    requires marks { AreMarks cuts.now marks.now }
-    requires asked { asked.now ≡ map (λ c. c.node) cuts.now }
-    requires inside { All (λ c. c.node.0 < net.now.raw.nets) cuts.now }
+    requires guards { All (λ c. IsRef (N.store nodes.old) c.guard) demands.now.cuts }
+    requires values { All (λ c. IsRef (N.store nodes.old) c.value) demands.now.cuts }
+    requires over { demands.now.nets ≡ net.now.raw.nets }
     requires before { All (λ node. node.0 < net.now.raw.nets) before.now }
     requires undriven { AreOpen (N.store nodes.old) net.now.raw before.now board.old.nets.items }
     requires room { All (λ gate. length gate.inputs < length products.old) net.now.raw.gates }
@@ -129,59 +131,54 @@ fn set_nets<N: Nodes>(
     requires refs { All (AreNetRefs (N.store nodes.old)) board.old.nets.items }
     requires due { length net.now.raw.gates ≤ length board.old.due.flags.items }
     requires order { IsSettledOrder net.now.raw board.old.due.order.items }
-    requires spared { AreSpared (N.store nodes.old) net.now.raw asked.now board.old }
+    requires spared { AreSpared (N.store nodes.old) net.now.raw
+        (nodes_of demands.now.cuts) board.old }
     ensures room { OnOk result (length products.new ≡ length products.old) }
     ensures refs { OnOk result (All (AreNetRefs (N.store nodes.new)) board.new.nets.items) }
     ensures follows { OnOk result (Follows board.old board.new) }
     ensures built { (ls : List SymbolicSet) (asked : SymbolicAsked) (sets : ℕ → SymbolicSet)
         → AreGiven (N.store nodes.old) net.now.raw ls sets latches.now board.old.nets.items
-        → AllZip (IsCutBy (N.store nodes.old)) asked.cuts cuts.now
+        → AllZip (IsCutBy (N.store nodes.old)) asked.cuts demands.now.cuts
         → ArePossibleEach (N.store nodes.old).vars net.now.raw ls asked sets
         → Built (time_work net.now.raw ls asked sets) Whatever
         (N.store nodes.old) (N.store nodes.new) result }
     ensures have { OnOk result (
         (ls : List SymbolicSet) (asked : SymbolicAsked) (sets : ℕ → SymbolicSet)
         → AreGiven (N.store nodes.old) net.now.raw ls sets latches.now board.old.nets.items
-        → AllZip (IsCutBy (N.store nodes.old)) asked.cuts cuts.now
+        → AllZip (IsCutBy (N.store nodes.old)) asked.cuts demands.now.cuts
         → ArePossibleEach (N.store nodes.old).vars net.now.raw ls asked sets
         → HaveNets net.now.raw sets (N.store nodes.new) board.new.nets.items) }
 {
-    sources(ops, nodes, net, latches, cuts, marks, asked, before, board)?;
-    place_gates(
-        alloc, ops, nodes, net, rows, cuts, marks, products, scratch, board,
-    )
+    sources(ops, nodes, net, latches, demands, before, board)?;
+    place_gates(alloc, ops, nodes, net, demands, products, scratch, board)
 }
 
 /// Begins a time: the gates and latches whose outputs are cut now or were before are due, and the result is the sets of the
-/// latches that do not have theirs yet, in the memory of `used`. `marks` has a mark at each net that is cut, and `asked` are
-/// these nets. The frame is then no longer before a first time.
+/// latches that do not have theirs yet, in the memory of `used`. The frame is then no longer before a first time.
 fn begin_time(
     alloc: Global,
-    net: &Net,
+    net: &Compiled,
     used: Vec<LatchSet>,
-    marks: &[bool],
-    asked: &[NodeId],
+    demands: &Demands,
     frame: &mut Frame,
 ) -> Result<Vec<LatchSet>, AllocError>
-    requires marked { length marks.now ≡ net.now.raw.nets }
-    requires marks { HaveMarks asked.now marks.now }
-    requires asked { All (λ node. node.0 < net.now.raw.nets) asked.now }
+    requires over { demands.now.nets ≡ net.now.raw.nets }
     requires frame { (s : Store) × IsFrame s net.now.raw frame.old }
     ensures begins { OnOk result ((s : Store) → IsFrame s net.now.raw frame.old
-        → Begins s net.now.raw asked.now frame.new) }
+        → Begins s net.now.raw (nodes_of demands.now.cuts) frame.new) }
     ensures held { IfOk result (λ sets. (s : Store) → IsFrame s net.now.raw frame.old
         → All (IsLatchSet s net.now.raw) sets.items) }
     ensures given { IfOk result (λ sets.
-        (s : Store) (ls : List SymbolicSet) (demands : SymbolicAsked) (family : ℕ → SymbolicSet)
-        (cuts : List Cut) → IsFrame s net.now.raw frame.old → asked.now ≡ map (λ c. c.node) cuts
+        (s : Store) (ls : List SymbolicSet) (asked : SymbolicAsked) (family : ℕ → SymbolicSet)
+        → IsFrame s net.now.raw frame.old
         → AllZip (AreRails s) ls (next_of net.now.raw frame.old)
-        → AllZip (IsCutBy s) demands.cuts cuts
-        → ArePossibleEach s.vars net.now.raw ls demands family
+        → AllZip (IsCutBy s) asked.cuts demands.now.cuts
+        → ArePossibleEach s.vars net.now.raw ls asked family
         → AreGiven s net.now.raw ls family sets.items frame.new.board.nets.items) }
     ensures first { OnOk result (frame.new.first ≡ None) }
 {
-    make_due(alloc, net, asked, frame)?;
-    latch_sets(used, net, marks, frame)
+    make_due(alloc, net, demands, frame)?;
+    latch_sets(used, net, demands, frame)
 }
 
 /// Gives all nets of a frame their sets, with these vectors. The marks of latches stay for the next time.
@@ -189,13 +186,11 @@ fn renew_with<N: Nodes>(
     alloc: Global,
     ops: &Ops,
     nodes: &mut N,
-    net: &Net,
-    rows: &GateRows,
+    net: &Compiled,
     cuts: &[Cut],
     vectors: &mut Vectors,
     frame: &mut Frame,
 ) -> Result<(), OpFault>
-    requires rows { rows.now.covers ≡ map rows_of net.now.raw.covers }
     requires cuts { All (IsCutOf (N.store nodes.old) net.now.raw) cuts.now }
     requires frame { IsFrame (N.store nodes.old) net.now.raw frame.old }
     ensures frame { OnOk result (IsFrame (N.store nodes.new) net.now.raw frame.new) }
@@ -217,23 +212,21 @@ fn renew_with<N: Nodes>(
     let links = linked(alloc, links, cuts, net.nets())?;
     let asked = asked_nets(replace(&mut vectors.asked, Vec::new(alloc)), cuts)?;
     let used = replace(&mut vectors.sets, Vec::new(alloc));
-    let latches = begin_time(alloc, net, used, &links.marks, &asked, frame)?;
-    let list = CutList {
+    let demands = Demands {
         cuts,
-        marks: &links.marks,
+        nodes: &asked,
+        is_cut: &links.is_cut,
         first: &links.first,
         next: &links.next,
     };
+    let latches = begin_time(alloc, net, used, &demands, frame)?;
     set_nets(
         alloc,
         ops,
         nodes,
         net,
-        rows,
         &latches,
-        &list,
-        &links.marks,
-        &asked,
+        &demands,
         &frame.asked,
         &mut frame.products,
         &mut vectors.scratch,
@@ -253,12 +246,10 @@ fn renew_frame<N: Nodes>(
     alloc: Global,
     ops: &Ops,
     nodes: &mut N,
-    net: &Net,
-    rows: &GateRows,
+    net: &Compiled,
     cuts: &[Cut],
     frame: &mut Frame,
 ) -> Result<(), OpFault>
-    requires rows { rows.now.covers ≡ map rows_of net.now.raw.covers }
     requires cuts { All (IsCutOf (N.store nodes.old) net.now.raw) cuts.now }
     requires frame { IsFrame (N.store nodes.old) net.now.raw frame.old }
     ensures frame { OnOk result (IsFrame (N.store nodes.new) net.now.raw frame.new) }
@@ -277,7 +268,7 @@ fn renew_frame<N: Nodes>(
         → HaveNets net.now.raw sets (N.store nodes.new) frame.new.board.nets.items) }
 {
     let mut vectors = replace(&mut frame.vectors, Vectors::none(alloc));
-    renew_with(alloc, ops, nodes, net, rows, cuts, &mut vectors, frame)?;
+    renew_with(alloc, ops, nodes, net, cuts, &mut vectors, frame)?;
     frame.vectors = vectors;
     Ok(())
 }
@@ -288,12 +279,10 @@ fn time_at<N: Nodes>(
     alloc: Global,
     ops: &Ops,
     nodes: &mut N,
-    net: &Net,
-    rows: &GateRows,
+    net: &Compiled,
     cuts: &[Cut],
     frame: &mut Frame,
 ) -> Result<Ref, OpFault>
-    requires rows { rows.now.covers ≡ map rows_of net.now.raw.covers }
     requires cuts { All (IsCutOf (N.store nodes.old) net.now.raw) cuts.now }
     requires frame { IsFrame (N.store nodes.old) net.now.raw frame.old }
     ensures frame { OnOk result (IsFrame (N.store nodes.new) net.now.raw frame.new) }
@@ -306,7 +295,7 @@ fn time_at<N: Nodes>(
         (λ t r. IsStep net.now.raw sets t (step_of net.now.raw frame.new r))
         (N.store nodes.old) (N.store nodes.new) result }
 {
-    renew_frame(alloc, ops, nodes, net, rows, cuts, frame)?;
+    renew_frame(alloc, ops, nodes, net, cuts, frame)?;
     frame.board.full = knows_full(frame.board.full, &frame.board.nets);
     if frame.board.full {
         return Ok(Ref::FALSE);
@@ -320,13 +309,11 @@ fn made_at<N: Nodes>(
     alloc: Global,
     ops: &Ops,
     nodes: &mut N,
-    net: &Net,
-    rows: &GateRows,
+    net: &Compiled,
     latches: &[Rails],
     cuts: &[Cut],
     frame: &mut Frame,
 ) -> Result<Step, OpFault>
-    requires rows { rows.now.covers ≡ map rows_of net.now.raw.covers }
     requires long { length latches.now ≡ length net.now.raw.latches }
     requires latches { All (AreRefs (N.store nodes.old)) latches.now }
     requires cuts { All (IsCutOf (N.store nodes.old) net.now.raw) cuts.now }
@@ -340,7 +327,7 @@ fn made_at<N: Nodes>(
         (N.store nodes.old) (N.store nodes.new) result }
 {
     frame.first = Some(Items::from(latches.to_vec(alloc)?));
-    let contradictory = time_at(alloc, ops, nodes, net, rows, cuts, frame)?;
+    let contradictory = time_at(alloc, ops, nodes, net, cuts, frame)?;
     let made = finished(alloc, net, frame, contradictory)?;
     Ok(made)
 }
@@ -373,7 +360,8 @@ pub fn renew<N: Nodes>(
         (N.store nodes.old) (N.store nodes.new) result }
     ensures frame { OnOk result (IsFrame (N.store nodes.new) net.now.raw frame.new) }
 {
-    time_at(alloc, ops, nodes, net, rows, cuts, frame)
+    let compiled = Compiled { net, rows };
+    time_at(alloc, ops, nodes, &compiled, cuts, frame)
 }
 
 /// The possible sets of one time for every assignment at once, where some set is empty, and the next latch sets, from
@@ -408,7 +396,8 @@ pub fn advance<N: Nodes>(
         (N.store nodes.old) (N.store nodes.new) result }
     ensures frame { OnOk result (IsFrame (N.store nodes.new) net.now.raw frame.new) }
 {
-    made_at(alloc, ops, nodes, net, rows, latches, cuts, frame)
+    let compiled = Compiled { net, rows };
+    made_at(alloc, ops, nodes, &compiled, latches, cuts, frame)
 }
 
 /// The possible sets of one time for every assignment at once, where some set is empty, and the next latch sets. `rows`

@@ -1,6 +1,6 @@
 //! Vectors that each time uses; begin with `Vectors`.
 
-use crate::cut_list::CutLinks;
+use crate::demands::CutLinks;
 use crate::latches::LatchSet;
 use gate_sets::Scratch;
 use std::alloc::Global;

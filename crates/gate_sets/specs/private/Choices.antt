@@ -35,10 +35,6 @@ pub record AreChoices (on off : List (List Lit)) (c : Choices) : Type 0 where
 abbrev pub AreTold : CoverRows → Choices → Type 0
 AreTold rows c = rows.on.width ≤ 3 → AreChoices rows.on.list rows.off.list c
 
--- both rails of a set are constants
-abbrev pub AreConstant : NetRails → Type 0
-AreConstant r = (r.can0.0 < 2) × (r.can1.0 < 2)
-
 -- the set is a constant, with this digit
 pub record IsDigit (r : NetRails) (digit : ℕ) : Type 0 where
   pub zero : r.can0.0 < 2
@@ -56,7 +52,3 @@ pub record IsChoice (nets : List NetRails) (inputs : List NodeId) (choice : ℕ)
   pub zero : All (λ input. (net_at nets input.0).can0.0 < 2) inputs
   pub one : All (λ input. (net_at nets input.0).can1.0 < 2) inputs
   pub is : choice ≡ choice_at nets inputs
-
--- these nets are at most three, and their sets are constants
-abbrev pub HaveChoice : List NetRails → List NodeId → Type 0
-HaveChoice nets inputs = (length inputs ≤ 3) × All (λ input. AreConstant (net_at nets input.0)) inputs

@@ -1,5 +1,5 @@
 -- For private functions. The sets that latches get at a time.
-use Rattle.std.specs.Prelude.{◌≡◌, ◌⊎◌, ◌<◌, All, Bool, false, IfSome, IsTrue, ℕ, List, length, slice_index_or}
+use Rattle.std.specs.Prelude.{◌≡◌, ◌⊎◌, ◌<◌, All, false, IfSome, IsTrue, ℕ, List, length, slice_index_or}
 use Rattle.ste_base.specs.declared.id.NodeId.{NodeId}
 use Rattle.dd_nodes.specs.Stores.{Store}
 use Rattle.dual_rail.specs.declared.rails.Rails.{Rails}
@@ -14,20 +14,16 @@ use Rattle.sym_step.specs.declared.frame.Frame.{Frame}
 use Rattle.sym_step.specs.private.Boards.{AreFull}
 use Rattle.sym_step.specs.Frame.{AreOpen, bare, is_listed, mark_count}
 use Rattle.sym_step.specs.private.Frames.{AreCarried, AreSpared}
-use Rattle.sym_step.specs.private.Readers.{AreReaders, flag_at}
+use Rattle.sym_step.specs.private.Readers.{AreReaders}
 use Rattle.gate_sets.specs.NetSets.{AreNetRails, AreNetRefs, net_at}
 
 -- the set of a latch that takes over what its input has
 abbrev pub latch_set : List NetRails → Latch → LatchSet
 latch_set nets latch = record { output = latch.output; rails = bare (net_at nets latch.input.0); given = net_at nets latch.input.0 }
 
--- each listed net has a mark
-abbrev pub HaveMarks : List NodeId → List Bool → Type 0
-HaveMarks asked marks = (id : ℕ) → flag_at marks id ≡ false → is_listed asked id ≡ false
-
--- the latch's output has no mark of a cut, and the references of its input
-abbrev pub IsCopied : List Bool → List NetRails → Latch → Type 0
-IsCopied marks nets latch = (flag_at marks latch.output.0 ≡ false) × (net_at nets latch.output.0 ≡ net_at nets latch.input.0)
+-- the latch's output is not cut, and has the references of its input
+abbrev pub IsCopied : List NodeId → List NetRails → Latch → Type 0
+IsCopied asked nets latch = (is_listed asked latch.output.0 ≡ false) × (net_at nets latch.output.0 ≡ net_at nets latch.input.0)
 
 -- a latch has these rails among the next ones, and its input these references
 pub record IsSetOf (net : RawNet) (next : List Rails) (nets : List NetRails) (set : LatchSet) : Type 0 where

@@ -1,12 +1,11 @@
 -- For private functions. How far a step is.
-use Rattle.std.specs.Prelude.{◌≡◌, All, Bool, true, false, ◌≢◌, ◌≤◌, ◌<◌, ℕ, List, length, slice_index, slice_index_or}
+use Rattle.std.specs.Prelude.{◌≡◌, Bool, true, ◌≢◌, ◌≤◌, ◌<◌, ℕ, List, length, slice_index, slice_index_or}
 use Rattle.dd_nodes.specs.Stores.{Store}
 use Rattle.net_core.specs.declared.raw.Gate.{Gate}
 use Rattle.net_core.specs.declared.raw.RawNet.{RawNet}
 use Rattle.net_core.specs.declared.source.Source.TheVariants.{Gate as OfGate}
 use Rattle.net_core.specs.Source.{source_of}
 use Rattle.net_core.specs.Work.{Function, SymbolicSet, SymbolicCut, SymbolicAsked}
-use Rattle.sym_step.specs.declared.cut.Cut.{Cut}
 use Rattle.gate_sets.specs.declared.net_rails.NetRails.{NetRails}
 use Rattle.gate_sets.specs.NetSets.{AreNetRails, net_at}
 
@@ -30,10 +29,6 @@ HaveGates net order sets t n rails =
 -- each net has its set
 abbrev pub HaveNets : RawNet → (ℕ → SymbolicSet) → Store → List NetRails → Type 0
 HaveNets net sets t nets = (id : ℕ) → id < net.nets → AreNetRails t (sets id) (net_at nets id)
-
--- no cut is of a net without a mark
-abbrev pub AreMarks : List Cut → List Bool → Type 0
-AreMarks cuts marks = All (λ c. slice_index_or marks c.node.0 false ≡ true) cuts
 
 -- the function is 1 under each assignment of so many variables
 abbrev pub IsEverywhere : ℕ → Function → Type 0

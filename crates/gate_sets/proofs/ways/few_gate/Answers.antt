@@ -14,8 +14,8 @@ use Rattle.gate_sets.proofs.FewGates.{by_tables}
 use Rattle.gate_sets.proofs.NetRefs.{All-net-refs-keep, Inputs-keep}
 use Rattle.gate_sets.proofs.ways.few_gate.Goals as goal
 
-pub gate_at-requires-clause-refs : goal.gate_at-requires-clause-refs
-gate_at-requires-clause-refs g c =
+pub by_sums-requires-clause-refs : goal.by_sums-requires-clause-refs
+by_sums-requires-clause-refs g c =
     let good = g.met.N.Nodes.diagram in
     All-net-refs-keep (g.N.Nodes.store c.args.nodes.now) (g.N.Nodes.store c.by_table.new.nodes) c.args.nets.now (good c.args.nodes.now) (good c.by_table.new.nodes) c.in_ok-found.ensures.keeps c.requires.refs
 
@@ -53,13 +53,13 @@ returns-in-None-clause-built g c = λ sets have.
     let good = g.met.N.Nodes.diagram in
     let s : Store = g.N.Nodes.store c.args.nodes.now in
     let t : Store = g.N.Nodes.store c.by_table.new.nodes in
-    let u : Store = g.N.Nodes.store c.gate_at.new.nodes in
+    let u : Store = g.N.Nodes.store c.by_sums.new.nodes in
     let on : List (List Lit) = c.args.rows.now.on.list in
     let off : List (List Lit) = c.args.rows.now.off.list in
     let inputs : List NodeId = c.args.inputs.now in
     let ws : List SymbolicSet = sets_at sets inputs in
     let told = by_tables on off ws (length inputs) c.args.tables (length-map inputs (λ (input : NodeId). sets input.0)) c.requires.wide_on c.requires.wide_off c.requires.tables
     s t (Ok c.in_ok-found.found) c.requires.some_on c.requires.some_off (c.in_ok-found.ensures.built sets have) in
-    last (gate_work on off ws) (HasSet (gate_set on off ws)) s t u c.gate_at.result (good c.by_table.new.nodes) (good c.gate_at.new.nodes)
+    last (gate_work on off ws) (HasSet (gate_set on off ws)) s t u c.by_sums.result (good c.by_table.new.nodes) (good c.by_sums.new.nodes)
     (first (gate_work on off ws) (HasSetOrNot (gate_set on off ws)) s t (Ok c.in_ok-found.found) told)
-    (c.gate_at.ensures.built sets (Inputs-keep s t sets c.args.nets.now inputs (good c.args.nodes.now) (good c.by_table.new.nodes) c.in_ok-found.ensures.keeps have))
+    (c.by_sums.ensures.built sets (Inputs-keep s t sets c.args.nets.now inputs (good c.args.nodes.now) (good c.by_table.new.nodes) c.in_ok-found.ensures.keeps have))

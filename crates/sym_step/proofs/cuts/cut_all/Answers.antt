@@ -2,7 +2,7 @@ use Rattle.std.proofs.Common.{◌≡◌, ◌<◌, List, length, ◌+◌, ℕ, su
 use Rattle.dd_nodes.specs.Stores.{Store, IsRef, function}
 use Rattle.dd_nodes.proofs.Walks.{IsFrom-grows}
 use Rattle.net_core.specs.Work.{SymbolicCut, SymbolicSet, after_cuts, cuts_work}
-use Rattle.sym_step.specs.private.CutLists.{IsNearest, no_cut, node_at}
+use Rattle.sym_step.specs.private.Demands.{IsNearest, no_cut, node_at}
 use Rattle.gate_sets.specs.NetSets.{AreFlagged, HasFlagged}
 use Rattle.dual_rail.proofs.Works.{So-start, Built-made, set_where, first, pass}
 use Rattle.dd_nodes.proofs.Stores.{Keeps-refl, Keeps-trans}
@@ -21,7 +21,7 @@ loop-at-init g c =
       keeps = Keeps-refl s;
       refs = c.requires.rails;
       so = λ ds sets zip h.
-          (So-start (cuts_work ds sets) s, subst (λ (w : SymbolicSet). AreFlagged s w c.args.r) (sym (skipped s ds c.args.cuts.now sets c.args.id 0 c.first-at.result zip near)) h);
+          (So-start (cuts_work ds sets) s, subst (λ (w : SymbolicSet). AreFlagged s w c.args.r) (sym (skipped s ds c.args.demands.now.cuts sets c.args.id 0 c.first-at.result zip near)) h);
     }
 
 pub loop-at-preserved : goal.loop-at-preserved
@@ -29,7 +29,7 @@ loop-at-preserved g c =
     let s : Store = g.N.Nodes.store c.args.nodes.now in
     let t : Store = g.N.Nodes.store c.loop-at.nodes in
     let u : Store = g.N.Nodes.store c.cut_once.new.nodes in
-    let cuts : List Cut = c.args.cuts.now in
+    let cuts : List Cut = c.args.demands.now.cuts in
     let id : ℕ = c.args.id in
     let k : ℕ = c.loop-at.at in
     let m : ℕ = c.next-at.result in
@@ -58,7 +58,7 @@ pub returns-in_err-left : goal.returns-in_err-left
 returns-in_err-left g c = λ ds sets zip h.
     let s : Store = g.N.Nodes.store c.args.nodes.now in
     let u : Store = g.N.Nodes.store c.cut_once.new.nodes in
-    let cuts : List Cut = c.args.cuts.now in
+    let cuts : List Cut = c.args.demands.now.cuts in
     let k : ℕ = c.loop-at.at in
     let cut : Cut = c.at.result in
     let count = c.len.ensures in
@@ -75,7 +75,7 @@ returns g c = λ ds sets zip h.
     let s : Store = g.N.Nodes.store c.args.nodes.now in
     let t : Store = g.N.Nodes.store c.loop-at.nodes in
     let k : ℕ = c.loop-at.at in
-    let n = demands_long s ds c.args.cuts.now zip in
+    let n = demands_long s ds c.args.demands.now.cuts zip in
     let p = c.loop-at.invariant.so ds sets zip h in
     let count = c.len.ensures in
     let end : take k ds ≡ ds = take_all k ds (omega (arith, n, c.loop-at-test.false, count)) in

@@ -19,7 +19,7 @@ completed-requires g c =
     let s : Store = g.N.Nodes.store c.args.nodes.now in
     let ds = g.met.N.Nodes.diagram c.args.nodes.now in
     let mine : AreFlagged s (set_where s c.args.r) (record { rails = c.args.r; known = c.is_constant-known.result }) = record { rails = own_set s c.args.r c.requires.rails; known = λ yes. c.is_constant-known.ensures yes s _ ds (own_set s c.args.r c.requires.rails) } in
-    (flagged_refs _ _ c.in_ok-left.left (c.in_ok-left.ensures _ (λ id. set_where s c.args.r) (own_demands s c.args.cuts.now c.requires.guards c.requires.values) mine).ok).rails
+    (flagged_refs _ _ c.in_ok-left.left (c.in_ok-left.ensures _ (λ id. set_where s c.args.r) (own_demands s c.args.demands.now.cuts c.requires.guards c.requires.values) mine).ok).rails
 
 pub returns-in_err-left : goal.returns-in_err-left
 returns-in_err-left g c = λ ds sets zip h.

@@ -12,7 +12,8 @@ use Rattle.sym_step.specs.declared.latches.LatchSet.{LatchSet}
 use Rattle.gate_sets.specs.declared.net_rails.NetRails.{NetRails}
 use Rattle.sym_step.specs.Frame.{bare, input_rails}
 use Rattle.sym_step.specs.private.Frames.{AreCarried, IsCarried}
-use Rattle.sym_step.specs.private.Latches.{HaveMarks, IsCopied, IsInPlace, IsSetOf, latch_set}
+use Rattle.sym_step.specs.private.Demands.{nodes_of}
+use Rattle.sym_step.specs.private.Latches.{IsCopied, IsInPlace, IsSetOf, latch_set}
 use Rattle.gate_sets.specs.NetSets.{net_at}
 use Rattle.sym_step.specs.private.Readers.{AreReaders, flag_at}
 use Rattle.sym_step.proofs.Latched.{Grows, carried_next, in_place, next_at, own_next, own_set, places_next, places_to}
@@ -22,6 +23,7 @@ use Rattle.sym_step.proofs.latches.due_sets.Goals.{in-Some+in_ok-push, in_defaul
 pub loop-l-init : goal.loop-l-init
 loop-l-init c =
     let net = c.args.net.now in
+    let asked : List NodeId = nodes_of c.args.demands.now.cuts in
     let first : Board = c.args.board.now in
     let next : List Rails = map (input_rails (map bare first.nets.items)) net.raw.latches in
     let q = c.next_latch-l.ensures in
@@ -35,15 +37,16 @@ loop-l-init c =
       long = refl;
       rest = λ k away. refl;
       own = subst (All (IsSetOf net.raw next first.nets.items)) (sym c.no_sets-sets.ensures) (λ k d lt. absurd (omega (arith, lt)));
-      each = λ asked have was.
+      each = λ was.
           places_to net.raw asked first c.no_sets-sets.result.items 0 c.next_latch-l.result net.in_range c.requires.nets was
           (λ k le lt. subst (λ (m : ℕ). flag_at first.due.flags.items (m + k) ≡ false) c.requires.gates (q.unmarked k le lt)) (λ k d lt. absurd (omega (arith, lt)));
-      carried = λ asked have was. was;
+      carried = λ was. was;
     }
 
 pub loop-l-preserved : goal.loop-l-preserved
 loop-l-preserved c =
     let net = c.args.net.now in
+    let asked : List NodeId = nodes_of c.args.demands.now.cuts in
     let latches : List Latch = net.raw.latches in
     let zeroth : Latch = record { input = record { 0 = 0 }; output = record { 0 = 0 }; init = Zero } in
     let n : ℕ = c.loop-l.l in
@@ -64,17 +67,16 @@ loop-l-preserved c =
       | in_default w ↦ inr (w.in_default.is, ap (λ v. v.items) w.sets-is)
     ] in
     let gates : ℕ = length net.raw.gates in
-    let marks = c.args.marks.now in
     let same_gates : length c.gates-gates.result.now ≡ gates = ap (λ (xs : List Gate). length xs) c.gates-gates.ensures in
     let some_is : (set : LatchSet) → c.due_set.result ≡ Some set → set ≡ latch_set nets latch =
     λ set e. subst (λ (o : Option LatchSet). IfSome o (λ x. x ≡ latch_set old.nets.items latch)) e p.some ∙ ap (λ (v : Vec NetRails). latch_set v.items latch) inv.nets in
-    let place : (asked : List NodeId) → HaveMarks asked marks → AreCarried net.raw asked first → c.due_set.result ≡ None → IsInPlace next asked nets n latch = λ asked have was e. elim (p.none e) [
+    let place : AreCarried net.raw asked first → c.due_set.result ≡ None → IsInPlace next asked nets n latch = λ was e. elim (p.none e) [
       | inl none ↦
           let flag : flag_at first.due.flags.items (gates + n) ≡ false = sym (inv.rest (gates + n) (λ j lt same. absurd (omega (arith, lt, same)))) ∙ subst (λ (m : ℕ). flag_at old.due.flags.items (m + n) ≡ false) same_gates none in
           let h : IsCarried asked first (gates + n) latch = subst (IsCarried asked first (gates + n)) (sym is) (was n latch inside flag) in
           in_place net.raw asked nets n latch net.in_range c.requires.nets inside is h.uncut h.same
       | inr copied ↦
-          in_place net.raw asked nets n latch net.in_range c.requires.nets inside is (have latch.output.0 copied.0)
+          in_place net.raw asked nets n latch net.in_range c.requires.nets inside is copied.0
           (subst (λ (v : Vec NetRails). net_at v.items latch.output.0 ≡ net_at v.items latch.input.0) inv.nets copied.1)
     ] in
     let q = c.next_latch-l-in-loop-l.ensures in
@@ -95,11 +97,11 @@ loop-l-preserved c =
           (λ set e. own_set net.raw next nets n latch set inside is (ap (λ (x : LatchSet). x.output) (some_is set e))
           (λ d. next_at net.raw nets n latch d net.in_range c.requires.nets inside is ∙ ap (λ (x : LatchSet). x.rails) (sym (some_is set e)))
           (ap (λ (x : LatchSet). x.given) (sym (some_is set e)))) inv.own;
-      each = λ asked have was.
+      each = λ was.
           places_to net.raw asked first more (n + 1) c.next_latch-l-in-loop-l.result net.in_range c.requires.nets was none
-          (places_next net.raw next asked nets c.due_set.result sets more n latch inside is grows (λ set e. ap (λ (x : LatchSet). x.output) (some_is set e)) (place asked have was) (inv.each asked have was));
-      carried = λ asked have was.
-          carried_next net.raw asked marks c.args.listed old new n latch inside is have (λ told. subst (AreReaders net.raw) (sym inv.readers) (c.requires.lists told)) p.nets p.readers
+          (places_next net.raw next asked nets c.due_set.result sets more n latch inside is grows (λ set e. ap (λ (x : LatchSet). x.output) (some_is set e)) (place was) (inv.each was));
+      carried = λ was.
+          carried_next net.raw asked c.args.listed old new n latch inside is (λ told. subst (AreReaders net.raw) (sym inv.readers) (c.requires.lists told)) p.nets p.readers
           (λ k away. p.others k (λ e. away (e ∙ ap (λ (m : ℕ). m + n) same_gates)))
-          (subst (λ (m : ℕ). flag_at new.due.flags.items (m + n) ≡ false → (flag_at old.due.flags.items (m + n) ≡ false) ⊎ (IsTrue c.args.listed × IsCopied marks old.nets.items latch)) same_gates p.cleared) (inv.carried asked have was);
+          (subst (λ (m : ℕ). flag_at new.due.flags.items (m + n) ≡ false → (flag_at old.due.flags.items (m + n) ≡ false) ⊎ (IsTrue c.args.listed × IsCopied asked old.nets.items latch)) same_gates p.cleared) (inv.carried was);
     }

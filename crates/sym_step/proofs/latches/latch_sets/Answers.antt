@@ -5,14 +5,16 @@ use Rattle.ste_base.specs.declared.id.NodeId.{NodeId}
 use Rattle.dual_rail.specs.declared.rails.Rails.{Rails}
 use Rattle.gate_sets.specs.declared.net_rails.NetRails.{NetRails}
 use Rattle.sym_step.specs.Frame.{first_or, input_rails, nets_of, next_of}
-use Rattle.sym_step.specs.private.Latches.{AreLatchSets, HaveMarks}
+use Rattle.sym_step.specs.private.Demands.{nodes_of}
+use Rattle.sym_step.specs.private.Latches.{AreLatchSets}
 use Rattle.sym_step.proofs.latches.latch_sets.Goals as goal
 
 pub returns-in-Some-clause-sets : goal.returns-in-Some-clause-sets
 returns-in-Some-clause-sets c =
     let net = c.args.net.now.raw in
+    let asked : List NodeId = nodes_of c.args.demands.now.cuts in
     let told : List Rails = c.in-Some.told in
     let is = c.as_slice.ensures ∙ ap (λ (o : Option (List Rails)). first_or o (map (input_rails (nets_of c.args.frame.now)) net.latches)) c.in-Some.ensures.value in
-    IfOk-weaker c.told_sets.result (λ sets. (asked : List NodeId) → HaveMarks asked c.args.marks.now → AreLatchSets net (next_of net c.args.frame.now) asked c.args.frame.now.board.nets.items sets.items) _ (λ sets h asked have was. h asked have)
-    (subst (λ (xs : List NetRails). IfOk c.told_sets.result (λ sets. (asked : List NodeId) → HaveMarks asked c.args.marks.now → AreLatchSets net (next_of net c.args.frame.now) asked xs sets.items)) c.deref.ensures.value
-    (subst (λ (next : List Rails). IfOk c.told_sets.result (λ sets. (asked : List NodeId) → HaveMarks asked c.args.marks.now → AreLatchSets net next asked c.deref.result.now sets.items)) is c.told_sets.ensures))
+    IfOk-weaker c.told_sets.result (λ sets. AreLatchSets net (next_of net c.args.frame.now) asked c.args.frame.now.board.nets.items sets.items) _ (λ sets h was. h)
+    (subst (λ (xs : List NetRails). IfOk c.told_sets.result (λ sets. AreLatchSets net (next_of net c.args.frame.now) asked xs sets.items)) c.deref.ensures.value
+    (subst (λ (next : List Rails). IfOk c.told_sets.result (λ sets. AreLatchSets net next asked c.deref.result.now sets.items)) is c.told_sets.ensures))

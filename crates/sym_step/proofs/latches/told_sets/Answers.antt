@@ -7,7 +7,8 @@ use Rattle.net_core.specs.declared.raw.Init.TheVariants.{Zero}
 use Rattle.dual_rail.specs.declared.rails.Rails.{Rails}
 use Rattle.sym_step.specs.declared.latches.LatchSet.{LatchSet}
 use Rattle.gate_sets.specs.declared.net_rails.NetRails.{NetRails}
-use Rattle.sym_step.specs.private.Latches.{HaveMarks, IsInPlace}
+use Rattle.sym_step.specs.private.Demands.{nodes_of}
+use Rattle.sym_step.specs.private.Latches.{IsInPlace}
 use Rattle.gate_sets.specs.NetSets.{net_at}
 use Rattle.sym_step.proofs.Latched.{Grows, own_next, own_set, places_next}
 use Rattle.sym_step.proofs.latches.told_sets.Goals as goal
@@ -16,6 +17,7 @@ use Rattle.sym_step.proofs.latches.told_sets.Goals.{in-Some+in_ok-push, in_defau
 pub loop-l-preserved : goal.loop-l-preserved
 loop-l-preserved c =
     let net = c.args.net.now in
+    let asked : List NodeId = nodes_of c.args.demands.now.cuts in
     let latches : List Latch = net.raw.latches in
     let told : List Rails = c.args.told.now in
     let nets : List NetRails = c.args.nets.now in
@@ -37,10 +39,10 @@ loop-l-preserved c =
     ] in
     let some_is : (set : LatchSet) → c.told_set.result ≡ Some set → set ≡ own =
     λ set e. subst (λ (o : Option LatchSet). IfSome o (λ x. x ≡ own)) e p.some in
-    let place : (asked : List NodeId) → HaveMarks asked c.args.marks.now → c.told_set.result ≡ None → IsInPlace told asked nets n latch = λ asked have e.
+    let place : c.told_set.result ≡ None → IsInPlace told asked nets n latch = λ e.
     let h = p.none e in
     record {
-      uncut = have latch.output.0 h.0;
+      uncut = h.0;
       rails = λ d. get_or_default told n d _ within ∙ h.1;
     } in
     record {
@@ -48,12 +50,12 @@ loop-l-preserved c =
           (λ set e. own_set net.raw told nets n latch set inside is (ap (λ (x : LatchSet). x.output) (some_is set e))
           (λ d. get_or_default told n d _ within ∙ ap (λ (x : LatchSet). x.rails) (sym (some_is set e)))
           (ap (λ (x : LatchSet). x.given) (sym (some_is set e)))) inv.own;
-      each = λ asked have.
-          places_next net.raw told asked nets c.told_set.result sets more n latch inside is grows (λ set e. ap (λ (x : LatchSet). x.output) (some_is set e)) (place asked have) (inv.each asked have);
+      each =
+          places_next net.raw told asked nets c.told_set.result sets more n latch inside is grows (λ set e. ap (λ (x : LatchSet). x.output) (some_is set e)) place inv.each;
     }
 
 pub returns : goal.returns
-returns c = λ asked have. record {
+returns c = record {
   own = c.loop-l.invariant.own;
-  each = λ k d lt. c.loop-l.invariant.each asked have k d (let same = ap (λ (xs : List Latch). length xs) c.latches-latches.ensures in omega (arith, same, lt, c.loop-l-test.false)) lt;
+  each = λ k d lt. c.loop-l.invariant.each k d (let same = ap (λ (xs : List Latch). length xs) c.latches-latches.ensures in omega (arith, same, lt, c.loop-l-test.false)) lt;
 }

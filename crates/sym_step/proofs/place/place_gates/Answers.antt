@@ -77,7 +77,7 @@ loop-place-init g c =
       spared = c.requires.spared;
       so = λ ls ds sets long family zip have. (
         So-start (time_work net.raw ls (asks ds) sets) s,
-        passed_to net.raw c.args.board.now.due.order.items net.in_range net.one_driver c.requires.order ls ds sets long s s c.args.cuts.now c.args.board.now gs (Keeps-refl s) c.requires.long family zip c.requires.spared 0 first p.behind p.within p.unmarked have,
+        passed_to net.raw c.args.board.now.due.order.items net.in_range net.one_driver c.requires.order ls ds sets long s s c.args.demands.now.cuts c.args.board.now gs (Keeps-refl s) c.requires.long family zip c.requires.spared 0 first p.behind p.within p.unmarked have,
       );
     }
 
@@ -89,7 +89,7 @@ renew-requires-clause-spared g c =
     let inv = c.loop-place.invariant in
     let h = here net.raw c.args.board.now.due.order.items c.loop-place.board.due.order.items c.gates-in-loop-place.result.now c.loop-place.place number c.index-gates-number.result
     c.requires.order (ap (λ (v : Vec ℕ). v.items) inv.follows.order) c.gates-in-loop-place.ensures (subst (λ (xs : List Gate). c.loop-place.place < length xs) c.gates.ensures c.loop-place-test.true) c.number_at-number.ensures c.index-gates-number.is in
-    let nodes : List NodeId = map (λ (x : Cut). x.node) c.args.cuts.now in
+    let nodes : List NodeId = map (λ (x : Cut). x.node) c.args.demands.now.cuts in
     subst (λ (x : Gate). flag_at c.loop-place.board.due.flags.items number ≡ false → IsSpared t net.raw nodes c.loop-place.board number x) (sym h.is)
     (inv.spared number c.index-gates-number.result h.known)
 
@@ -102,7 +102,7 @@ loop-place-preserved g c =
     let gt = g.met.N.Nodes.diagram c.loop-place.nodes in
     let gu = g.met.N.Nodes.diagram c.renew.new.nodes in
     let net = c.args.net.now in
-    let cuts : List Cut = c.args.cuts.now in
+    let cuts : List Cut = c.args.demands.now.cuts in
     let order : List ℕ = c.args.board.now.due.order.items in
     let nets : List NetRails = c.loop-place.board.nets.items in
     let new : List NetRails = c.renew.new.board.nets.items in
@@ -167,7 +167,7 @@ returns-in_err-renew-clause-built g c = λ ls ds sets long family zip have.
     let gt = g.met.N.Nodes.diagram c.loop-place.nodes in
     let gu = g.met.N.Nodes.diagram c.renew.new.nodes in
     let net = c.args.net.now in
-    let cuts : List Cut = c.args.cuts.now in
+    let cuts : List Cut = c.args.demands.now.cuts in
     let order : List ℕ = c.args.board.now.due.order.items in
     let n : ℕ = c.loop-place.place in
     let number : ℕ = c.number_at-number.result in

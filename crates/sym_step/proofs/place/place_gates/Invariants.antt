@@ -20,8 +20,8 @@ invariant-loop-place g l = record {
   keeps : Keeps (g.N.Nodes.store l.fn.nodes) (g.N.Nodes.store l.nodes);
   refs : All (AreNetRefs (g.N.Nodes.store l.nodes)) l.board.nets.items;
   follows : Follows l.fn.board l.board;
-  spared : AreSpared (g.N.Nodes.store l.nodes) l.net.raw (map (λ (c : Cut). c.node) l.cuts) l.board;
-  so : (ls : List SymbolicSet) (ds : List SymbolicCut) (sets : ℕ → SymbolicSet) → length ls ≡ length l.net.raw.latches → ArePossibleEach (g.N.Nodes.store l.fn.nodes).vars l.net.raw ls (asks ds) sets → AllZip (IsCutBy (g.N.Nodes.store l.fn.nodes)) ds l.cuts
+  spared : AreSpared (g.N.Nodes.store l.nodes) l.net.raw (map (λ (c : Cut). c.node) l.demands.cuts) l.board;
+  so : (ls : List SymbolicSet) (ds : List SymbolicCut) (sets : ℕ → SymbolicSet) → length ls ≡ length l.net.raw.latches → ArePossibleEach (g.N.Nodes.store l.fn.nodes).vars l.net.raw ls (asks ds) sets → AllZip (IsCutBy (g.N.Nodes.store l.fn.nodes)) ds l.demands.cuts
       → HaveGates l.net.raw l.fn.board.due.order.items sets (g.N.Nodes.store l.fn.nodes) 0 l.fn.board.nets.items
       → SoFar (time_work l.net.raw ls (asks ds) sets) (g.N.Nodes.store l.fn.nodes) (g.N.Nodes.store l.nodes) × HaveGates l.net.raw l.fn.board.due.order.items sets (g.N.Nodes.store l.nodes) l.place l.board.nets.items;
 }

@@ -1,4 +1,4 @@
-use Rattle.std.proofs.Common.{List, subst, sym}
+use Rattle.std.proofs.Common.{List, refl, subst, sym}
 use Rattle.std.specs.Global.{Vec}
 use Rattle.std.specs.List.{AllZip}
 use Rattle.std.proofs.lemmas.Result.{IfOk-weaker, on_ok_weaker}
@@ -9,7 +9,8 @@ use Rattle.sym_step.specs.declared.frame.Frame.{Frame}
 use Rattle.gate_sets.specs.declared.net_rails.NetRails.{NetRails}
 use Rattle.sym_step.specs.Frame.{next_of}
 use Rattle.sym_step.specs.private.Frames.{AreCarried}
-use Rattle.sym_step.specs.private.Latches.{AreGiven, AreLatchSets, Begins, HaveMarks}
+use Rattle.sym_step.specs.private.Demands.{nodes_of}
+use Rattle.sym_step.specs.private.Latches.{AreGiven, AreLatchSets, Begins}
 use Rattle.sym_step.proofs.Framing.{next_first}
 use Rattle.sym_step.proofs.Latched.{begins, frame_given, next_same, sets_held}
 use Rattle.sym_step.proofs.time.begin_time.Goals as goal
@@ -34,35 +35,33 @@ make_due-requires-clause-before c = c.requires.frame.1.inside
 pub returns-clause-begins : goal.returns-clause-begins
 returns-clause-begins c =
     let net = c.args.net.now.raw in
-    let asked : List NodeId = c.args.asked.now in
+    let asked : List NodeId = nodes_of c.args.demands.now.cuts in
     let frame : Frame = c.make_due.new.frame in
     let q = c.latch_sets.ensures in
     on_ok_weaker c.latch_sets.result (λ carried s f.
     let p = c.in_ok-make_due.ensures.frame s f in
-    subst (Begins s net asked) (sym q.rest) (begins s net asked frame c.latch_sets.new.frame.board p.0 p.1 q.nets q.readers q.full q.order q.long q.gates (carried asked c.requires.marks p.2))) q.carried
+    subst (Begins s net asked) (sym q.rest) (begins s net asked frame c.latch_sets.new.frame.board p.0 p.1 q.nets q.readers q.full q.order q.long q.gates (carried p.2))) q.carried
 
 pub returns-clause-held : goal.returns-clause-held
 returns-clause-held c =
     let net = c.args.net.now.raw in
-    let asked : List NodeId = c.args.asked.now in
-    let marks = c.args.marks.now in
+    let asked : List NodeId = nodes_of c.args.demands.now.cuts in
     let frame : Frame = c.make_due.new.frame in
     let range = c.args.net.now.in_range in
-    IfOk-weaker c.latch_sets.result (λ sets. (asked : List NodeId) → HaveMarks asked marks → AreCarried net asked frame.board → AreLatchSets net (next_of net frame) asked frame.board.nets.items sets.items) _ (λ sets are s f.
+    IfOk-weaker c.latch_sets.result (λ sets. AreCarried net asked frame.board → AreLatchSets net (next_of net frame) asked frame.board.nets.items sets.items) _ (λ sets are s f.
     let p = c.in_ok-make_due.ensures.frame s f in
-    sets_held s net (next_of net frame) asked frame.board.nets.items sets.items range p.0.long (next_first s net frame range p.0) p.0.refs (are asked c.requires.marks p.2)) c.latch_sets.ensures.sets
+    sets_held s net (next_of net frame) asked frame.board.nets.items sets.items range p.0.long (next_first s net frame range p.0) p.0.refs (are p.2)) c.latch_sets.ensures.sets
 
 pub returns-clause-given : goal.returns-clause-given
 returns-clause-given c =
     let net = c.args.net.now.raw in
-    let asked : List NodeId = c.args.asked.now in
-    let marks = c.args.marks.now in
+    let asked : List NodeId = nodes_of c.args.demands.now.cuts in
     let frame : Frame = c.make_due.new.frame in
     let same = next_same net c.args.frame.now frame c.in_ok-make_due.ensures.first c.in_ok-make_due.ensures.nets in
-    IfOk-weaker c.latch_sets.result (λ sets. (asked : List NodeId) → HaveMarks asked marks → AreCarried net asked frame.board → AreLatchSets net (next_of net frame) asked frame.board.nets.items sets.items) _ (λ sets are s ls demands family cuts f is zip zipc possible.
+    IfOk-weaker c.latch_sets.result (λ sets. AreCarried net asked frame.board → AreLatchSets net (next_of net frame) asked frame.board.nets.items sets.items) _ (λ sets are s ls demands family f zip zipc possible.
     let p = c.in_ok-make_due.ensures.frame s f in
     subst (λ (v : Vec NetRails). AreGiven s net ls family sets.items v.items) (sym c.latch_sets.ensures.nets)
-    (frame_given net c.args.net.now.in_range c.args.net.now.one_driver ls demands.cuts family s frame cuts asked sets.items p.0 (subst (λ (next : List Rails). AllZip (AreRails s) ls next) (sym same) zip) possible zipc is (are asked c.requires.marks p.2)))
+    (frame_given net c.args.net.now.in_range c.args.net.now.one_driver ls demands.cuts family s frame c.args.demands.now.cuts asked sets.items p.0 (subst (λ (next : List Rails). AllZip (AreRails s) ls next) (sym same) zip) possible zipc refl (are p.2)))
     c.latch_sets.ensures.sets
 
 pub latch_sets-requires-clause-gates : goal.latch_sets-requires-clause-gates

@@ -17,27 +17,16 @@ use Rattle.sym_step.specs.declared.frame.Frame.{Frame}
 use Rattle.gate_sets.specs.declared.net_rails.NetRails.{NetRails}
 use Rattle.sym_step.specs.declared.latches.LatchSet.{LatchSet}
 use Rattle.sym_step.specs.Frame.{AreFirst, AreOpen, is_listed, next_of}
-use Rattle.sym_step.specs.private.Frames.{AreCarried, AreSpared}
-use Rattle.sym_step.specs.private.Latches.{AreGiven, HaveMarks, IsLatchSet}
+use Rattle.sym_step.specs.private.Frames.{AreCarried}
+use Rattle.sym_step.specs.private.Latches.{AreGiven, IsLatchSet}
 use Rattle.sym_step.specs.private.Readers.{AreReaders}
-use Rattle.sym_step.specs.private.Parts.{AreMarks, HaveNets}
+use Rattle.sym_step.specs.private.Parts.{HaveNets}
 use Rattle.sym_step.proofs.Cutting.{own_demands}
 use Rattle.sym_step.proofs.Framing.{given_here, next_first, not_first, written}
-use Rattle.sym_step.proofs.Latched.{carried_follows, have_marks}
+use Rattle.sym_step.proofs.Latched.{carried_follows}
 use Rattle.sym_step.proofs.Opened.{nodes_inside, undriven_here}
 use Rattle.sym_step.proofs.Whole as whole
 use Rattle.sym_step.proofs.time.renew_with.Goals as goal
-
-pub begin_time-requires-clause-asked : goal.begin_time-requires-clause-asked
-begin_time-requires-clause-asked g c =
-    let net = c.args.net.now.raw in
-    subst (All (λ (node : NodeId). node.0 < net.nets)) (sym (c.deref-2.ensures.value ∙ c.in_ok-asked.ensures)) (nodes_inside net.nets c.args.cuts.now (λ k d l. (c.requires.cuts k d l).node))
-
-pub begin_time-requires-clause-marks : goal.begin_time-requires-clause-marks
-begin_time-requires-clause-marks g c =
-    let cuts = c.args.cuts.now in
-    subst (λ (ids : List NodeId). HaveMarks ids c.deref.result.now) (sym (c.deref-2.ensures.value ∙ c.in_ok-asked.ensures))
-    (have_marks cuts c.deref.result.now (subst (AreMarks cuts) (sym c.deref.ensures.value) c.in_ok-links.ensures.marks))
 
 pub begin_time-requires-clause-frame : goal.begin_time-requires-clause-frame
 begin_time-requires-clause-frame g c = (g.N.Nodes.store c.args.nodes.now, c.requires.frame)
@@ -45,15 +34,10 @@ begin_time-requires-clause-frame g c = (g.N.Nodes.store c.args.nodes.now, c.requ
 pub set_nets-requires-clause-latches : goal.set_nets-requires-clause-latches
 set_nets-requires-clause-latches g c =
     let s : Store = g.N.Nodes.store c.args.nodes.now in
-    subst (All (IsLatchSet s c.args.net.now.raw)) (sym c.deref-6.ensures.value) (c.in_ok-latches.ensures.held s c.requires.frame)
-
-pub set_nets-requires-clause-asked : goal.set_nets-requires-clause-asked
-set_nets-requires-clause-asked g c = c.deref-8.ensures.value ∙ c.in_ok-asked.ensures
+    subst (All (IsLatchSet s c.args.net.now.raw)) (sym c.deref-5.ensures.value) (c.in_ok-latches.ensures.held s c.requires.frame)
 
 pub set_nets-requires-clause-spared : goal.set_nets-requires-clause-spared
-set_nets-requires-clause-spared g c =
-    let s : Store = g.N.Nodes.store c.args.nodes.now in
-    subst (λ (ids : List NodeId). AreSpared s c.args.net.now.raw ids c.begin_time.new.frame.board) (c.deref-2.ensures.value ∙ sym c.deref-8.ensures.value) (c.in_ok-latches.ensures.begins s c.requires.frame).spared
+set_nets-requires-clause-spared g c = (c.in_ok-latches.ensures.begins (g.N.Nodes.store c.args.nodes.now) c.requires.frame).spared
 
 pub set_nets-requires-clause-room : goal.set_nets-requires-clause-room
 set_nets-requires-clause-room g c =
@@ -73,12 +57,12 @@ set_nets-requires-clause-order g c = (c.in_ok-latches.ensures.begins (g.N.Nodes.
 
 pub set_nets-requires-clause-before : goal.set_nets-requires-clause-before
 set_nets-requires-clause-before g c =
-    subst (All (λ (node : NodeId). node.0 < c.args.net.now.raw.nets)) (sym c.deref-9.ensures.value) (c.in_ok-latches.ensures.begins (g.N.Nodes.store c.args.nodes.now) c.requires.frame).inside
+    subst (All (λ (node : NodeId). node.0 < c.args.net.now.raw.nets)) (sym c.deref-6.ensures.value) (c.in_ok-latches.ensures.begins (g.N.Nodes.store c.args.nodes.now) c.requires.frame).inside
 
 pub set_nets-requires-clause-undriven : goal.set_nets-requires-clause-undriven
 set_nets-requires-clause-undriven g c =
     let s : Store = g.N.Nodes.store c.args.nodes.now in
-    subst (λ (xs : List NodeId). AreOpen s c.args.net.now.raw xs c.begin_time.new.frame.board.nets.items) (sym c.deref-9.ensures.value) (c.in_ok-latches.ensures.begins s c.requires.frame).undriven
+    subst (λ (xs : List NodeId). AreOpen s c.args.net.now.raw xs c.begin_time.new.frame.board.nets.items) (sym c.deref-6.ensures.value) (c.in_ok-latches.ensures.begins s c.requires.frame).undriven
 
 pub returns-in_err-asked-clause-built : goal.returns-in_err-asked-clause-built
 returns-in_err-asked-clause-built g c = λ ls asked sets zip zipc family.
@@ -97,8 +81,8 @@ returns-in_err-set_nets-clause-built g c = λ ls asked sets zip zipc family.
     let s : Store = g.N.Nodes.store c.args.nodes.now in
     let t : Store = g.N.Nodes.store c.set_nets.new.nodes in
     let work : List Function = time_work c.args.net.now.raw ls asked sets in
-    let given = subst (λ (xs : List LatchSet). AreGiven s c.args.net.now.raw ls sets xs c.begin_time.new.frame.board.nets.items) (sym c.deref-6.ensures.value)
-    (c.in_ok-latches.ensures.given s ls asked sets c.args.cuts.now c.requires.frame (c.deref-2.ensures.value ∙ c.in_ok-asked.ensures) zip zipc family) in
+    let given = subst (λ (xs : List LatchSet). AreGiven s c.args.net.now.raw ls sets xs c.begin_time.new.frame.board.nets.items) (sym c.deref-5.ensures.value)
+    (c.in_ok-latches.ensures.given s ls asked sets c.requires.frame zip zipc family) in
     pass work Whatever Whatever s s t c.in_err-set_nets.field-0.0 c.from_residual-in_err-set_nets.result (g.met.N.Nodes.diagram c.args.nodes.now) (g.met.N.Nodes.diagram c.set_nets.new.nodes) (So-start work s)
     (c.in_err-set_nets.ensures.built ls asked sets given zipc family) c.from_residual-in_err-set_nets.ensures.1
 
@@ -107,15 +91,15 @@ returns-clause-built g c = λ ls asked sets zip zipc family.
     let s : Store = g.N.Nodes.store c.args.nodes.now in
     let t : Store = g.N.Nodes.store c.set_nets.new.nodes in
     let work : List Function = time_work c.args.net.now.raw ls asked sets in
-    let given = subst (λ (xs : List LatchSet). AreGiven s c.args.net.now.raw ls sets xs c.begin_time.new.frame.board.nets.items) (sym c.deref-6.ensures.value)
-    (c.in_ok-latches.ensures.given s ls asked sets c.args.cuts.now c.requires.frame (c.deref-2.ensures.value ∙ c.in_ok-asked.ensures) zip zipc family) in
+    let given = subst (λ (xs : List LatchSet). AreGiven s c.args.net.now.raw ls sets xs c.begin_time.new.frame.board.nets.items) (sym c.deref-5.ensures.value)
+    (c.in_ok-latches.ensures.given s ls asked sets c.requires.frame zip zipc family) in
     Built-made work Whatever s t tt (first work Whatever s t (Ok c.in_ok-set_nets.field-0) (c.in_ok-set_nets.ensures.built ls asked sets given zipc family)) tt
 
 pub returns-clause-have : goal.returns-clause-have
 returns-clause-have g c = λ ls asked sets zip zipc family.
     let s : Store = g.N.Nodes.store c.args.nodes.now in
-    let given = subst (λ (xs : List LatchSet). AreGiven s c.args.net.now.raw ls sets xs c.begin_time.new.frame.board.nets.items) (sym c.deref-6.ensures.value)
-    (c.in_ok-latches.ensures.given s ls asked sets c.args.cuts.now c.requires.frame (c.deref-2.ensures.value ∙ c.in_ok-asked.ensures) zip zipc family) in
+    let given = subst (λ (xs : List LatchSet). AreGiven s c.args.net.now.raw ls sets xs c.begin_time.new.frame.board.nets.items) (sym c.deref-5.ensures.value)
+    (c.in_ok-latches.ensures.given s ls asked sets c.requires.frame zip zipc family) in
     c.in_ok-set_nets.ensures.have ls asked sets given zipc family
 
 pub returns-clause-first : goal.returns-clause-first
@@ -141,15 +125,15 @@ returns-clause-frame g c =
     let zip = own_zip s latches told.refs in
     let zipc = own_demands s cuts (λ k d l. (c.requires.cuts k d l).guard) (λ k d l. (c.requires.cuts k d l).value) in
     let ids : List NodeId = c.in_ok-asked.asked.items in
-    let given = subst (λ (xs : List LatchSet). AreGiven s net.raw ls exist.0 xs frame.board.nets.items) (sym c.deref-6.ensures.value)
-    (c.in_ok-latches.ensures.given s ls asked exist.0 cuts c.requires.frame (c.deref-2.ensures.value ∙ c.in_ok-asked.ensures) zip zipc exist.1) in
+    let given = subst (λ (xs : List LatchSet). AreGiven s net.raw ls exist.0 xs frame.board.nets.items) (sym c.deref-5.ensures.value)
+    (c.in_ok-latches.ensures.given s ls asked exist.0 c.requires.frame zip zipc exist.1) in
     let keeps = (q.built ls asked exist.0 given zipc exist.1).spends.keeps in
     let have : HaveNets net.raw exist.0 u nets = q.have ls asked exist.0 given zipc exist.1 in
     let long = length-map latches (set_where s) ∙ told.long in
     let room : List Ref = c.set_nets.new.products in
     let same_room : length room ≡ length frame.products.items = q.room ∙ ap length c.deref_mut.ensures.value in
     let back_room = written frame.products.len room (drop (length room) frame.products.items) (frame.products.ok.0 ∙ sym same_room) in
-    let carried = carried_follows net.raw ids frame.board c.set_nets.new.board p.due q.follows (subst (λ (xs : List NodeId). AreCarried net.raw xs frame.board) c.deref-2.ensures.value p.carried) in
+    let carried = carried_follows net.raw ids frame.board c.set_nets.new.board p.due q.follows (subst (λ (xs : List NodeId). AreCarried net.raw xs frame.board) (sym c.in_ok-asked.ensures) p.carried) in
     let count : length c.set_nets.new.board.due.order.items ≡ length net.raw.gates = ap (λ (v : Vec ℕ). length v.items) q.follows.order ∙ p.order.long in
     record {
       long = q.follows.long ∙ p.long;

@@ -6,7 +6,7 @@ use Rattle.dual_rail.specs.Rail.{Whatever}
 use Rattle.dual_rail.proofs.Works.{So-start, first, last, pass}
 use Rattle.sym_step.proofs.Cutting.{Demands-keep}
 use Rattle.ste_base.specs.declared.id.NodeId.{NodeId}
-use Rattle.sym_step.specs.private.Frames.{AreSpared}
+use Rattle.sym_step.specs.private.Demands.{nodes_of}
 use Rattle.sym_step.proofs.Framing.{spared_follows, spared_keeps}
 use Rattle.sym_step.proofs.Reading.{follows_then, order_then}
 use Rattle.sym_step.proofs.Opened.{ok_then}
@@ -27,9 +27,9 @@ place_gates-requires-clause-spared g c =
     let t : Store = g.N.Nodes.store c.sources.new.nodes in
     let net = c.args.net.now in
     let p = c.in_ok-sources.ensures in
-    subst (λ (ids : List NodeId). AreSpared t net.raw ids c.sources.new.board) c.requires.asked
-    (spared_follows t net.raw c.args.asked.now c.args.board.now c.sources.new.board c.requires.due p.follows
-    (spared_keeps s t net.raw c.args.asked.now c.args.board.now net.in_range c.requires.nets (g.met.N.Nodes.diagram c.args.nodes.now) (g.met.N.Nodes.diagram c.sources.new.nodes) p.keeps c.requires.refs c.requires.spared))
+    let asked : List NodeId = nodes_of c.args.demands.now.cuts in
+    spared_follows t net.raw asked c.args.board.now c.sources.new.board c.requires.due p.follows
+    (spared_keeps s t net.raw asked c.args.board.now net.in_range c.requires.nets (g.met.N.Nodes.diagram c.args.nodes.now) (g.met.N.Nodes.diagram c.sources.new.nodes) p.keeps c.requires.refs c.requires.spared)
 
 pub place_gates-requires-clause-long : goal.place_gates-requires-clause-long
 place_gates-requires-clause-long g c = c.in_ok-sources.ensures.follows.long ∙ c.requires.nets
@@ -56,7 +56,7 @@ returns-clause-built g c = λ ls asked sets given zipc family.
     let work : List Function = time_work net.raw ls asked sets in
     let long = given.long in
     let family' : ArePossibleEach t.vars net.raw ls asked sets = subst (λ v. ArePossibleEach v net.raw ls asked sets) (sym p.keeps.vars) family in
-    let zipc' = Demands-keep s t asked.cuts c.args.cuts.now gs gt p.keeps zipc in
+    let zipc' = Demands-keep s t asked.cuts c.args.demands.now.cuts gs gt p.keeps zipc in
     let have0 = to_gates net.raw c.sources.new.board.due.order.items sets t c.sources.new.board.nets.items net.one_driver (order_then c.args.board.now c.sources.new.board net.raw p.follows c.requires.order) (p.have ls asked.cuts sets given family zipc) in
     last work Whatever s t u c.place_gates.result gt gu (first work Whatever s t (Ok c.in_ok-sources.field-0) (p.built ls asked.cuts sets given family zipc))
     (c.place_gates.ensures.built ls asked.cuts sets long family' zipc' have0)
@@ -74,6 +74,6 @@ returns-clause-have g c =
     ok_then c.place_gates.result (λ q ls asked sets given zipc family.
     let long = given.long in
     let family' : ArePossibleEach t.vars net.raw ls asked sets = subst (λ v. ArePossibleEach v net.raw ls asked sets) (sym p.keeps.vars) family in
-    let zipc' = Demands-keep s t asked.cuts c.args.cuts.now gs gt p.keeps zipc in
+    let zipc' = Demands-keep s t asked.cuts c.args.demands.now.cuts gs gt p.keeps zipc in
     let have0 = to_gates net.raw c.sources.new.board.due.order.items sets t c.sources.new.board.nets.items net.one_driver (order_then c.args.board.now c.sources.new.board net.raw p.follows c.requires.order) (p.have ls asked.cuts sets given family zipc) in
     all_placed net.raw c.sources.new.board.due.order.items sets u c.place_gates.new.board.nets.items (q ls asked.cuts sets long family' zipc' have0)) c.place_gates.ensures.have

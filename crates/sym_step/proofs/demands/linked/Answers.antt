@@ -1,14 +1,14 @@
 use Rattle.std.proofs.Common.{ℕ, ◌≡◌, ◌<◌, ◌+◌, ◌-◌, Bool, true, false, List, length, get_or, set, refl, sym, ap, ◌∙◌, subst, arith}
 use Rattle.std.proofs.lemmas.List.{length-set}
 use Rattle.sym_step.specs.declared.cut.Cut.{Cut}
-use Rattle.sym_step.specs.private.CutLists.{AreLinked, no_cut, node_at, told_place}
+use Rattle.sym_step.specs.private.Demands.{AreLinked, no_cut, node_at, told_place}
 use Rattle.sym_step.proofs.CutLists.{turn}
-use Rattle.sym_step.proofs.cut_list.linked.Goals as goal
+use Rattle.sym_step.proofs.demands.linked.Goals as goal
 
 pub loop-at-preserved : goal.loop-at-preserved
 loop-at-preserved c =
     let cuts : List Cut = c.args.cuts.now in
-    let marks : List Bool = c.loop-at.marks.items in
+    let marks : List Bool = c.loop-at.is_cut.items in
     let first : List ℕ = c.loop-at.first.items in
     let next : List ℕ = c.loop-at.next.items in
     let k : ℕ = c.loop-at.at - 1 in
