@@ -7,7 +7,7 @@ import re
 from dataclasses import dataclass
 from typing import FrozenSet, Iterable, Iterator, List, NamedTuple, Optional, Sequence, Set, Tuple, TypeVar, Union
 
-from .blif import Netlist, expand
+from .netlist import Netlist, expand
 from .errors import Origin, TaskError, caller
 from .expr import Bit, Bool, Vector, to_bool, to_vector, variables
 from .limits import MOST_CHARACTERS, MOST_NESTING

@@ -6,7 +6,7 @@ import sys
 from typing import TYPE_CHECKING, NamedTuple, Optional
 
 if TYPE_CHECKING:
-    from .run import Results
+    from .results import Results
 
 _PACKAGE = __name__.split(".", 1)[0]
 
@@ -70,12 +70,28 @@ class Fault(SteworkError):
     status that it does not have, a signal, or words that it does not say."""
 
 
+class FileChanged(SteworkError):
+    """The program or the netlist was another file, on this machine, when a part of a check was run, than when the check was
+    asked for."""
+
+    def __init__(self, path: str, machine: str) -> None:
+        super().__init__(path, machine)
+        self.path, self.machine = path, machine
+
+    def __str__(self) -> str:
+        return f"{self.path} on {self.machine} is not the file that was there when the check was asked for"
+
+
 class OutOfMemory(SteworkError):
     """Status 4."""
 
 
 class TimedOut(SteworkError, TimeoutError):
     """The program was ended when `timeout` seconds had passed. It says nothing of any task of that run."""
+
+
+class YosysError(SteworkError):
+    """Yosys stopped before there was a netlist; the message is its own."""
 
 
 class ReportError(SteworkError):

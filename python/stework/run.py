@@ -1,83 +1,26 @@
 """Running the program on tasks. Begin with `check`."""
 from __future__ import annotations
 
+import functools
 import os
-import re
 import shutil
-import subprocess
-import tempfile
+import time
+from concurrent.futures import Executor, Future, as_completed
 from pathlib import Path
-from typing import AbstractSet, Any, Dict, Iterator, List, Mapping, NamedTuple, Optional, Sequence, Tuple
+from typing import Any, Callable, Counter, Dict, Iterator, List, Optional, Sequence, Tuple, Union
 
-from .blif import PathLike
-from .clauses import Clause, Line, text_of
-from .errors import Fault, OutOfMemory, Refused, ReportError, SteworkError, TaskError, TimedOut
-from .expr import Bool
+from .clauses import Clause, text_of
+from .errors import Fault, SteworkError, TaskError
 from .limits import MOST_CUBES, MOST_STEPS, MOST_TASKS, MOST_WORKERS
-from .report import Result, Verdict, read_report
-from .tasks import Task, Tasks, clauses_of
+from .netlist import PathLike
+from .parts import Answer, File, Part, bytes_of, hash_of, run_part, save_parts, saved_answer
+from .progress import Progress, Watcher, watcher_of_terminal
+from .report import Result, Verdict
+from .results import Results, read_answer
+from .tasks import Tasks, clauses_of
 
-
-class Part(NamedTuple):
-    """What one run of the program is given: bytes and a text, options, and the seconds that it may take (None: any number)."""
-    program: str
-    net: bytes
-    text: str
-    options: Tuple[str, ...]
-    timeout: Optional[float]
-
-
-class Answer(NamedTuple):
-    """What the program did: its status (below 0: the number of a signal; None: it was ended, since time was out), and what it
-    wrote to its output and its error stream."""
-    status: Optional[int]
-    out: str
-    err: str
-
-
-class Results(Mapping[str, Result]):
-    """The results by task name, in the order of the tasks. `missing` has the names of the tasks of which nothing was reported;
-    `mentions` has, by task, the names of the vectors and of the single variables that the task mentions."""
-
-    def __init__(self, results: Mapping[str, Result], variables: Mapping[str, Bool], mentions: Mapping[str, AbstractSet[str]],
-                 missing: Sequence[str] = ()) -> None:
-        self._results, self._variables = dict(results), dict(variables)
-        self.mentions, self.missing = dict(mentions), tuple(missing)
-
-    def __repr__(self) -> str:
-        shown = [f"{name}: {result.verdict.value}" for name, result in self.items()]
-        return f"<{', '.join(shown + [f'{name}: not reported' for name in self.missing])}>"
-
-    def __getitem__(self, name: str) -> Result:
-        return self._results[name]
-
-    def __iter__(self) -> Iterator[str]:
-        return iter(self._results)
-
-    def __len__(self) -> int:
-        return len(self._results)
-
-    @property
-    def passed(self) -> bool:
-        """Every task was reported, and every verdict is pass; lists `contradictory:` are not looked at."""
-        return not self.missing and all(result.verdict is Verdict.PASS for result in self.values())
-
-    @property
-    def text(self) -> str:
-        """The report."""
-        return "".join(result.text for result in self.values())
-
-    def assignment(self, name: str) -> Dict[str, int]:
-        """The least assignment of a failed task, with the variables of a vector put together as a number, in the order of
-        `.vars`: of the variables that the task mentions, and of vectors of which it mentions a bit. Of a task that did not fail,
-        nothing."""
-        found: Dict[str, int] = {}
-        for variable, value in (self[name].least or {}).items():
-            member = self._variables[variable].member
-            key, shift = (member.vector, member.bit) if member else (variable, 0)
-            if key in self.mentions[name]:
-                found[key] = found.get(key, 0) | value << shift
-        return found
+# The results of a part, or its error.
+Outcome = Union[List[Result], SteworkError]
 
 
 def find_program() -> str:
@@ -89,68 +32,146 @@ def find_program() -> str:
     return found
 
 
-def run_part(part: Part) -> Answer:
-    """Run the program once, in a folder of its own. Done again it answers the same, but perhaps for budgets."""
-    words = [part.program, "check", *part.options, "--", "NET", "TASKS"]
+def _file(path: str, doing: str) -> File:
+    """The file as it is now."""
+    return File(path, hash_of(bytes_of(path, doing)))
+
+
+class Plan:
+    """A check that is planned, and not run: its `parts`, and how their answers become results. The options and the errors are
+    those of `check`; nothing is wrong in any task."""
+
+    def __init__(self, net: PathLike, tasks: Tasks, *, workers: int = 4, steps: int = 1_000_000, cubes: int = 8,
+                 wave: bool = False, timeout: Optional[float] = None, program: Optional[PathLike] = None, parts: int = 1) -> None:
+        _require_numbers(workers, steps, cubes, parts)
+        size = min(MOST_TASKS, MOST_STEPS // steps, -(-len(tasks.tasks) // parts) or 1)
+        self._lines = tasks.files(size)
+        self._variables = tasks.variables()
+        self._tasks = list(tasks.tasks.values())
+        self._groups = [self._tasks[at:at + size] for at in range(0, len(self._tasks), size)]
+        self._net = os.fspath(net)
+        options = (f"--workers={workers:d}", f"--steps={steps:d}", f"--cubes={cubes:d}") + (("--wave",) if wave else ())
+        runs = _file(os.path.abspath(program or find_program()), "run")
+        # The message has the name as it was given.
+        on = File(os.path.abspath(net), hash_of(bytes_of(self._net, "read")))
+        self.parts = [Part(runs, on, text_of(lines), options, timeout) for lines in self._lines]
+
+    def outcome(self, number: int, act: Callable[[], Answer]) -> Outcome:
+        """The results of the part of this number, whose answer the act gives, or the error of it."""
+        try:
+            return read_answer(act(), self._groups[number], list(self._variables), self._lines[number], self._net)
+        except SteworkError as e:
+            return e
+
+    def results(self, outcomes: Sequence[Outcome]) -> Results:
+        """The results of all tasks, from those of the parts, in their order; or the first error, with the results of the other
+        parts."""
+        found = {result.name: result for outcome in outcomes if isinstance(outcome, list) for result in outcome}
+        mentions = {task.name: {name for clause in clauses_of(task) for name in clause.mentions} for task in self._tasks}
+        names = [task.name for task in self._tasks]
+        results = Results(found, self._variables, mentions, [name for name in names if name not in found])
+        for outcome in outcomes:
+            if isinstance(outcome, SteworkError):
+                outcome.results = results
+                raise outcome
+        return results
+
+    def save(self, folder: PathLike) -> List[Path]:
+        """Write each part to a file of this folder, for a batch queue: the files 0.part, 1.part, .. as they are to be given to
+        `python3 -m stework part`."""
+        return save_parts(self.parts, Path(folder))
+
+    def collect(self, folder: PathLike) -> Results:
+        """The results, from the answers that stand beside the parts in this folder. A part without an answer, or whose answer is
+        to another part, is a Fault."""
+        return self.results([self.outcome(number, functools.partial(saved_answer, part, Path(folder), number))
+                             for number, part in enumerate(self.parts)])
+
+
+def _require_numbers(workers: int, steps: int, cubes: int, parts: int) -> None:
+    """TaskError where one of these is out of its range."""
+    for name, value, most in (("workers", workers, MOST_WORKERS), ("steps", steps, MOST_STEPS), ("cubes", cubes, MOST_CUBES),
+                              ("parts", parts, None)):
+        if not isinstance(value, int) or value < 1 or (most is not None and value > most):
+            raise TaskError(f"{name}={value!r} is not a number from 1" + f" to {most}" * (most is not None))
+
+
+def _lost(error: Exception) -> Callable[[], Answer]:
+    """The answer of a part that the executor lost, or did not take."""
+    def act() -> Answer:
+        if isinstance(error, SteworkError):
+            raise error
+        raise Fault(f"a part was not run: {type(error).__name__}: {error}") from error
+    return act
+
+
+def _given(future: Future[Answer]) -> Callable[[], Answer]:
+    """What a future that is done came to."""
+    def act() -> Answer:
+        try:
+            return future.result()
+        except Exception as e:          # whatever the executor says of a worker that has died
+            return _lost(e)()
+    return act
+
+
+def _answers(parts: Sequence[Part], executor: Optional[Executor]) -> Iterator[Tuple[int, Callable[[], Answer]]]:
+    """The number of each part with what gives its answer, as they are done; without an executor, one after another, here."""
+    if executor is None:
+        yield from ((number, functools.partial(run_part, part)) for number, part in enumerate(parts))
+        return
+    numbers: Dict[Future[Answer], int] = {}
     try:
-        with tempfile.TemporaryDirectory(prefix="stework-") as folder:
-            room = Path(folder)
-            (room / "NET").write_bytes(part.net)
-            (room / "TASKS").write_bytes(part.text.encode("utf-8", "surrogateescape"))
-            # Files and not pipes: what a program that was ended leaves running may hold a pipe open.
-            with open(room / "out", "wb") as out, open(room / "err", "wb") as err:
-                status = subprocess.run(words, cwd=room, stdin=subprocess.DEVNULL, stdout=out, stderr=err, timeout=part.timeout,
-                                        check=False).returncode
-            texts = [(room / name).read_bytes().decode("utf-8", "surrogateescape") for name in ("out", "err")]
-            return Answer(status, *texts)
-    except subprocess.TimeoutExpired:
-        return Answer(None, "", f"no answer within {part.timeout:g} s")
-    except OSError as e:
-        raise Fault(f"cannot run {part.program}: {e.strerror}") from None
+        for number, part in enumerate(parts):
+            try:
+                numbers[executor.submit(run_part, part)] = number
+            except Exception as e:      # a pool whose workers have died takes no more
+                yield number, _lost(e)
+        for future in as_completed(numbers):
+            yield numbers[future], _given(future)
+    finally:
+        for future in numbers:
+            future.cancel()
+
+
+def _outcomes(plan: Plan, executor: Optional[Executor], watcher: Watcher) -> List[Outcome]:
+    """The outcome of each part, in their order; the watcher is told of each as it is done."""
+    started, errors = time.monotonic(), 0
+    verdicts: Counter[Verdict] = Counter()
+    outcomes: Dict[int, Outcome] = {}
+    for number, act in _answers(plan.parts, executor):
+        outcome = outcomes[number] = plan.outcome(number, act)
+        if isinstance(outcome, list):
+            verdicts.update(result.verdict for result in outcome)
+        else:
+            errors += 1
+        counts = {verdict: verdicts[verdict] for verdict in Verdict}
+        watcher(Progress(len(outcomes), len(plan.parts), counts, errors, time.monotonic() - started))
+    return [outcomes[number] for number in range(len(plan.parts))]
 
 
 def check(net: PathLike, tasks: Tasks, *, workers: int = 4, steps: int = 1_000_000, cubes: int = 8, wave: bool = False,
-          timeout: Optional[float] = None, program: Optional[PathLike] = None) -> Results:
+          timeout: Optional[float] = None, program: Optional[PathLike] = None, executor: Optional[Executor] = None,
+          parts: int = 1, progress: Optional[Watcher] = None) -> Results:
     """Check every task on the netlist, a BLIF file, and give the results in the order of the tasks.
 
     `workers` (1 to 64) are threads of a run of the program, and `steps` (1 to 16,000,000) node steps of each task; of a list at
     most `cubes` (1 to 64) are listed; with `wave` runs show all nets, else those that the task names; `timeout` is in seconds,
     for each run of the program, which is `program`, or else by `find_program`.
 
-    As the steps of a file are limited, it has at most 16,000,000 / `steps` tasks, and at most 256: of more tasks several files
-    are made, and run one after another.
+    The tasks are shared out, in order, to `parts` files of about one size, each checked by a run of its own; as the steps of a
+    file are limited, it has at most 16,000,000 / `steps` tasks, and at most 256, so there may be more files. They are run one
+    after another, or by `executor`, at once and perhaps on other machines. These have the program and the netlist at the same
+    absolute paths, and FileChanged says where they are other files.
 
-    TaskError before anything is run; Refused, Fault, OutOfMemory, TimedOut and ReportError when all files were run, of the
-    first that has one. Its `results` has what the others reported.
+    `progress` is called as each part is done. Without it a line on the error stream says how far the check is, where that is a
+    terminal and there are several parts.
+
+    TaskError before anything is run; Refused, Fault, FileChanged, OutOfMemory, TimedOut and ReportError when all files were
+    run, of the first that has one. Its `results` has what the others reported.
     """
-    for name, value, most in ("workers", workers, MOST_WORKERS), ("steps", steps, MOST_STEPS), ("cubes", cubes, MOST_CUBES):
-        if not isinstance(value, int) or not 1 <= value <= most:
-            raise TaskError(f"{name}={value!r} is not a number from 1 to {most}")
-    size = min(MOST_TASKS, MOST_STEPS // steps)
-    files = tasks.files(size)          # what is wrong in any task is reported before the first is run
-    variables = tasks.variables()
-    options = (f"--workers={workers:d}", f"--steps={steps:d}", f"--cubes={cubes:d}") + (("--wave",) if wave else ())
-    path = os.path.abspath(program or find_program())
-    try:
-        bytes_of_net = Path(net).read_bytes()
-    except OSError as e:
-        raise Fault(f"cannot read {os.fspath(net)}: {e.strerror}") from None
-    every = list(tasks.tasks.values())
-    found: Dict[str, Result] = {}
-    errors: List[SteworkError] = []
-    for number, lines in enumerate(files):
-        group = every[number * size:(number + 1) * size]
-        try:
-            answer = run_part(Part(path, bytes_of_net, text_of(lines), options, timeout))
-            found.update((result.name, result) for result in read_answer(answer, group, list(variables), lines, os.fspath(net)))
-        except SteworkError as e:
-            errors.append(e)
-    mentions = {task.name: {name for clause in clauses_of(task) for name in clause.mentions} for task in every}
-    results = Results(found, variables, mentions, [name for name in tasks.tasks if name not in found])
-    if errors:
-        errors[0].results = results
-        raise errors[0]
-    return results
+    plan = Plan(net, tasks, workers=workers, steps=steps, cubes=cubes, wave=wave, timeout=timeout, program=program, parts=parts)
+    return plan.results(_outcomes(plan, executor, progress or watcher_of_terminal()))
 
 
 def unasked(net: PathLike, tasks: Tasks, **options: Any) -> List[Tuple[Clause, Verdict]]:
@@ -163,59 +184,3 @@ def unasked(net: PathLike, tasks: Tasks, **options: Any) -> List[Tuple[Clause, V
     asking = (Verdict.STRONG, Verdict.WEAK)
     return [(clauses[name], result.verdict) for name, result in check(net, negated, **options).items()
             if result.verdict not in asking]
-
-
-def read_answer(answer: Answer, tasks: Sequence[Task], variables: Sequence[str], lines: Sequence[Line],
-                net: str) -> List[Result]:
-    """The results of just these tasks over these variables, or the exception that the answer stands for."""
-    if answer.status not in (0, 1):
-        raise failure(answer, lines, net)
-    if answer.err:
-        raise ReportError(1, f"a report, and on the error stream {answer.err!r}")
-    results, nodes = read_report(answer.out)
-    found, names = [result.name for result in results], [task.name for task in tasks]
-    if found != names or nodes is not None:
-        raise ReportError(1, f"a report on {found} in place of {names}" if nodes is None else "shared nodes were not asked for")
-    if (answer.status == 0) != all(result.verdict is Verdict.PASS for result in results):
-        raise ReportError(1, f"status {answer.status} with these verdicts")
-    line = 1
-    for task, result in zip(tasks, results):
-        misfit = task.misfit(result) or _misfit_of_variables(result, variables)
-        if misfit:
-            raise ReportError(line, misfit)
-        line += result.text.count("\n")
-    return results
-
-
-def _misfit_of_variables(result: Result, variables: Sequence[str]) -> Optional[str]:
-    """Why this is no result over these variables, in this order; or None."""
-    if result.least is not None and list(result.least) != list(variables):
-        return "a least assignment of other variables"
-    place = {name: number for number, name in enumerate(variables)}
-    for cubes in result.lists().values():
-        for cube in cubes.cubes:
-            places = [place.get(name, -1) for name in cube]
-            if -1 in places or places != sorted(places):
-                return "a cube of other variables, or in another order"
-    return None
-
-
-_REFUSAL = re.compile(r"stework: (?:(NET|TASKS):(?:([0-9]{1,9}):)? )?([^\n]*)\n")
-_USAGE = re.compile(r"(usage: [^\n]*)\n")
-
-
-def failure(answer: Answer, lines: Sequence[Line], net: str) -> SteworkError:
-    """What a status other than 0 and 1 says."""
-    if answer.status is None:
-        return TimedOut(answer.err)
-    if answer.status == 4 and not answer.out and answer.err in ("", "stework: out of memory\n"):
-        return OutOfMemory("out of memory")
-    refusal, usage = _REFUSAL.fullmatch(answer.err), _USAGE.fullmatch(answer.err)
-    if answer.status == 2 and not answer.out and usage:
-        return Refused(usage[1])
-    if answer.status == 2 and not answer.out and refusal:
-        file, number, message = refusal.groups()
-        origins = {line: written.origin for line, written in enumerate(lines, 1)} if file == "TASKS" else {}
-        at = int(number) if number else None
-        return Refused(message, {"NET": net, "TASKS": "tasks"}.get(file), at, origins.get(at or 0))
-    return Fault(f"status {answer.status}: {answer.err.rstrip(chr(10)) or 'no message'}")

@@ -8,7 +8,7 @@ from __future__ import annotations
 from dataclasses import replace
 from typing import Dict, Iterable, Iterator, List, Optional, Set, Tuple, Union
 
-from .blif import Netlist, PathLike
+from .netlist import Netlist, PathLike
 from .clauses import Clause, Clauses, Line, Nets, Side, Value, last_word, require_sayable, text_of
 from .errors import Origin, TaskError, caller
 from .expr import Bit, Bool, Op, Vector, counted, variables
@@ -284,11 +284,16 @@ class Tasks:
                 found += [(clause, bit) for bit in bits if str(bit) != actual]
         return found
 
+    def nets_of(self, result: Result) -> Set[str]:
+        """The nets that the task of this result names, and the one that fails."""
+        named = {net for clause in clauses_of(self.tasks[result.name]) for net in clause.nets}
+        return named if result.fails is None else named | {result.fails.net}
+
     def brief(self, result: Result) -> str:
         """The lines of the report on this result, of its run those nets alone that the task names, and the one that fails."""
-        if result.run is None or result.fails is None:
+        if result.run is None:
             return result.text
-        shown = {result.fails.net}.union(*(clause.nets for clause in clauses_of(self.tasks[result.name])))
+        shown = self.nets_of(result)
         return replace(result, run=Run(tuple(row for row in result.run.rows if row[0] in shown))).text
 
     def negated(self) -> Tuple[Tasks, Dict[str, Clause]]:

@@ -1,17 +1,19 @@
-"""Runs as waves: VCD, which GTKWave and others read. Begin with `vcd`."""
+"""Runs as waves: VCD, which GTKWave and others read, and what GTKWave shows of it. Begin with `vcd`."""
 from __future__ import annotations
 
 import re
-from typing import Dict, Iterator, List, NamedTuple, Set
+from typing import Collection, Dict, Iterator, List, NamedTuple, Optional, Set, Tuple
 
-from .blif import has_no_gap, vector_of, vectors
+from .netlist import has_no_gap, vector_of, vectors
 from .errors import TaskError
 from .report import Result, Run
 
 
 class _Signal(NamedTuple):
-    """A net, or the bits of a vector: its name with its indices, and the rows of its bits, the most significant first."""
+    """A net, or the bits of a vector: its name with its indices, the nets, and the rows of their bits, the most significant
+    first."""
     name: str
+    nets: List[str]
     rows: List[str]
 
     def at(self, time: int) -> str:
@@ -46,10 +48,12 @@ def _top_scope(run: Run) -> _Scope:
         local = _shown("/".join([*path, local]))
         indices = wide.get(base, [])
         if len(indices) < 2 or not has_no_gap(indices) or base in nets:
-            scope.signals.append(_Signal(local + name[len(base):], [nets[name]]))
+            scope.signals.append(_Signal(local + name[len(base):], [name], [nets[name]]))
         elif base not in done:
             done.add(base)
-            scope.signals.append(_Signal(f"{local} [{indices[0]}:{indices[-1]}]", [nets[f"{base}[{i}]"] for i in indices]))
+            bits = [f"{base}[{i}]" for i in indices]
+            shown = f"{local} [{indices[0]}:{indices[-1]}]"
+            scope.signals.append(_Signal(shown, bits, [nets[bit] for bit in bits]))
     return top
 
 
@@ -81,7 +85,7 @@ def vcd(result: Result) -> str:
         raise TaskError(f"{result.name}: {result.verdict.value}, without a run")
     steps = range(result.run.steps)
     top = _top_scope(result.run)
-    top.signals.insert(0, _Signal("stework_fails", ["".join(str(int(t == result.fails.time)) for t in steps)]))
+    top.signals.insert(0, _Signal("stework_fails", [], ["".join(str(int(t == result.fails.time)) for t in steps)]))
     declared: List[_Signal] = []
     lines = [f"$comment {result.name}: {result.verdict.value}, fails: {_shown(result.fails.net)} at {result.fails.time} $end",
              "$comment 1 ns is one time step $end",
@@ -95,3 +99,23 @@ def vcd(result: Result) -> str:
             if time == 0 or bits != signal.at(time - 1):
                 lines.append(f"{bits}{_code(number)}" if len(bits) == 1 else f"b{bits} {_code(number)}")
     return "\n".join([*lines, f"#{len(steps)}", ""])
+
+
+def _paths(path: str, scope: _Scope) -> Iterator[Tuple[str, _Signal]]:
+    """Each signal with its whole name, as GTKWave calls it, in the order of the declarations."""
+    for signal in scope.signals:
+        yield f"{path}.{signal.name.replace(' [', '[')}", signal
+    for inner, instance in scope.instances.items():
+        yield from _paths(f"{path}.{inner}", instance)
+
+
+def gtkw(result: Result, wave: str, nets: Optional[Collection[str]] = None) -> str:
+    """What GTKWave is to show of the wave of a failed task, which the file `wave` has: a save file. It shows these nets, vectors
+    whole (without `nets` all), and has its marker at the time step in which the task fails. TaskError where there is no run."""
+    if result.run is None or result.fails is None:
+        raise TaskError(f"{result.name}: {result.verdict.value}, without a run")
+    lines = [f'[dumpfile] "{wave}"', "[timestart] 0", f"*0.000000 {result.fails.time}{' -1' * 26}", "@28", "run.stework_fails"]
+    for name, signal in _paths("run", _top_scope(result.run)):
+        if nets is None or not set(signal.nets).isdisjoint(nets):
+            lines += ["@28" if len(signal.rows) == 1 else "@22", name]
+    return "\n".join([*lines, ""])

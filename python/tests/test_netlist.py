@@ -5,7 +5,7 @@ import random
 from typing import List, Tuple
 
 from stework import Netlist, TaskError
-from stework.blif import expand
+from stework.netlist import expand
 
 from .support import Case
 

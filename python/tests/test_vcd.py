@@ -6,7 +6,7 @@ import subprocess
 import sys
 from typing import Dict, List, Tuple
 
-from stework import TaskError, read_report, vcd
+from stework import TaskError, gtkw, read_report, vcd
 
 from .support import Case, TOP
 
@@ -141,6 +141,17 @@ class Waves(Case):
         wanted = {name.replace(":", "_").replace("$end", "_end"): bits for name, bits in result.run.nets.items()}
         self.assertEqual(values(vcd(result)), {**wanted, "stework_fails": "010"})
 
+    def test_what_is_shown(self) -> None:
+        (result,), _ = read_report(RUN)
+        head = f'[dumpfile] "x y.vcd"\n[timestart] 0\n*0.000000 1{" -1" * 26}\n@28\nrun.stework_fails\n'
+        bit, wide = "@28\nrun.", "@22\nrun."
+        for nets, shown in ((None, f"{bit}clk\n{wide}d[2:0]\n{bit}h[0]\n{bit}h[2]\n{bit}s[3]\n{bit}w[0]\n{bit}w[1]\n{bit}w\n{bit}1x/y\n"
+                             f"{bit}$a.cc_3$f_x[1]\n{bit}_end\n{bit}0.x\n{wide}0.1.m[2][1:0]\n{bit}0.1.a/b\n"),
+                            ({"d[0]", "0/x", "no"}, f"{wide}d[2:0]\n{bit}0.x\n"), (set(), "")):
+            self.assertEqual(gtkw(result, "x y.vcd", nets), head + shown)
+        (other,), _ = read_report("t: pass\n")
+        self.assertEqual(self.error(TaskError, lambda: gtkw(other, "w.vcd")).message, "t: pass, without a run")
+
     def test_many_signals(self) -> None:
         rows = "".join(f"    n{k}: {k % 2}\n" for k in range(9000))
         (result,), _ = read_report(f"t: strong failure\n  strong: 1\n  least:\n  fails: n7 at 0\n  run:\n{rows}")
@@ -173,7 +184,10 @@ class Command(Case):
             results, _ = read_report(text.decode("utf-8", "surrogateescape"))
             for path, result in zip(paths, (results[0], *results[2:])):
                 self.assertEqual((self.folder / path).read_bytes(), vcd(result).encode("utf-8", "surrogateescape"))
-        self.assertEqual(sorted(path.name for path in self.folder.iterdir()), sorted(["r", "out", *names]))
+                self.assertEqual((self.folder / path).with_suffix(".gtkw").read_bytes(),
+                                 gtkw(result, os.path.basename(path)).encode("utf-8", "surrogateescape"))
+        shown = [name.replace(".vcd", ".gtkw") for name in names]
+        self.assertEqual(sorted(path.name for path in self.folder.iterdir()), sorted(["r", "out", *names, *shown]))
 
     def test_what_is_told_of_wrong_words(self) -> None:
         (self.folder / "r").write_text("t: passed\n")

@@ -4,3 +4,4 @@ pub mod SameMoved
 pub mod SameGraphs
 pub mod SameReports
 pub mod OneReport
+pub mod PartsReport
