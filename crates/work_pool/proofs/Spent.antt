@@ -1,7 +1,8 @@
 -- How many nodes tasks made that were checked one after another.
-use Rattle.std.proofs.Common.{◌≡◌, ◌≤◌, ◌+◌, ◌*◌, ℕ, List, [], ◌∷◌, ◌++◌, length, ap, arith, refl, sym, subst}
+use Rattle.std.proofs.Common.{◌≡◌, ◌≤◌, ◌+◌, ◌*◌, ℕ, suc, List, [], ◌∷◌, ◌++◌, length, arith, refl}
 use Rattle.std.specs.List.{AllZip, sum}
-use Rattle.std.proofs.Math.Nat.{suc-mul}
+use Rattle.std.proofs.lemmas.List.Sums.{sum_by-cons, sum_by_push}
+use Rattle.std.proofs.Math.Nat.{mul-le-mul_right, suc-mul}
 use Rattle.gste_engine.proofs.Lists.{zip_push}
 use Rattle.ste_model.specs.declared.report.Report.{Report}
 use Rattle.ste_model.specs.declared.verdict.Verdict.{Verdict}
@@ -10,8 +11,10 @@ use Rattle.work_pool.specs.Pool.{AreMadeWithin}
 use Rattle.work_pool.specs.Told.{budgets, counts_budget}
 
 sum_push : (xs : List ℕ) (n : ℕ) → sum (xs ++ n ∷ []) ≡ sum xs + n
-sum_push [] n = omega arith
-sum_push (x ∷ xs) n = let rest = sum_push xs n in omega arith
+sum_push xs n = sum_by_push (λ k. k) xs n
+
+sum_cons : (n : ℕ) (xs : List ℕ) → sum (n ∷ xs) ≡ n + sum xs
+sum_cons n xs = sum_by-cons (λ k. k) n xs
 
 -- nothing is made by no task
 pub made_by_none : (steps : ℕ) → AreMadeWithin steps [] 0
@@ -33,6 +36,9 @@ one_budget steps count Weak full = omega arith
 one_budget steps count Strong full = omega arith
 one_budget steps count Vacuous full = omega arith
 
+suc_steps : (n steps : ℕ) → suc n * steps ≡ steps + n * steps
+suc_steps n steps = let e = suc-mul n steps in omega (arith, e)
+
 add_mul : (a b steps : ℕ) → (a + b) * steps ≡ a * steps + b * steps
 add_mul a b steps = grind arith
 
@@ -45,10 +51,15 @@ bounds_by steps (report ∷ reports) (n ∷ counts) each =
     let (least, most) = bounds_by steps reports counts each.1 in
     let here = one_budget steps n report.verdict each.0.1 in
     let few = each.0.0 in
-    let parts = add_mul (counts_budget report.verdict) (budgets reports) steps in
-    let long = suc-mul (length reports) steps in
-    (omega (arith, least, here, parts), omega (arith, most, few, long))
+    let parts : budgets (report ∷ reports) * steps ≡ counts_budget report.verdict * steps + budgets reports * steps = add_mul (counts_budget report.verdict) (budgets reports) steps in
+    let long : length (report ∷ reports) * steps ≡ steps + length reports * steps = suc_steps (length reports) steps in
+    let all = sum_cons n counts in
+    (omega (arith, least, here, parts, all), omega (arith, most, few, long, all))
 
--- all steps of the tasks that say budget, and no more than all steps
-pub made_bounds : (steps : ℕ) (reports : List Report) (made : ℕ) → AreMadeWithin steps reports made → (budgets reports * steps ≤ made) × (made ≤ length reports * steps)
-made_bounds steps reports made within = subst (λ (n : ℕ). (budgets reports * steps ≤ n) × (n ≤ length reports * steps)) within.all (bounds_by steps reports within.counts within.each)
+-- all steps of the tasks that say budget, and no more than all steps of so many tasks
+pub made_bounds : (steps : ℕ) (reports : List Report) (made tasks : ℕ) → length reports ≤ tasks → AreMadeWithin steps reports made → (budgets reports * steps ≤ made) × (made ≤ tasks * steps)
+made_bounds steps reports made tasks few within =
+    let (least, most) = bounds_by steps reports within.counts within.each in
+    let all = within.all in
+    let more : length reports * steps ≤ tasks * steps = mul-le-mul_right steps few in
+    (omega (arith, least, all), omega (arith, most, all, more))

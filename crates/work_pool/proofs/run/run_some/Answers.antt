@@ -1,11 +1,10 @@
-use Rattle.std.proofs.Common.{◌≡◌, ℕ, List, [], length, subst}
+use Rattle.std.proofs.Common.{ℕ, List, length, subst}
 use Rattle.std.specs.List.{AllZip}
 use Rattle.dd_table.specs.Sessions.{store_of}
 use Rattle.ste_model.specs.declared.task.Task.{Task}
 use Rattle.work_pool.specs.Pool.{IsPooled}
 use Rattle.work_pool.specs.Told.{IsToldOf}
 use Rattle.work_pool.specs.private.Jobs.{tasks_at}
-use Rattle.work_pool.proofs.Gathering.{first_of}
 use Rattle.work_pool.proofs.Numbers.{at_numbers, first_task, some_told}
 use Rattle.work_pool.proofs.run.run_some.Goals as goal
 
