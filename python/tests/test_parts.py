@@ -232,3 +232,8 @@ class Parts(Case):
                          sorted(f"{k}.{kind}" for k in range(3) for kind in ("part", "answer")))
         self.assertEqual(json.loads((folder / "1.answer").read_text())[1:], [0, "t1: pass\n", ""])
         self.assertEqual(run_it(folder / "9.part").stderr.decode(), f"stework part: {folder / '9.part'}: No such file or directory\n")
+        for words in "", "{}", "[1]", "[[], 2, 3, 4, 5]", "\u00e9":
+            (folder / "9.part").write_text(words)
+            self.assertEqual(run_it(folder / "9.part").stderr.decode(), f"stework part: {folder / '9.part'} is no part of a check\n")
+            (folder / "0.answer").write_text(words)
+            self.assertEqual(str(self.error(Fault, lambda: again.collect(folder))), f"{folder / '0.answer'} is no answer to a part")
