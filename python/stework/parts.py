@@ -45,10 +45,14 @@ class Answer(NamedTuple):
     err: str
 
 
-def read_part(text: str) -> Part:
-    """The part of which this is the text."""
-    program, net, tasks, options, timeout = json.loads(text)
-    return Part(File(*program), File(*net), tasks, tuple(options), timeout)
+def read_part(path: Path) -> Tuple[str, Part]:
+    """The text of a part that this file has, and the part. OSError where it cannot be read, and Fault where it is none."""
+    try:
+        text = path.read_text(encoding="ascii")
+        program, net, tasks, options, timeout = json.loads(text)
+        return text, Part(File(*program), File(*net), tasks, tuple(options), timeout)
+    except (ValueError, TypeError):
+        raise Fault(f"{path} is no part of a check") from None
 
 
 def bytes_of(path: str, doing: str) -> bytes:
@@ -114,8 +118,8 @@ def save_parts(parts: List[Part], folder: Path) -> List[Path]:
 def answer_file(path: Path) -> Path:
     """Run the part that this file has, and put the answer beside it, whole or not at all; the path of the answer. Errors are
     those of `run_part`."""
-    text = path.read_text(encoding="ascii")
-    answer = run_part(read_part(text))
+    text, part = read_part(path)
+    answer = run_part(part)
     target = path.with_suffix(".answer")
     # (another run of this part may write at the same time)
     own = target.with_name(f"{target.name}-{socket.gethostname()}-{os.getpid()}")
@@ -127,7 +131,12 @@ def answer_file(path: Path) -> Path:
 def saved_answer(part: Part, folder: Path, number: int) -> Answer:
     """The answer to the part of this number in this folder. Fault where there is none, or one to another part."""
     path = _path(folder, number, "answer")
-    asked, *answer = json.loads(bytes_of(str(path), "read"))
+    data = bytes_of(str(path), "read")
+    try:
+        asked, *answer = json.loads(data)
+        told = Answer(*answer)
+    except (ValueError, TypeError):
+        raise Fault(f"{path} is no answer to a part") from None
     if asked != hash_of(part.written().encode("ascii")):
         raise Fault(f"{path} is the answer to another part")
-    return Answer(*answer)
+    return told

@@ -102,9 +102,11 @@ def vcd(result: Result) -> str:
 
 
 def _paths(path: str, scope: _Scope) -> Iterator[Tuple[str, _Signal]]:
-    """Each signal with its whole name, as GTKWave calls it, in the order of the declarations."""
+    """Each signal with its whole name, as GTKWave calls it, in the order of the declarations. A name that has a dot, which
+    parts scopes, has a backslash before it there."""
     for signal in scope.signals:
-        yield f"{path}.{signal.name.replace(' [', '[')}", signal
+        escape = "\\" * ("." in signal.name)
+        yield f"{path}.{escape}{signal.name.replace(' [', '[')}", signal
     for inner, instance in scope.instances.items():
         yield from _paths(f"{path}.{inner}", instance)
 

@@ -48,11 +48,16 @@ class Later(concurrent.futures.Executor):
         self.before = before
         self.given: List[Any] = []
 
+        self.timer = threading.Timer(0.05, self.run_all)
+
     def submit(self, function: Any, *words: Any, **options: Any) -> Any:
         self.given.append((future := concurrent.futures.Future(), function, words))
         if len(self.given) == 1:
-            threading.Timer(0.05, self.run_all).start()
+            self.timer.start()
         return future
+
+    def shutdown(self, *words: Any, **options: Any) -> None:
+        self.timer.join()
 
     def run_all(self) -> None:
         for future, function, words in reversed(self.given):
@@ -62,6 +67,31 @@ class Later(concurrent.futures.Executor):
                     future.set_result(function(*words))
                 except Exception as e:
                     future.set_exception(e)
+
+
+class Dying(Later):
+    """The same with a worker that dies when it has run so many; with 0 it takes nothing."""
+
+    def __init__(self, lives: int) -> None:
+        super().__init__(self.live)
+        self.lives = lives
+
+    def live(self) -> None:
+        self.lives -= 1
+
+    def submit(self, function: Any, *words: Any, **options: Any) -> Any:
+        if not self.lives:
+            raise concurrent.futures.BrokenExecutor("a worker has died")
+        return super().submit(self.unless_dead, function, *words)
+
+    def unless_dead(self, function: Any, *words: Any) -> Any:
+        if self.lives < 0:
+            raise concurrent.futures.BrokenExecutor("a worker has died")
+        return function(*words)
+
+    def shutdown(self, *words: Any, **options: Any) -> None:
+        if self.given:
+            super().shutdown()
 
 
 class Parts(Case):
@@ -106,7 +136,9 @@ class Parts(Case):
 
     def test_one_part_fails(self) -> None:
         net, stand_in, shown = self.netlist(NET), self.stand_in(SOME_FAIL), []
-        for executor in None, Later():
+        later = Later()
+        self.addCleanup(later.shutdown)
+        for executor in None, later:
             shown.clear()
             error = self.error(Refused, lambda: check(net, self.tasks(6), program=stand_in, executor=executor, parts=3, progress=shown.append))
             self.assertEqual((str(error), list(error.results), error.results.missing),
@@ -115,15 +147,15 @@ class Parts(Case):
             self.assertEqual((shown[-1].errors, shown[-1].verdicts[Verdict.PASS], sum(shown[-1].verdicts.values())), (1, 4, 4))
 
     def test_a_worker_dies(self) -> None:
-        killer = SOME_FAIL + "\nif 't2' in names: os.kill(os.getppid(), signal.SIGKILL)\n"
-        with concurrent.futures.ProcessPoolExecutor(1) as executor:
-            error = self.error(Fault, lambda: check(self.netlist(NET), self.tasks(4), program=self.stand_in(killer), executor=executor, parts=4))
-            self.assertRegex(str(error), "^a part was not run: BrokenProcessPool: ")
-            self.assertLessEqual(set(error.results), {"t0", "t1"})
-            self.assertEqual(error.results.missing, tuple(f"t{k}" for k in range(4) if f"t{k}" not in error.results))
+        net, stand_in = self.netlist(NET), self.stand_in(SOME_FAIL)
+        with Dying(2) as executor:
+            error = self.error(Fault, lambda: check(net, self.tasks(4), program=stand_in, executor=executor, parts=4))
+            self.assertEqual(str(error), "a part was not run: BrokenExecutor: a worker has died")
+            self.assertEqual((list(error.results), error.results.missing), (["t2", "t3"], ("t0", "t1")))
             self.assertEqual(type(pickle.loads(pickle.dumps(error))), Fault)
-            # and a pool that takes nothing more
-            error = self.error(Fault, lambda: check(self.netlist(NET), self.tasks(2), program=self.stand_in(SOME_FAIL), executor=executor))
+        # and a pool that takes nothing more
+        with Dying(0) as executor:
+            error = self.error(Fault, lambda: check(net, self.tasks(2), program=stand_in, executor=executor, parts=2))
             self.assertEqual(error.results.missing, ("t0", "t1"))
 
     def test_a_file_that_changes(self) -> None:
@@ -150,6 +182,7 @@ class Parts(Case):
         executor.before = lambda: threading.Event().wait(0.2)
         with self.assertRaises(KeyboardInterrupt):
             check(net, self.tasks(4), program=stand_in, executor=executor, parts=4, progress=stop)
+        executor.shutdown()
         self.assertTrue(executor.given[0][0].cancelled())
 
     def test_the_line_on_a_terminal(self) -> None:
@@ -199,3 +232,8 @@ class Parts(Case):
                          sorted(f"{k}.{kind}" for k in range(3) for kind in ("part", "answer")))
         self.assertEqual(json.loads((folder / "1.answer").read_text())[1:], [0, "t1: pass\n", ""])
         self.assertEqual(run_it(folder / "9.part").stderr.decode(), f"stework part: {folder / '9.part'}: No such file or directory\n")
+        for words in "", "{}", "[1]", "[[], 2, 3, 4, 5]", "\u00e9":
+            (folder / "9.part").write_text(words)
+            self.assertEqual(run_it(folder / "9.part").stderr.decode(), f"stework part: {folder / '9.part'} is no part of a check\n")
+            (folder / "0.answer").write_text(words)
+            self.assertEqual(str(self.error(Fault, lambda: again.collect(folder))), f"{folder / '0.answer'} is no answer to a part")

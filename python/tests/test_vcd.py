@@ -146,7 +146,7 @@ class Waves(Case):
         head = f'[dumpfile] "x y.vcd"\n[timestart] 0\n*0.000000 1{" -1" * 26}\n@28\nrun.stework_fails\n'
         bit, wide = "@28\nrun.", "@22\nrun."
         for nets, shown in ((None, f"{bit}clk\n{wide}d[2:0]\n{bit}h[0]\n{bit}h[2]\n{bit}s[3]\n{bit}w[0]\n{bit}w[1]\n{bit}w\n{bit}1x/y\n"
-                             f"{bit}$a.cc_3$f_x[1]\n{bit}_end\n{bit}0.x\n{wide}0.1.m[2][1:0]\n{bit}0.1.a/b\n"),
+                             f"{bit}\\$a.cc_3$f_x[1]\n{bit}_end\n{bit}0.x\n{wide}0.1.m[2][1:0]\n{bit}0.1.a/b\n"),
                             ({"d[0]", "0/x", "no"}, f"{wide}d[2:0]\n{bit}0.x\n"), (set(), "")):
             self.assertEqual(gtkw(result, "x y.vcd", nets), head + shown)
         (other,), _ = read_report("t: pass\n")
