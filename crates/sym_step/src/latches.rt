@@ -37,7 +37,8 @@ fn told_set(nets: &[NetRails], demands: &Demands, latch: &Latch, told: Rails) ->
       rails = told;
       given = net_at nets.now latch.now.input.0;
     }) }
-    ensures none { result ≡ None → (is_listed (nodes_of demands.now.cuts) latch.now.output.0 ≡ false)
+    ensures none { result ≡ None
+        → (is_listed (nodes_of demands.now.cuts) latch.now.output.0 ≡ false)
         × (told ≡ bare (net_at nets.now latch.now.output.0)) }
 {
     let output = latch.output.0 as usize;
@@ -204,7 +205,8 @@ pub fn latch_sets(
     ensures long { length frame.new.board.due.flags.items ≡ length frame.old.board.due.flags.items }
     ensures gates { (k : ℕ) → k < length net.now.raw.gates
         → flag_at frame.new.board.due.flags.items k ≡ flag_at frame.old.board.due.flags.items k }
-    ensures carried { OnOk result (AreCarried net.now.raw (nodes_of demands.now.cuts) frame.old.board
+    ensures carried { OnOk result (
+        AreCarried net.now.raw (nodes_of demands.now.cuts) frame.old.board
         → AreCarried net.now.raw (nodes_of demands.now.cuts) frame.new.board) }
     ensures sets { IfOk result (λ sets.
         AreCarried net.now.raw (nodes_of demands.now.cuts) frame.old.board

@@ -9,7 +9,7 @@ ghost use Rattle.net_core.specs.declared.raw.RawNet.{RawNet};
 ghost use Rattle.dual_rail.specs.Rail.{AreRefs};
 ghost use Rattle.sym_step.specs.Step.{IsCutOf};
 ghost use Rattle.gate_sets.specs.Lists.{rows_of};
-ghost use Rattle.sym_step.specs.Frame.{IsFrame};
+ghost use Rattle.sym_step.specs.Frame.{IsFrame, nets_of};
 
 use blif_lines::logical_lines;
 use blif_syntax::read_models;
@@ -25,7 +25,7 @@ use std::alloc::{AllocError, Global};
 use std::test::Fail;
 use ste_base::{Items, Name, NodeId, Time};
 use ste_model::{Assertion, Quint, Verdict};
-use sym_step::{Cut, Frame, GateRows, Step, advance, step};
+use sym_step::{Cut, Frame, GateRows, Step, advance, renew, step};
 
 /// A bit, or one of two variables.
 #[derive(Clone, Copy, Drop)]
@@ -381,27 +381,51 @@ fn rows_of_net(alloc: Global, net: &Net) -> Result<GateRows, Fail>
     Ok(GateRows::of(alloc, net)?)
 }
 
-/// What is asked under an assignment, as the antecedent of a task.
+/// The times at which a test asks what it asks: each from one on, and before another.
+type Spans = &'static [(Time, Time)];
+
+/// Time 0 alone.
+const AT_FIRST: Spans = &[(0, 1)];
+
+/// Adds what is asked under an assignment from one time on, and before another, to an antecedent.
+fn add_given(
+    given: &mut Items<Quint>,
+    net: &Net,
+    asked: &[Asked],
+    bits: (bool, bool),
+    span: (Time, Time),
+) -> Result<(), AllocError>
+    requires { All (λ a. a.node.0 < net.now.raw.nets) asked.now }
+    ensures { OnOk result (All (λ quint. quint.node.0 < net.now.raw.nets) given.old
+        → All (λ quint. quint.node.0 < net.now.raw.nets) given.new) }
+{
+    let _ = net;
+    for a in asked {
+        given.push(Quint {
+            guard: Expr::Const(a.guard.value(bits.0, bits.1)),
+            node: a.node,
+            value: Expr::Const(a.value.value(bits.0, bits.1)),
+            from: span.0,
+            to: span.1,
+        })?;
+    }
+    Ok(())
+}
+
+/// What is asked at these times under an assignment, as the antecedent of a task.
 fn given_of(
     alloc: Global,
     net: &Net,
     asked: &[Asked],
-    p: bool,
-    q: bool,
+    bits: (bool, bool),
+    spans: Spans,
 ) -> Result<Items<Quint>, AllocError>
     requires { All (λ a. a.node.0 < net.now.raw.nets) asked.now }
     ensures { IfOk result (λ quints. All (λ quint. quint.node.0 < net.now.raw.nets) quints) }
 {
-    let _ = net;
     let mut quints = Items::new(alloc);
-    for a in asked {
-        quints.push(Quint {
-            guard: Expr::Const(a.guard.value(p, q)),
-            node: a.node,
-            value: Expr::Const(a.value.value(p, q)),
-            from: 0,
-            to: 1,
-        })?;
+    for span in spans {
+        add_given(&mut quints, net, asked, bits, *span)?;
     }
     Ok(quints)
 }
@@ -433,10 +457,14 @@ fn plain_verdict(
     verdict(alloc, net, 0, &task)
 }
 
-/// The verdict that these sets of all nets up to the time give on the same claim.
-fn wanted(sets: &[BitSet], before: &[BitSet], id: usize) -> Verdict {
-    let empty = |set: &BitSet| !set.zero && !set.one;
-    if sets.iter().any(empty) || before.iter().any(empty) {
+/// Whether some net is empty.
+fn has_empty(sets: &[BitSet]) -> bool {
+    sets.iter().any(|set| !set.zero && !set.one)
+}
+
+/// The verdict that these sets of all nets give on the same claim, where it may be that some net is empty at some time.
+fn wanted(sets: &[BitSet], is_vacuous: bool, id: usize) -> Verdict {
+    if is_vacuous {
         return Verdict::Vacuous;
     }
     match sets.get(id) {
@@ -446,22 +474,29 @@ fn wanted(sets: &[BitSet], before: &[BitSet], id: usize) -> Verdict {
     }
 }
 
-/// Whether the plain checker's verdict on each net at a time is what these sets give, where those of time 0 are `before`.
+/// What is asked of a net, under which assignment, and when.
+#[derive(Clone, Copy, Drop)]
+struct Plan<'a> {
+    asked: &'a [Asked],
+    bits: (bool, bool),
+    spans: Spans,
+}
+
+/// Whether the plain checker's verdict on each net at a time is what these sets give.
 fn agrees_at(
     alloc: Global,
     net: &Net,
-    asked: &[Asked],
-    bits: (bool, bool),
+    plan: Plan,
     sets: &[BitSet],
-    before: &[BitSet],
+    is_vacuous: bool,
     time: Time,
 ) -> Result<bool, AllocError>
     requires widths { All (λ gate. length gate.inputs ≤ 8) net.now.raw.gates }
-    requires asked { All (λ a. a.node.0 < net.now.raw.nets) asked.now }
+    requires asked { All (λ a. a.node.0 < net.now.raw.nets) plan.asked.now }
 {
     for id in 0..net.nets() {
-        let given = given_of(alloc, net, asked, bits.0, bits.1)?;
-        if plain_verdict(alloc, net, given, id, time)? != wanted(sets, before, id as usize) {
+        let given = given_of(alloc, net, plan.asked, plan.bits, plan.spans)?;
+        if plain_verdict(alloc, net, given, id, time)? != wanted(sets, is_vacuous, id as usize) {
             return Ok(false);
         }
     }
@@ -474,8 +509,14 @@ fn agrees(alloc: Global, net: &Net, asked: &[Asked], tables: &Tables) -> Result<
     requires asked { All (λ a. a.node.0 < net.now.raw.nets) asked.now }
 {
     for (bits, (now, later)) in ASSIGNMENTS.iter().zip(tables.now.iter().zip(&tables.later)) {
-        if !agrees_at(alloc, net, asked, *bits, now, now, 0)?
-            || !agrees_at(alloc, net, asked, *bits, later, now, 1)?
+        let plan = Plan {
+            asked,
+            bits: *bits,
+            spans: AT_FIRST,
+        };
+        let empty = has_empty(now);
+        if !agrees_at(alloc, net, plan, now, empty, 0)?
+            || !agrees_at(alloc, net, plan, later, empty || has_empty(later), 1)?
         {
             return Ok(false);
         }
@@ -838,6 +879,188 @@ fn steps_with_a_frame_agree_with_steps_without(rt: HostRuntime) -> Result<(), Fa
         let bytes = text.as_bytes();
         assert!(rt; bytes.len() <= 10000);
         assert!(rt; case_frames_agree(rt.alloc(), bytes, asked)?, "{text}");
+    }
+    Ok(())
+}
+
+/// The number of times at which frames are renewed.
+const TIMES: Time = 4;
+
+/// The times below it at which `cuts_at` gives cuts.
+const COME_AND_GO: Spans = &[(0, 1), (2, TIMES)];
+
+/// Renews a frame; an error where nodes are wanting.
+fn renewed<N: Nodes>(
+    alloc: Global,
+    ops: &Ops,
+    nodes: &mut N,
+    net: &Net,
+    rows: &GateRows,
+    cuts: &[Cut],
+    frame: &mut Frame,
+) -> Result<(), Fail>
+    requires rows { rows.now.covers ≡ map rows_of net.now.raw.covers }
+    requires cuts { All (IsCutOf (N.store nodes.old) net.now.raw) cuts.now }
+    requires frame { IsFrame (N.store nodes.old) net.now.raw frame.old }
+    ensures keeps { Keeps (N.store nodes.old) (N.store nodes.new) }
+    ensures frame { OnOk result (IsFrame (N.store nodes.new) net.now.raw frame.new) }
+{
+    match renew(alloc, ops, nodes, net, rows, cuts, frame) {
+        Ok(_) => Ok(()),
+        Err(_) => Err("no step".into()),
+    }
+}
+
+/// The sets of the nets in a frame.
+fn frame_rails(alloc: Global, net: &Net, frame: &Frame) -> Result<Vec<Rails>, AllocError>
+    requires { length (nets_of frame.now) ≡ net.now.raw.nets }
+    ensures { IfOk result (λ rails. (s : Store) → IsFrame s net.now.raw frame.now
+        → All (AreRefs s) rails.items) }
+{
+    let mut rails = Vec::new(alloc);
+    for id in 0..net.nets() {
+        rails.push(frame.rails(NodeId(id)))?;
+    }
+    Ok(rails)
+}
+
+/// The sets of the nets in a frame under each assignment.
+fn table_in<N: Nodes>(
+    alloc: Global,
+    nodes: &mut N,
+    net: &Net,
+    frame: &Frame,
+) -> Result<Vec<Vec<BitSet>>, AllocError>
+    requires { IsFrame (N.store nodes.old) net.now.raw frame.now }
+    ensures { N.store nodes.new ≡ N.store nodes.old }
+{
+    let rails = frame_rails(alloc, net, frame)?;
+    table_of(alloc, nodes, &rails)
+}
+
+/// The sets of the nets under each assignment, time after time, in a frame that goes on.
+fn tables_renewed<N: Nodes>(
+    alloc: Global,
+    ops: &Ops,
+    nodes: &mut N,
+    net: &Net,
+    rows: &GateRows,
+    cuts: &[Cut],
+) -> Result<Vec<Vec<Vec<BitSet>>>, Fail>
+    requires rows { rows.now.covers ≡ map rows_of net.now.raw.covers }
+    requires cuts { All (IsCutOf (N.store nodes.old) net.now.raw) cuts.now }
+{
+    let mut frame = Frame::blank(alloc, net)?;
+    let mut tables = Vec::new(alloc);
+    for time in 0..TIMES {
+        renewed(
+            alloc,
+            ops,
+            nodes,
+            net,
+            rows,
+            cuts_at(cuts, time),
+            &mut frame,
+        )?;
+        tables.push(table_in(alloc, nodes, net, &frame)?)?;
+    }
+    Ok(tables)
+}
+
+/// The same for what is asked, in a store of its own.
+fn tables_of_renew(
+    alloc: Global,
+    net: &Net,
+    rows: &GateRows,
+    asked: &[Asked],
+) -> Result<Vec<Vec<Vec<BitSet>>>, Fail>
+    requires rows { rows.now.covers ≡ map rows_of net.now.raw.covers }
+    requires asked { All (λ a. a.node.0 < net.now.raw.nets) asked.now }
+{
+    let ops = Ops::new(alloc);
+    let mut nodes = PlainNodes::new(alloc, 2, 100)?;
+    let cuts = cuts_on(alloc, &ops, &mut nodes, net, asked)?;
+    tables_renewed(alloc, &ops, &mut nodes, net, rows, &cuts)
+}
+
+/// The sets of the nets under the assignment of this number at a time.
+fn sets_then(tables: &[Vec<Vec<BitSet>>], time: usize, number: usize) -> Result<&[BitSet], Fail> {
+    match tables.get(time).and_then(|table| table.get(number)) {
+        Some(sets) => Ok(sets.as_slice()),
+        None => Err("no such time".into()),
+    }
+}
+
+/// Whether some net is empty at some time under the assignment of this number.
+fn is_empty_once(tables: &[Vec<Vec<BitSet>>], number: usize) -> Result<bool, Fail> {
+    for time in 0..tables.len() {
+        if has_empty(sets_then(tables, time, number)?) {
+            return Ok(true);
+        }
+    }
+    Ok(false)
+}
+
+/// Whether the tables under the assignment of this number agree with the plain checker, net by net, at each time.
+fn times_agree(
+    alloc: Global,
+    net: &Net,
+    asked: &[Asked],
+    tables: &[Vec<Vec<BitSet>>],
+    number: usize,
+) -> Result<bool, Fail>
+    requires widths { All (λ gate. length gate.inputs ≤ 8) net.now.raw.gates }
+    requires asked { All (λ a. a.node.0 < net.now.raw.nets) asked.now }
+    requires number { number < 4 }
+{
+    let plan = Plan {
+        asked,
+        bits: ASSIGNMENTS[number],
+        spans: COME_AND_GO,
+    };
+    let empty = is_empty_once(tables, number)?;
+    for time in 0..TIMES {
+        let sets = sets_then(tables, time as usize, number)?;
+        if !agrees_at(alloc, net, plan, sets, empty, time)? {
+            return Ok(false);
+        }
+    }
+    Ok(true)
+}
+
+/// Whether a frame that goes on agrees with the plain checker, net by net, at each time, where cuts come and go.
+fn renew_agrees(alloc: Global, net: &Net, asked: &[Asked]) -> Result<bool, Fail>
+    requires widths { All (λ gate. length gate.inputs ≤ 8) net.now.raw.gates }
+    requires asked { All (λ a. a.node.0 < net.now.raw.nets) asked.now }
+{
+    let rows = rows_of_net(alloc, net)?;
+    let tables = tables_of_renew(alloc, net, &rows, asked)?;
+    for number in 0..4 {
+        if !times_agree(alloc, net, asked, &tables, number)? {
+            return Ok(false);
+        }
+    }
+    Ok(true)
+}
+
+/// The same of the net of a text.
+fn case_renew_agrees(alloc: Global, text: &[u8], asked: &[(&str, Bit, Bit)]) -> Result<bool, Fail>
+    requires { length text.now ≤ 10000 }
+{
+    let named = net_of(alloc, text)?;
+    if !all_narrow(named.net.gates()) {
+        return Err("a wide gate".into());
+    }
+    let asked = asked_of(alloc, &named.names, named.net.nets(), asked)?;
+    renew_agrees(alloc, &named.net, &asked)
+}
+
+#[test]
+fn a_frame_that_is_renewed_agrees_with_the_plain_checker(rt: HostRuntime) -> Result<(), Fail> {
+    for (text, asked) in gates().iter().chain(others()) {
+        let bytes = text.as_bytes();
+        assert!(rt; bytes.len() <= 10000);
+        assert!(rt; case_renew_agrees(rt.alloc(), bytes, asked)?, "{text}");
     }
     Ok(())
 }

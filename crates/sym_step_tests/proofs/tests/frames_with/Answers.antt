@@ -1,19 +1,12 @@
 use Rattle.std.proofs.Common.{List, All, ap, length, sym, subst, ◌∙◌}
-use Rattle.dd_nodes.specs.Stores.{Store, Keeps}
-use Rattle.dd_nodes.proofs.Walks.{IsFrom-grows}
+use Rattle.dd_nodes.specs.Stores.{Store}
 use Rattle.net_core.specs.declared.raw.RawNet.{RawNet}
 use Rattle.dual_rail.specs.declared.rails.Rails.{Rails}
 use Rattle.dual_rail.specs.Rail.{AreRefs}
 use Rattle.dual_rail.proofs.Turns.{All-refs-keep}
-use Rattle.sym_step.specs.declared.cut.Cut.{Cut}
-use Rattle.sym_step.specs.Step.{IsCutOf}
 use Rattle.sym_step.proofs.Framing.{frame_keeps}
+use Rattle.sym_step_tests.proofs.Kept.{cuts_keep}
 use Rattle.sym_step_tests.proofs.tests.frames_with.Goals as goal
-
-cuts_keep : (s t : Store) (net : RawNet) (cuts : List Cut) → Keeps s t → All (IsCutOf s net) cuts → All (IsCutOf t net) cuts
-cuts_keep s t net cuts k h i d l =
-    let c = h i d l in
-    record { node = c.node; guard = IsFrom-grows s.held t.held 0 _ k.grows c.guard; value = IsFrom-grows s.held t.held 0 _ k.grows c.value }
 
 pub step_of-requires-clause-latches : goal.step_of-requires-clause-latches
 step_of-requires-clause-latches g c =

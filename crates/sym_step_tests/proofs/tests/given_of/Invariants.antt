@@ -1,5 +1,5 @@
 use Rattle.std.proofs.Common.{◌<◌, All}
 use Rattle.sym_step_tests.proofs.tests.given_of.Given as goal
 
-abbrev pub invariant-loop-a : goal.invariant-loop-a
-invariant-loop-a l = All (λ quint. quint.node.0 < l.fn.net.raw.nets) l.quints
+abbrev pub invariant-loop-span : goal.invariant-loop-span
+invariant-loop-span l = All (λ quint. quint.node.0 < l.net.raw.nets) l.quints
