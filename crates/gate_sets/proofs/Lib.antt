@@ -12,6 +12,7 @@ pub mod RowSums
 pub mod Ordered
 pub mod Halving
 pub mod Numbered
+pub mod WordBits
 pub mod Choosing
 pub mod FewGates
 pub mod SomeChoice

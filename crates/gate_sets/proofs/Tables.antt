@@ -1,15 +1,14 @@
 -- Tables of rows with few inputs: bits of words as choices, and what constants among the sets leave of them.
-use Rattle.std.proofs.Common.{◌≡◌, ℕ, zero, suc, ◌+◌, ◌-◌, ◌*◌, ◌/◌, ◌%◌, ◌^◌, ◌<◌, ◌≤◌, min, max, Bool, true, false, not, List, [], ◌∷◌, length, get_or, set, drop, map, refl, sym, ap, subst, ◌∙◌, arith, inl, inr}
+use Rattle.std.proofs.Common.{◌≡◌, ℕ, zero, suc, ◌+◌, ◌-◌, ◌*◌, ◌/◌, ◌%◌, ◌^◌, ◌<◌, ◌≤◌, min, max, Bool, true, false, not, List, [], ◌∷◌, length, get_or, set, map, refl, sym, ap, subst, ◌∙◌, arith, inl, inr}
 use Rattle.std.specs.Prelude.{All, ◌==◌, ◌&&◌, ◌||◌, ◌⊎◌}
 use Rattle.std.specs.Int.{bit_at}
 use Rattle.std.specs.Int.Bits.{bit_and, bit_or}
 use Rattle.std.proofs.Math.Nat.{div-eq-sub-div, pow-suc}
 use Rattle.std.proofs.Math.Pow.{pow_mono}
-use Rattle.std.proofs.Math.Seq.{drop-cons}
-use Rattle.std.proofs.Math.ListN.{drop_of_length-le, length-set}
+use Rattle.std.proofs.Math.ListN.{length-set}
 use Rattle.std.proofs.lemmas.Bool.{cases_eq, cases_lt, eqb-true}
 use Rattle.std.proofs.lemmas.List.{get_or_default, get_or-map, length-map, map-set, set-get_or}
-use Rattle.std.proofs.lemmas.List.Elements.{All-map, All-set}
+use Rattle.std.proofs.lemmas.List.Elements.{All-head, All-map, All-set, All-tail}
 use Rattle.std.proofs.lemmas.Nat.{div-add-mod', one_shl, pow_pos, shr-shr}
 use Rattle.std.proofs.lemmas.Nat.Bits.{bit_at-lt, bit_at-suc, bit_at-zero, bit_at_above, bit_at_and, bit_at_cat_high, bit_at_cat_low, bit_at_lowest, bit_at_ones, bit_at_or}
 use Rattle.dd_nodes.specs.Diagram.{Held, IsFrom}
@@ -20,11 +19,13 @@ use Rattle.dd_ops.proofs.Terminal.{one_bit, zero_bit}
 use Rattle.dual_rail.specs.declared.rails.Rails.{Rails}
 use Rattle.dual_rail.specs.Rail.{AreRefs}
 use Rattle.net_core.specs.declared.cover.Lit.{Lit}
-use Rattle.net_core.specs.declared.cover.Lit.TheVariants.{Any}
+use Rattle.net_core.specs.declared.cover.Lit.TheVariants.{Zero, One, Any}
 use Rattle.net_core.specs.Cover.{admits, matches, some_matches}
-use Rattle.net_core.specs.Work.{SymbolicSet}
+use Rattle.net_core.specs.Work.{AreWide, SymbolicSet}
+use Rattle.gate_sets.specs.declared.words.Digits.TheVariants.{Bits}
 use Rattle.gate_sets.specs.declared.table.Tables.{Tables}
 use Rattle.gate_sets.specs.private.Tables.{AreAlike, AreSettled, HasBit, IsFull, IsSettled, IsTold, choice_of_rails, choice_place, free_rails, in_table, is_one, own_set_of, some_choice}
+use Rattle.gate_sets.specs.private.Words.{lit_bit, row_bit, rows_bit}
 use Rattle.gate_sets.proofs.SomeChoice.{IsSome, alike_both, choice_alike, choice_by_bit, choice_each, choice_freed}
 
 -- ---- the place of a choice
@@ -505,60 +506,44 @@ zero_told table word place ops d few l same tells s ds refs full =
 
 -- ---- rows
 
--- one literal
-pub any_admits : (lit : Lit) (place : ℕ) → lit ≡ Any → (choice : List Bool) → length choice ≤ 6 → place < length choice → in_table 18446744073709551615 choice ≡ admits lit (get_or choice place false)
-any_admits lit place is choice le l = in_all choice le ∙ sym (ap (λ (a : Lit). admits a (get_or choice place false)) is)
+high : (choice : List Bool) → bit_at (1 + 2 * choice_place choice) 0 ≡ 1
+high choice = bit_at_lowest (1 + 2 * choice_place choice) ∙ omega arith
 
--- a row from its beginning
-pub row_begins : (row : List Lit) (choice : List Bool) → length row ≤ 6 → length choice ≡ length row → (in_table 18446744073709551615 choice && matches (drop 0 row) (drop 0 choice)) ≡ matches row choice
-row_begins row choice few e = ap (λ (b : Bool). b && matches row choice) (in_all choice (omega (arith, e, few)))
+low : (choice : List Bool) → bit_at (2 * choice_place choice) 0 ≡ 0
+low choice = bit_at_lowest (2 * choice_place choice) ∙ omega arith
 
-and_in : (a b c : Bool) → ((a && b) && c) ≡ (a && (b && c))
-and_in true b c = refl
-and_in false b c = refl
+-- a literal admits the lowest digit
+lit_match : (lit : Lit) (bit : Bool) (choice : List Bool) → is_one (lit_bit Bits lit (choice_place (bit ∷ choice))) ≡ admits lit bit
+lit_match Zero true choice = ap (λ (n : ℕ). is_one (1 - n)) (high choice)
+lit_match Zero false choice = ap (λ (n : ℕ). is_one (1 - n)) (low choice)
+lit_match One true choice = ap is_one (high choice)
+lit_match One false choice = ap is_one (low choice)
+lit_match Any bit choice = refl
 
--- one more literal
-pub row_goes_on : (row : List Lit) (lit : Lit) (table more place : ℕ) (choice : List Bool) (all : Bool) → place < length row → length row ≤ 6 → length choice ≡ length row → lit ≡ get_or row place lit
-    → ((choice : List Bool) → length choice ≤ 6 → place < length choice → in_table more choice ≡ admits lit (get_or choice place false))
-    → (in_table table choice && matches (drop place row) (drop place choice)) ≡ all → (in_table (bit_and table more) choice && matches (drop (place + 1) row) (drop (place + 1) choice)) ≡ all
-row_goes_on row lit table more place choice all l few long is tells before =
-    let next : suc place ≡ place + 1 = omega arith in
-    let bit : Bool = get_or choice place false in
-    let rest : List Lit = drop (place + 1) row in
-    let bits : List Bool = drop (place + 1) choice in
-    let cut : drop place row ≡ lit ∷ rest = drop-cons row place lit l ∙ ap (λ (x : Lit). x ∷ drop (suc place) row) (sym is) ∙ ap (λ (n : ℕ). lit ∷ drop n row) next in
-    let cut' : drop place choice ≡ bit ∷ bits = drop-cons choice place false (omega (arith, long, l)) ∙ ap (λ (n : ℕ). bit ∷ drop n choice) next in
-    let whole : matches (drop place row) (drop place choice) ≡ (admits lit bit && matches rest bits) = λ i. matches (cut i) (cut' i) in
-    ap (λ (b : Bool). b && matches rest bits) (in_both table more choice ∙ ap (λ (b : Bool). in_table table choice && b) (tells choice (omega (arith, long, few)) (omega (arith, long, l))))
-    ∙ and_in (in_table table choice) (admits lit bit) (matches rest bits)
-    ∙ ap (λ (b : Bool). in_table table choice && b) (sym whole) ∙ before
+digits_behind : (bit : Bool) (choice : List Bool) → choice_place (bit ∷ choice) / 2 ≡ choice_place choice
+digits_behind true choice = omega arith
+digits_behind false choice = omega arith
 
-and_one : (a : Bool) → (a && true) ≡ a
-and_one true = refl
-and_one false = refl
+row_match : (row : List Lit) (choice : List Bool) → length row ≡ length choice → is_one (row_bit Bits row (choice_place choice)) ≡ matches row choice
+row_match [] [] e = refl
+row_match [] (bit ∷ choice) e = absurd (omega (arith, e))
+row_match (lit ∷ row) [] e = absurd (omega (arith, e))
+row_match (lit ∷ row) (bit ∷ choice) e =
+    let whole : ℕ = choice_place (bit ∷ choice) in
+    is_and (lit_bit Bits lit whole) (row_bit Bits row (whole / 2))
+    ∙ ap (λ (b : Bool). b && is_one (row_bit Bits row (whole / 2))) (lit_match lit bit choice)
+    ∙ ap (λ (n : ℕ). admits lit bit && is_one (row_bit Bits row n)) (digits_behind bit choice)
+    ∙ ap (λ (b : Bool). admits lit bit && b) (row_match row choice (omega (arith, e)))
 
--- behind the last literal the table tells all
-pub row_ends : (row : List Lit) (table place : ℕ) (choice : List Bool) (all : Bool) → length row ≤ place → (in_table table choice && matches (drop place row) (drop place choice)) ≡ all → in_table table choice ≡ all
-row_ends row table place choice all le before =
-    let end : matches (drop place row) (drop place choice) ≡ true = ap (λ (r : List Lit). matches r (drop place choice)) (drop_of_length-le row le) in
-    sym (and_one (in_table table choice)) ∙ ap (λ (b : Bool). in_table table choice && b) (sym end) ∙ before
+rows_match : (rows : List (List Lit)) (choice : List Bool) → AreWide rows (length choice) → is_one (rows_bit Bits rows (choice_place choice)) ≡ some_matches rows choice
+rows_match [] choice wide = refl
+rows_match (row ∷ rows) choice wide =
+    is_or (row_bit Bits row (choice_place choice)) (rows_bit Bits rows (choice_place choice))
+    ∙ ap (λ (b : Bool). b || is_one (rows_bit Bits rows (choice_place choice))) (row_match row choice (All-head (λ (r : List Lit). length r ≡ length choice) row rows wide))
+    ∙ ap (λ (b : Bool). matches row choice || b) (rows_match rows choice (All-tail (λ (r : List Lit). length r ≡ length choice) row rows wide))
 
-or_in : (a b c : Bool) → ((a || b) || c) ≡ (a || (b || c))
-or_in true b c = refl
-or_in false b c = refl
-
--- one more row
-pub rows_go_on : (rows : List (List Lit)) (row : List Lit) (table more k : ℕ) (choice : List Bool) (all : Bool) → k < length rows → row ≡ get_or rows k row → in_table more choice ≡ matches row choice
-    → (in_table table choice || some_matches (drop k rows) choice) ≡ all → (in_table (bit_or table more) choice || some_matches (drop (k + 1) rows) choice) ≡ all
-rows_go_on rows row table more k choice all l is tells before =
-    let next : suc k ≡ k + 1 = omega arith in
-    let rest : List (List Lit) = drop (k + 1) rows in
-    let cut : drop k rows ≡ row ∷ rest = drop-cons rows k row l ∙ ap (λ (x : List Lit). x ∷ drop (suc k) rows) (sym is) ∙ ap (λ (n : ℕ). row ∷ drop n rows) next in
-    ap (λ (b : Bool). b || some_matches rest choice) (in_either table more choice ∙ ap (λ (b : Bool). in_table table choice || b) tells)
-    ∙ or_in (in_table table choice) (matches row choice) (some_matches rest choice)
-    ∙ ap (λ (rs : List (List Lit)). in_table table choice || some_matches rs choice) (sym cut) ∙ before
-
--- behind the last row the table tells all
-pub rows_end : (rows : List (List Lit)) (table k : ℕ) (choice : List Bool) (all : Bool) → length rows ≤ k → (in_table table choice || some_matches (drop k rows) choice) ≡ all → in_table table choice ≡ all
-rows_end rows table k choice all le before =
-    sym (or_none (in_table table choice)) ∙ ap (λ (rs : List (List Lit)). in_table table choice || some_matches rs choice) (sym (drop_of_length-le rows le)) ∙ before
+-- a word whose bits are those of the rows is their table
+pub table_of_rows : (rows : List (List Lit)) (n word : ℕ) → AreWide rows n → n ≤ 6 → ((choice : ℕ) → choice < 64 → bit_at word choice ≡ rows_bit Bits rows choice)
+    → (choice : List Bool) → length choice ≡ n → in_table word choice ≡ some_matches rows choice
+table_of_rows rows n word wide few told choice e =
+    ap is_one (told (choice_place choice) (few_places choice (omega (arith, e, few)))) ∙ rows_match rows choice (subst (AreWide rows) (sym e) wide)

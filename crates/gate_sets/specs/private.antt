@@ -6,3 +6,4 @@ pub mod Ordered
 pub mod Numbers
 pub mod Choices
 pub mod Tables
+pub mod Words

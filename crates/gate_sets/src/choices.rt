@@ -7,13 +7,14 @@ ghost use Rattle.std.specs.Prelude.{◌≡◌, ◌≢◌, ◌↔◌, ◌≤◌, 
 ghost use Rattle.std.specs.Int.{bit_at};
 ghost use Rattle.net_core.specs.Work.{AreWide};
 ghost use Rattle.gate_sets.specs.Constants.{AreConstant, HaveChoice};
-ghost use Rattle.gate_sets.specs.private.Choices.{AreChoices, IsChoice, IsDigit, lit_bit, row_bit, rows_bit};
+ghost use Rattle.gate_sets.specs.private.Choices.{AreChoices, IsChoice, IsDigit};
 ghost use Rattle.gate_sets.specs.NetSets.{net_at};
 
 use crate::net_rails::NetRails;
+use crate::words::{Digits, rows_word};
 use dd_nodes::Ref;
 use dual_rail::are_constant;
-use net_core::{Lit, Row};
+use net_core::Row;
 use ste_base::NodeId;
 
 /// The number of choices of constant sets for three inputs.
@@ -31,73 +32,6 @@ pub struct Choices {
     pub can1: u64,
 }
 
-/// The word of the choices in which the set at a place has 0.
-fn zero_word(place: usize) -> u64
-    requires { place < 3 }
-    ensures { (choice : ℕ) → choice < 64
-        → bit_at result choice ≡ bit_at (choice / 4 ^ place) 0 }
-{
-    if place == 0 {
-        0xAAAA_AAAA_AAAA_AAAA
-    } else if place == 1 {
-        0xF0F0_F0F0_F0F0_F0F0
-    } else {
-        0xFFFF_0000_FFFF_0000
-    }
-}
-
-/// The word of the choices in which the set at a place has 1.
-fn one_word(place: usize) -> u64
-    requires { place < 3 }
-    ensures { (choice : ℕ) → choice < 64
-        → bit_at result choice ≡ bit_at (choice / 4 ^ place) 1 }
-{
-    if place == 0 {
-        0xCCCC_CCCC_CCCC_CCCC
-    } else if place == 1 {
-        0xFF00_FF00_FF00_FF00
-    } else {
-        0xFFFF_FFFF_0000_0000
-    }
-}
-
-/// The word of the choices in which a literal admits some bit of the set at its place.
-fn lit_word(lit: Lit, place: usize) -> u64
-    requires { place < 3 }
-    ensures { (choice : ℕ) → choice < 64
-        → bit_at result choice ≡ lit_bit lit (choice / 4 ^ place) }
-{
-    match lit {
-        Lit::Zero => zero_word(place),
-        Lit::One => one_word(place),
-        Lit::Any => zero_word(place) | one_word(place),
-    }
-}
-
-/// The word of the choices in which each literal of a row admits some bit of its set.
-fn row_word(row: &[Lit]) -> u64
-    requires { length row.now ≤ 3 }
-    ensures { (choice : ℕ) → choice < 64 → bit_at result choice ≡ row_bit row.now choice }
-{
-    let mut word = u64::MAX;
-    for place in 0..row.len() {
-        word = word & lit_word(row[place], place);
-    }
-    word
-}
-
-/// The word of the choices in which some row matches bits of the sets.
-fn rows_word(rows: &[Row]) -> u64
-    requires { All (λ row. length row ≤ 3) rows.now }
-    ensures { (choice : ℕ) → choice < 64 → bit_at result choice ≡ rows_bit rows.now choice }
-{
-    let mut word = 0;
-    for row in rows {
-        word = word | row_word(row.as_slice());
-    }
-    word
-}
-
 impl Choices {
     /// The choices of a cover with so many inputs, by the rows that match where it is 1, and where it is 0. Where there are
     /// more than three inputs the words say nothing.
@@ -110,8 +44,8 @@ impl Choices {
             return Choices { can0: 0, can1: 0 };
         }
         Choices {
-            can0: rows_word(off),
-            can1: rows_word(on),
+            can0: rows_word(Digits::Sets, off),
+            can1: rows_word(Digits::Sets, on),
         }
     }
 

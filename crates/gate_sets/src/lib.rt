@@ -21,6 +21,7 @@ pub mod rows;
 mod sums;
 pub mod table;
 pub mod ways;
+pub mod words;
 
 pub use by_table::Scratch;
 pub use compiled::Compiled;

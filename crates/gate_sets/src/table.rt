@@ -9,9 +9,10 @@ ghost use Rattle.net_core.specs.Work.{AreWide};
 ghost use Rattle.dual_rail.specs.declared.rails.Rails.{Rails};
 ghost use Rattle.gate_sets.specs.private.Tables.{AreAlike, AreBothTold, AreSettled, AreTables, IsTold, in_table};
 
+use crate::words::{Digits, ones, rows_word, zeros};
 use dd_nodes::Ref;
 use dual_rail::Rails;
-use net_core::{Lit, Row};
+use net_core::Row;
 
 /// The most inputs of a cover with tables.
 pub const MOST_INPUTS: usize = 6;
@@ -23,50 +24,6 @@ pub const MOST_INPUTS: usize = 6;
 pub struct Tables {
     pub can0: u64,
     pub can1: u64,
-}
-
-/// The table of the choices in which the input at a place is 0.
-fn zeros(place: usize) -> u64
-    requires { place < 6 }
-    ensures bits { (k : ℕ) → k < 64 → bit_at result k + bit_at k place ≡ 1 }
-    ensures choices { (choice : List Bool) → length choice ≤ 6 → place < length choice
-        → in_table result choice ≡ not (get_or choice place false) }
-{
-    if place == 0 {
-        0x5555_5555_5555_5555
-    } else if place == 1 {
-        0x3333_3333_3333_3333
-    } else if place == 2 {
-        0x0F0F_0F0F_0F0F_0F0F
-    } else if place == 3 {
-        0x00FF_00FF_00FF_00FF
-    } else if place == 4 {
-        0x0000_FFFF_0000_FFFF
-    } else {
-        0x0000_0000_FFFF_FFFF
-    }
-}
-
-/// The table of the choices in which the input at a place is 1.
-fn ones(place: usize) -> u64
-    requires { place < 6 }
-    ensures bits { (k : ℕ) → k < 64 → bit_at result k ≡ bit_at k place }
-    ensures choices { (choice : List Bool) → length choice ≤ 6 → place < length choice
-        → in_table result choice ≡ get_or choice place false }
-{
-    if place == 0 {
-        0xAAAA_AAAA_AAAA_AAAA
-    } else if place == 1 {
-        0xCCCC_CCCC_CCCC_CCCC
-    } else if place == 2 {
-        0xF0F0_F0F0_F0F0_F0F0
-    } else if place == 3 {
-        0xFF00_FF00_FF00_FF00
-    } else if place == 4 {
-        0xFFFF_0000_FFFF_0000
-    } else {
-        0xFFFF_FFFF_0000_0000
-    }
 }
 
 /// The table of the choices that are in this one with the input at a place 0.
@@ -222,47 +179,6 @@ pub fn told(tables: Tables, operands: &[Rails]) -> Option<Rails>
     Some(Rails { can0, can1 })
 }
 
-/// The table of the choices in which a literal admits the bit at its place.
-fn lit_table(lit: Lit, place: usize) -> u64
-    requires { place < 6 }
-    ensures { (choice : List Bool) → length choice ≤ 6 → place < length choice
-        → in_table result choice ≡ admits lit (get_or choice place false) }
-{
-    match lit {
-        Lit::Zero => zeros(place),
-        Lit::One => ones(place),
-        Lit::Any => u64::MAX,
-    }
-}
-
-/// The table of the choices that a row matches.
-fn row_table(row: &[Lit]) -> u64
-    requires { length row.now ≤ 6 }
-    ensures { (choice : List Bool) → length choice ≡ length row.now
-        → in_table result choice ≡ matches row.now choice }
-{
-    let mut table = u64::MAX;
-    for place in 0..row.len() {
-        table = table & lit_table(row[place], place);
-    }
-    table
-}
-
-/// The table of the choices that some row matches.
-fn rows_table(rows: &[Row], width: u32) -> u64
-    requires few { width ≤ 6 }
-    requires wide { AreWide rows.now width }
-    ensures { (choice : List Bool) → length choice ≡ width
-        → in_table result choice ≡ some_matches rows.now choice }
-{
-    let _ = width;
-    let mut table = 0;
-    for row in rows {
-        table = table | row_table(row.as_slice());
-    }
-    table
-}
-
 impl Tables {
     /// The tables of a cover with so many inputs, by the rows that match where it is 1, and where it is 0. Where there are more
     /// than six inputs they say nothing.
@@ -275,8 +191,8 @@ impl Tables {
             return Tables { can0: 0, can1: 0 };
         }
         Tables {
-            can0: rows_table(off, width),
-            can1: rows_table(on, width),
+            can0: rows_word(Digits::Bits, off),
+            can1: rows_word(Digits::Bits, on),
         }
     }
 }

@@ -1,35 +1,20 @@
 -- For private functions. The set of a gate of few inputs, for a choice of constant sets of the inputs. A choice is a number: its
 -- digits to the base 4, from the lowest on, are the inputs' sets, 1 where a set has 0, and 2 more where it has 1.
-use Rattle.std.specs.Prelude.{◌≡◌, ◌<◌, ◌≤◌, ◌+◌, ◌*◌, ◌/◌, ℕ, min, max, List, [], ◌∷◌, All, length}
+use Rattle.std.specs.Prelude.{◌≡◌, ◌<◌, ◌≤◌, ◌+◌, ◌*◌, ℕ, List, [], ◌∷◌, All, length}
 use Rattle.std.specs.Int.{bit_at}
 use Rattle.ste_base.specs.declared.id.NodeId.{NodeId}
 use Rattle.net_core.specs.declared.cover.Lit.{Lit}
-use Rattle.net_core.specs.declared.cover.Lit.TheVariants.{Zero, One, Any}
 use Rattle.gate_sets.specs.declared.choices.Choices.{Choices}
 use Rattle.gate_sets.specs.declared.rows.CoverRows.{CoverRows}
 use Rattle.gate_sets.specs.declared.net_rails.NetRails.{NetRails}
+use Rattle.gate_sets.specs.declared.words.Digits.TheVariants.{Sets}
 use Rattle.gate_sets.specs.NetSets.{net_at}
-
--- 1 where the literal admits some bit of the set that is the lowest digit
-abbrev pub lit_bit : Lit → ℕ → ℕ
-lit_bit Zero choice = bit_at choice 0
-lit_bit One choice = bit_at choice 1
-lit_bit Any choice = max (bit_at choice 0) (bit_at choice 1)
-
--- 1 where each literal of the row admits some bit of its set
-abbrev pub row_bit : List Lit → ℕ → ℕ
-row_bit [] choice = 1
-row_bit (lit ∷ row) choice = min (lit_bit lit choice) (row_bit row (choice / 4))
-
--- 1 where some row does
-abbrev pub rows_bit : List (List Lit) → ℕ → ℕ
-rows_bit [] choice = 0
-rows_bit (row ∷ rows) choice = max (row_bit row choice) (rows_bit rows choice)
+use Rattle.gate_sets.specs.private.Words.{rows_bit}
 
 -- for each choice a bit tells whether the gate can be 0, and one whether it can be 1
 pub record AreChoices (on off : List (List Lit)) (c : Choices) : Type 0 where
-  pub zero : (choice : ℕ) → choice < 64 → bit_at c.can0 choice ≡ rows_bit off choice
-  pub one : (choice : ℕ) → choice < 64 → bit_at c.can1 choice ≡ rows_bit on choice
+  pub zero : (choice : ℕ) → choice < 64 → bit_at c.can0 choice ≡ rows_bit Sets off choice
+  pub one : (choice : ℕ) → choice < 64 → bit_at c.can1 choice ≡ rows_bit Sets on choice
 
 -- they are those of both lists, where there are at most three inputs
 abbrev pub AreTold : CoverRows → Choices → Type 0

@@ -1,7 +1,7 @@
 use Rattle.std.proofs.Common.{◌≡◌, ◌/◌, ◌^◌, ◌∙◌, ap, arith, sym}
 use Rattle.std.specs.Int.{bit_at}
-use Rattle.gate_sets.proofs.Choosing.{agreed, one_first, one_second, one_third}
-use Rattle.gate_sets.proofs.choices.one_word.Goals as goal
+use Rattle.gate_sets.proofs.WordBits.{agreed, one_first, one_second, one_third}
+use Rattle.gate_sets.proofs.words.one_word.Goals as goal
 
 pub returns-then-place-eq0 : goal.returns-then-place-eq0
 returns-then-place-eq0 c = λ choice l. agreed 64 14757395258967641292 0 1 choice one_first l ∙ ap (λ place. bit_at (choice / 4 ^ place) 1) (sym c.if-place-eq0.true)

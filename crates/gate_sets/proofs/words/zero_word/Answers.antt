@@ -1,7 +1,7 @@
 use Rattle.std.proofs.Common.{◌≡◌, ◌/◌, ◌^◌, ◌∙◌, ap, arith, sym}
 use Rattle.std.specs.Int.{bit_at}
-use Rattle.gate_sets.proofs.Choosing.{agreed, zero_first, zero_second, zero_third}
-use Rattle.gate_sets.proofs.choices.zero_word.Goals as goal
+use Rattle.gate_sets.proofs.WordBits.{agreed, zero_first, zero_second, zero_third}
+use Rattle.gate_sets.proofs.words.zero_word.Goals as goal
 
 pub returns-then-place-eq0 : goal.returns-then-place-eq0
 returns-then-place-eq0 c = λ choice l. agreed 64 12297829382473034410 0 0 choice zero_first l ∙ ap (λ place. bit_at (choice / 4 ^ place) 0) (sym c.if-place-eq0.true)

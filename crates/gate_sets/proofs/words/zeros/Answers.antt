@@ -1,6 +1,6 @@
 use Rattle.std.proofs.Common.{◌≡◌, arith}
 use Rattle.gate_sets.proofs.Tables.{zeros_0, zeros_1, zeros_2, zeros_3, zeros_4, zeros_5, zeros_bits, zeros_choices}
-use Rattle.gate_sets.proofs.table.zeros.Goals as goal
+use Rattle.gate_sets.proofs.words.zeros.Goals as goal
 
 pub returns-then-place-eq0-clause-bits : goal.returns-then-place-eq0-clause-bits
 returns-then-place-eq0-clause-bits c = zeros_bits 6148914691236517205 0 c.args.place zeros_0 c.if-place-eq0.true

@@ -1,8 +1,0 @@
-use Rattle.std.proofs.Common.{◌≡◌, ◌<◌, ◌/◌, ◌^◌, ℕ, min, drop}
-use Rattle.std.specs.Int.{bit_at}
-use Rattle.gate_sets.specs.private.Choices.{row_bit}
-use Rattle.gate_sets.proofs.choices.row_word.Given as goal
-
--- the word so far, and the literals that are left
-abbrev pub invariant-loop-place : goal.invariant-loop-place
-invariant-loop-place l = (choice : ℕ) → choice < 64 → min (bit_at l.word choice) (row_bit (drop l.place l.row) (choice / 4 ^ l.place)) ≡ row_bit l.row choice
