@@ -3,5 +3,7 @@ pub mod SameVerdicts
 pub mod SameMoved
 pub mod SameGraphs
 pub mod SameReports
+pub mod SameNeeds
 pub mod OneReport
 pub mod PartsReport
+pub mod PartsOfTexts

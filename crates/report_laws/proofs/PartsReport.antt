@@ -47,7 +47,7 @@ no_line (Some count) e = absurd (cc e)
 
 module _ (names vars : List (List ℕ)) (wave : Bool) where
   -- the lines of tasks alone
-  without_line : (shared : Option ℕ) (tasks : List Task) (reports : List Report) → is_some shared ≡ false →
+  pub without_line : (shared : Option ℕ) (tasks : List Task) (reports : List Report) → is_some shared ≡ false →
       report_text names vars wave shared tasks reports ≡ flat_map (task_text names vars wave) (zip tasks reports)
   without_line shared tasks reports e =
       ap (λ (l : List ℕ). flat_map (task_text names vars wave) (zip tasks reports) ++ l) (no_line shared e)
@@ -65,7 +65,7 @@ module _ (names : List (List ℕ)) (net : RawNet) (steps cubes : ℕ) (wave : Bo
   abbrev Told : Task → Report → Type 0
   Told = IsToldOf net (length vars) steps cubes
 
-  joined_of : AreTwoReports names net steps cubes wave vars one other passes bytes → IsReportOn names net steps cubes wave false (tasks_over vars (one ++ other)) passes bytes
+  pub joined_of : AreTwoReports names net steps cubes wave vars one other passes bytes → IsReportOn names net steps cubes wave false (tasks_over vars (one ++ other)) passes bytes
   joined_of h =
       let f = h.one_report in
       let g = h.other_report in record {

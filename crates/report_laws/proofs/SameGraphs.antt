@@ -144,7 +144,7 @@ graph_says_same one twin e =
     let trees : map edge_tree one.edges ≡ map edge_tree twin.edges = cc e in
     record { name = name; reset = reset; trees = trees; edges = edges_same one.edges twin.edges trees }
 
-graph_back : (one twin : Graph) → GraphSaysSame one twin → GraphSaysSame twin one
+pub graph_back : (one twin : Graph) → GraphSaysSame one twin → GraphSaysSame twin one
 graph_back one twin h = record { name = sym h.name; reset = sym h.reset; trees = sym h.trees; edges = edges_back one.edges twin.edges h.edges }
 
 -- ---- tables
@@ -167,7 +167,7 @@ first_same net other reset again same e = ap (λ (ls : List Latch). map (first_s
 next_same : (net other : RawNet) (sets : ℕ → BitSet) → AreSame net other → next_sets net sets ≡ next_sets other sets
 next_same net other sets same = ap (λ (ls : List Latch). map (λ (latch : Latch). sets latch.input.0) ls) same.latches
 
-takes_moved : (net other : RawNet) (one twin : Graph) (bits : List Bool) (now next : ℕ → VertexState) → AreSame net other → AreSame other net → GraphSaysSame one twin → Takes net one bits now next → Takes other twin bits now next
+pub takes_moved : (net other : RawNet) (one twin : Graph) (bits : List Bool) (now next : ℕ → VertexState) → AreSame net other → AreSame other net → GraphSaysSame one twin → Takes net one bits now next → Takes other twin bits now next
 takes_moved net other one twin bits now next same back says h = record {
   long = λ vertex. h.long vertex ∙ ap length same.latches;
   start = subst (λ (sets : List BitSet). IsReachedWith sets (next 0)) (first_same net other one.reset twin.reset same says.reset) h.start;

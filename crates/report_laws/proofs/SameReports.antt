@@ -135,7 +135,7 @@ module _ (net other : RawNet) (one twin : Assertion) (same : AreSame net other) 
   shows_moved vars report (inr (inl h)) = inr (inl (h.0, shown_moved vars (IsWeak net one) (IsWeak other twin) FailsWeakly report weak_to weak_from h.1))
   shows_moved vars report (inr (inr h)) = inr (inr h)
 
-  report_moved : (vars cubes : ℕ) (report : Report) → IsReportOf net vars cubes one report → IsReportOf other vars cubes twin report
+  pub report_moved : (vars cubes : ℕ) (report : Report) → IsReportOf net vars cubes one report → IsReportOf other vars cubes twin report
   report_moved vars cubes report h = record {
     named = h.named ∙ says.name;
     judged = verdict_moved net other vars one twin report.verdict same back says h.judged;

@@ -3,6 +3,7 @@
 #![tactic(auto)]
 
 ghost use Rattle.report_laws.specs.OneReport.{OneReport};
+ghost use Rattle.report_laws.specs.PartsOfTexts.{PartsOfTexts};
 ghost use Rattle.report_laws.specs.PartsReport.{PartsReport};
 
 /// Two reports on the same texts, of commands that ask for the same with whatever workers and steps, differ in what one of them tells
@@ -15,4 +16,10 @@ pub fn one_report()
 /// is a report on all of them; and each report on all of them is two such.
 pub fn parts_report()
     ensures { PartsReport }
+{}
+
+/// What checks write on two task texts over one netlist, one behind the other, a check writes on a text that says the tasks of both,
+/// where all three have the same steps for each task.
+pub fn parts_of_texts()
+    ensures { PartsOfTexts }
 {}
