@@ -396,6 +396,12 @@ fn refusals_and_simulations_that_fail(rt: HostRuntime) -> Result<(), Fail> {
         ),
         ("check n s", short_row, (NONE, NONE, first), ""),
         (
+            "info n",
+            LATCH,
+            (NONE, first, NONE),
+            "stework: cannot write the report\n",
+        ),
+        (
             "sim n s",
             LATCH,
             (NONE, first, NONE),

@@ -55,7 +55,8 @@ fn sink(alloc: Global, room: usize, most: usize, failing: &[u64]) -> Result<Memo
 }
 
 impl Fixture {
-    /// The words of a command, files, the output's room and how many bytes it takes at a write, and what fails.
+    /// The words of a command, files, the output's room, how many bytes it and the error sink take at a write, and what
+    /// fails.
     pub fn new(
         alloc: Global,
         words: &str,
@@ -70,7 +71,7 @@ impl Fixture {
             words: words_of(alloc, words)?,
             files: files_of(alloc, files, failing.0)?,
             output: sink(alloc, room, most, failing.1)?,
-            errors: sink(alloc, 200, 200, failing.2)?,
+            errors: sink(alloc, 200, most, failing.2)?,
         })
     }
 

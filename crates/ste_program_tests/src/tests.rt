@@ -387,45 +387,97 @@ fn sets_of_two_gates(rt: HostRuntime) -> Result<(), Fail> {
     Ok(())
 }
 
-/// What fails of a check, the output's room, and what is answered and written.
-const FAILING: &[(&Failing<'static>, usize, Status, &str, &str)] = &[
+const CANNOT_WRITE: &str = "stework: cannot write the report\n";
+
+const CANNOT_WRITE_TWICE: &str =
+    "stework: cannot write the report\nstework: cannot write the report\n";
+
+/// An answer, and what the output and the error sink have taken by then.
+type Ending<'a> = (Status, &'a str, &'a str);
+
+/// What fails of a check, the output's room, how the check ends, and how one more ends on the same files and sinks. The
+/// sinks take four bytes at a write.
+const FAILING: &[(&Failing<'static>, usize, Ending<'static>, Ending<'static>)] = &[
     (
         &(&[1], &[], &[]),
         100,
-        Status::Faulted,
-        "",
-        "stework: cannot read n\n",
+        (Status::Faulted, "", "stework: cannot read n\n"),
+        (Status::Passed, "t1: pass\n", "stework: cannot read n\n"),
     ),
     (
         &(&[2], &[], &[]),
         100,
-        Status::Faulted,
-        "",
-        "stework: cannot read t\n",
+        (Status::Faulted, "", "stework: cannot read t\n"),
+        (Status::Passed, "t1: pass\n", "stework: cannot read t\n"),
     ),
-    (&(&[], &[1], &[]), 100, Status::Faulted, "", CANNOT_WRITE),
+    (
+        &(&[], &[1], &[]),
+        100,
+        (Status::Faulted, "", CANNOT_WRITE),
+        (Status::Passed, "t1: pass\n", CANNOT_WRITE),
+    ),
     (
         &(&[], &[2], &[]),
         100,
-        Status::Faulted,
-        "t1: ",
-        CANNOT_WRITE,
+        (Status::Faulted, "t1: ", CANNOT_WRITE),
+        (Status::Passed, "t1: t1: pass\n", CANNOT_WRITE),
     ),
-    (NOTHING, 5, Status::Faulted, "t1: p", CANNOT_WRITE),
-    (&(&[], &[1], &[1]), 100, Status::Faulted, "", ""),
-    (&(&[1], &[], &[1]), 100, Status::Faulted, "", ""),
-    (&(&[], &[], &[1]), 100, Status::Passed, "t1: pass\n", ""),
+    (
+        NOTHING,
+        5,
+        (Status::Faulted, "t1: p", CANNOT_WRITE),
+        (Status::Faulted, "t1: p", CANNOT_WRITE_TWICE),
+    ),
+    (
+        &(&[], &[1], &[1]),
+        100,
+        (Status::Faulted, "", ""),
+        (Status::Passed, "t1: pass\n", ""),
+    ),
+    (
+        &(&[1], &[], &[1]),
+        100,
+        (Status::Faulted, "", ""),
+        (Status::Passed, "t1: pass\n", ""),
+    ),
+    // a message that breaks off
+    (
+        &(&[1, 2], &[], &[3]),
+        100,
+        (Status::Faulted, "", "stework:"),
+        (Status::Faulted, "", "stework:stework: cannot read n\n"),
+    ),
+    (
+        &(&[], &[3, 4], &[8]),
+        100,
+        (
+            Status::Faulted,
+            "t1: pass",
+            "stework: cannot write the re",
+        ),
+        (
+            Status::Faulted,
+            "t1: pass",
+            "stework: cannot write the restework: cannot write the report\n",
+        ),
+    ),
+    (
+        &(&[], &[], &[1]),
+        100,
+        (Status::Passed, "t1: pass\n", ""),
+        (Status::Passed, "t1: pass\nt1: pass\n", ""),
+    ),
 ];
-
-const CANNOT_WRITE: &str = "stework: cannot write the report\n";
 
 #[test]
 fn what_fails(rt: HostRuntime) -> Result<(), Fail> {
     let alloc = rt.alloc();
     let files = &[("n", INVERTER.as_bytes()), ("t", INVERTS.as_bytes())];
-    for (failing, room, status, out, err) in FAILING {
+    for (failing, room, first, second) in FAILING {
         let mut fixture = Fixture::new(alloc, "check n t", files, *room, 4, failing)?;
-        compare(&rt, alloc, &mut fixture, *status, out, err, err);
+        for (status, out, err) in [*first, *second] {
+            compare(&rt, alloc, &mut fixture, status, out, err, err);
+        }
     }
     Ok(())
 }
