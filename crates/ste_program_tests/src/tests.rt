@@ -450,11 +450,7 @@ const FAILING: &[(&Failing<'static>, usize, Ending<'static>, Ending<'static>)] =
     (
         &(&[], &[3, 4], &[8]),
         100,
-        (
-            Status::Faulted,
-            "t1: pass",
-            "stework: cannot write the re",
-        ),
+        (Status::Faulted, "t1: pass", "stework: cannot write the re"),
         (
             Status::Faulted,
             "t1: pass",
