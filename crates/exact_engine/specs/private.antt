@@ -1,0 +1,2 @@
+-- Definitions that serve private functions.
+pub mod Counts

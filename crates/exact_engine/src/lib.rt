@@ -1,0 +1,7 @@
+//! The symbolic engine for assertions on two-valued runs: every choice that an assertion leaves open
+//! has a variable of its own. Begin with `choices`.
+#![tactic(auto)]
+
+mod counting;
+
+pub use counting::choices;
