@@ -3,5 +3,6 @@
 #![tactic(auto)]
 
 mod counting;
+mod gates;
 
 pub use counting::choices;
