@@ -1,3 +1,5 @@
 pub mod Counted
 pub mod Leading
 pub mod Rows
+pub mod Values
+pub mod Settled

@@ -4,5 +4,6 @@
 
 mod counting;
 mod gates;
+mod settling;
 
 pub use counting::choices;

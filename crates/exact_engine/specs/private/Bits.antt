@@ -1,12 +1,16 @@
 -- For private functions. The bits of nets at one time, by references.
-use Rattle.std.specs.Prelude.{ℕ, List, [], ◌∷◌, ◌++◌, All, map, Option, None, Some, slice_index_or, if◌then◌else◌}
+use Rattle.std.specs.Prelude.{◌≡◌, ◌≢◌, ◌<◌, ◌≤◌, ℕ, Bool, List, [], ◌∷◌, ◌++◌, All, length, map, Option, None, Some, slice_index, slice_index_or, if◌then◌else◌}
 use Rattle.dd_nodes.specs.declared.node.Ref.{Ref}
+use Rattle.dd_nodes.specs.Diagram.{Function}
 use Rattle.dd_nodes.specs.Stores.{Store, Means}
 use Rattle.ste_base.specs.declared.id.NodeId.{NodeId}
 use Rattle.net_core.specs.declared.cover.Cover.{Cover}
 use Rattle.net_core.specs.declared.cover.Lit.{Lit}
-use Rattle.net_core.specs.Work.{Function, disjunction, negation, never, product, products, sum, sums}
-use Rattle.exact_model.specs.ExactWork.{cover_functions, row_factors, rows_functions}
+use Rattle.net_core.specs.declared.raw.Gate.{Gate}
+use Rattle.net_core.specs.declared.raw.RawNet.{RawNet}
+use Rattle.net_core.specs.Run.{AreGateBits}
+use Rattle.net_core.specs.Work.{disjunction, negation, never, product, products, sum, sums}
+use Rattle.exact_model.specs.ExactWork.{bit_functions, cover_functions, gates_functions, row_factors, rows_functions}
 
 -- the reference of a net
 abbrev pub net_ref : List Ref → ℕ → Ref
@@ -41,3 +45,29 @@ cover_function (Some cover) bs =
 -- the functions for it, and itself
 abbrev pub cover_work : Option Cover → List Function → List Function
 cover_work cover bs = cover_functions cover bs ++ cover_function cover bs ∷ []
+
+-- ---- one time
+
+-- each net has its bit
+abbrev pub AreBits : Store → ℕ → (ℕ → Function) → List Ref → Type 0
+AreBits s nets bit refs = (id : ℕ) → id < nets → Means s (bit id) (net_ref refs id)
+
+-- each net that no gate drives has its bit
+abbrev pub AreSources : Store → RawNet → (ℕ → Function) → List Ref → Type 0
+AreSources s net bit refs =
+    (id : ℕ) → id < net.nets → All (λ gate. gate.output.0 ≢ id) net.gates → Means s (bit id) (net_ref refs id)
+
+-- the nets that no gate from the n-th place of the order on drives have their bits
+abbrev pub AreSettled : Store → RawNet → List ℕ → ℕ → (ℕ → Function) → List Ref → Type 0
+AreSettled s net order n bit refs =
+    (id : ℕ) → id < net.nets →
+    ((k : ℕ) (d : Gate) → n ≤ k → k < length order → (slice_index_or net.gates (slice_index order k) d).output.0 ≢ id) →
+    Means s (bit id) (net_ref refs id)
+
+-- the gates have their bits at each assignment of so many variables
+abbrev pub FollowGates : ℕ → RawNet → (ℕ → Function) → Type 0
+FollowGates vars net bit = (bits : List Bool) → length bits ≡ vars → AreGateBits net (λ id. bit id bits)
+
+-- the functions for one time
+abbrev pub time_work : RawNet → (ℕ → Function) → List Function
+time_work net bit = bit_functions bit net.nets ++ gates_functions net bit net.gates
