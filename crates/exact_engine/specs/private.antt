@@ -2,3 +2,5 @@
 pub mod Counts
 pub mod Joined
 pub mod Bits
+pub mod Sources
+pub mod Asks

@@ -2,8 +2,11 @@
 //! has a variable of its own. Begin with `choices`.
 #![tactic(auto)]
 
+mod adding;
+pub mod asks;
 mod counting;
 mod gates;
 mod settling;
+mod sources;
 
 pub use counting::choices;
