@@ -4,4 +4,6 @@ pub mod Rows
 pub mod Values
 pub mod Settled
 pub mod Starts
-pub mod Adding
+pub mod Added
+pub mod Places
+pub mod OneTimes

@@ -4,3 +4,5 @@ pub mod Joined
 pub mod Bits
 pub mod Sources
 pub mod Asks
+pub mod Place
+pub mod Times

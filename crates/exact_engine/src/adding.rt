@@ -1,16 +1,17 @@
-//! Where the quintuples of one time are broken; begin with `add_time`.
+//! Where the quintuples of one time are broken; begin with `add_both`.
 
-ghost use Rattle.std.specs.Prelude.{◌≡◌, ◌<◌, ℕ, List, All, length};
+ghost use Rattle.std.specs.Prelude.{◌≡◌, ◌<◌, ℕ, List, All, IfOk, length};
 ghost use Rattle.dd_nodes.specs.Diagram.{Function};
-ghost use Rattle.dd_nodes.specs.Stores.{IsRef, Means};
+ghost use Rattle.dd_nodes.specs.Stores.{IsRef, Keeps, Means};
 ghost use Rattle.net_core.specs.Work.{disjunction, whole};
 ghost use Rattle.ste_model.specs.declared.task.Quint.{Quint};
 ghost use Rattle.ste_model.specs.Work.{symbolic_cuts_at};
 ghost use Rattle.dual_rail.specs.Rail.{Built, HasFunction};
-ghost use Rattle.exact_engine.specs.private.Asks.{AreAsks, IsAskRef, ask_work, broken, broken_at, broken_work, cuts_added, only_if, runs_at};
+ghost use Rattle.exact_engine.specs.private.Asks.{AreAsks, AreBothAdded, IsAskRef, ask_work, broken, both_added, broken_at, broken_work, cuts_added, only_if, runs_at};
 ghost use Rattle.exact_engine.specs.private.Bits.{AreBits};
 
 use crate::asks::Ask;
+use crate::results::Broken;
 use dd_nodes::{Nodes, Ref};
 use dd_ops::{OpFault, Ops};
 use dual_rail::{both, either};
@@ -70,7 +71,7 @@ fn add_ask<N: Nodes>(
 }
 
 /// The sum so far with where the quintuples that have the time are broken, in text order.
-pub fn add_time<N: Nodes>(
+fn add_time<N: Nodes>(
     ops: &Ops,
     nodes: &mut N,
     sum: Ref,
@@ -81,16 +82,52 @@ pub fn add_time<N: Nodes>(
     requires sum { IsRef (N.store nodes.old) sum }
     requires asks { All (IsAskRef (N.store nodes.old) (length bits.now)) asks.now }
     requires refs { All (IsRef (N.store nodes.old)) bits.now }
-    ensures { (f : Function) (bit : ℕ → Function) (quints : List Quint)
+    ensures built { (f : Function) (bit : ℕ → Function) (quints : List Quint)
         → Means (N.store nodes.old) f sum → AreBits (N.store nodes.old) (length bits.now) bit bits.now
         → AreAsks (N.store nodes.old) quints asks.now
         → Built (cuts_added f bit (symbolic_cuts_at quints time))
         (HasFunction (whole disjunction f (broken_at bit (symbolic_cuts_at quints time))))
         (N.store nodes.old) (N.store nodes.new) result }
+    ensures keeps { Keeps (N.store nodes.old) (N.store nodes.new) }
+    ensures held { IfOk result (λ r. IsRef (N.store nodes.new) r) }
 {
     let mut sum = sum;
     for k in 0..asks.len() {
         sum = add_ask(ops, nodes, sum, asks[k], time, bits[asks[k].node.0 as usize])?;
     }
     Ok(sum)
+}
+
+/// Both sums so far with where the quintuples that have the time are broken.
+pub fn add_both<N: Nodes>(
+    ops: &Ops,
+    nodes: &mut N,
+    sums: Broken,
+    ant: &[Ask],
+    con: &[Ask],
+    time: Time,
+    bits: &[Ref],
+) -> Result<Broken, OpFault>
+    requires ant_sum { IsRef (N.store nodes.old) sums.ant }
+    requires con_sum { IsRef (N.store nodes.old) sums.con }
+    requires ant { All (IsAskRef (N.store nodes.old) (length bits.now)) ant.now }
+    requires con { All (IsAskRef (N.store nodes.old) (length bits.now)) con.now }
+    requires refs { All (IsRef (N.store nodes.old)) bits.now }
+    ensures built { (f h : Function) (bit : ℕ → Function) (one two : List Quint)
+        → Means (N.store nodes.old) f sums.ant → Means (N.store nodes.old) h sums.con
+        → AreBits (N.store nodes.old) (length bits.now) bit bits.now
+        → AreAsks (N.store nodes.old) one ant.now → AreAsks (N.store nodes.old) two con.now
+        → Built (both_added f h bit (symbolic_cuts_at one time) (symbolic_cuts_at two time))
+        (AreBothAdded f h bit (symbolic_cuts_at one time) (symbolic_cuts_at two time))
+        (N.store nodes.old) (N.store nodes.new) result }
+    ensures keeps { Keeps (N.store nodes.old) (N.store nodes.new) }
+    ensures ant_held { IfOk result (λ r. IsRef (N.store nodes.new) r.ant) }
+    ensures con_held { IfOk result (λ r. IsRef (N.store nodes.new) r.con) }
+{
+    let first = add_time(ops, nodes, sums.ant, ant, time, bits)?;
+    let second = add_time(ops, nodes, sums.con, con, time, bits)?;
+    Ok(Broken {
+        ant: first,
+        con: second,
+    })
 }

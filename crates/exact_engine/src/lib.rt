@@ -6,7 +6,10 @@ mod adding;
 pub mod asks;
 mod counting;
 mod gates;
+mod place;
 mod settling;
+pub mod results;
 mod sources;
+mod times;
 
 pub use counting::choices;

@@ -4,11 +4,12 @@ use Rattle.std.specs.List.{AllZip}
 use Rattle.bool_expr.specs.Value.{value_of}
 use Rattle.dd_nodes.specs.Diagram.{Function}
 use Rattle.dd_nodes.specs.Stores.{IsRef, Means, Store}
-use Rattle.net_core.specs.Work.{SymbolicCut, chain, conjunction, disjunction}
+use Rattle.net_core.specs.Work.{SymbolicCut, chain, conjunction, disjunction, whole}
 use Rattle.ste_model.specs.declared.task.Quint.{Quint}
 use Rattle.ste_model.specs.Expressions.{exclusive_disjunction}
 use Rattle.exact_model.specs.ExactWork.{differs, is_broken}
 use Rattle.exact_engine.specs.declared.asks.Ask.{Ask}
+use Rattle.exact_engine.specs.declared.results.Broken.{Broken}
 
 -- the references have the functions of the quintuple
 pub record IsAsk (s : Store) (quint : Quint) (ask : Ask) : Type 0 where
@@ -55,3 +56,12 @@ broken_at bit cuts = map (is_broken bit) cuts
 -- the functions for cuts that are added to a sum
 abbrev pub cuts_added : Function → (ℕ → Function) → List SymbolicCut → List Function
 cuts_added f bit cuts = chain disjunction f (broken_at bit cuts) ++ (broken_at bit cuts ++ map (differs bit) cuts)
+
+-- the functions for the cuts of both sides
+abbrev pub both_added : Function → Function → (ℕ → Function) → List SymbolicCut → List SymbolicCut → List Function
+both_added f h bit one two = cuts_added f bit one ++ cuts_added h bit two
+
+-- the references have both sums
+pub record AreBothAdded (f h : Function) (bit : ℕ → Function) (one two : List SymbolicCut) (s : Store) (sums : Broken) : Type 0 where
+  pub ant : Means s (whole disjunction f (broken_at bit one)) sums.ant
+  pub con : Means s (whole disjunction h (broken_at bit two)) sums.con

@@ -9,7 +9,7 @@ use Rattle.ste_model.specs.Expressions.{exclusive_disjunction}
 use Rattle.dual_rail.specs.Rail.{HasFunction}
 use Rattle.dual_rail.proofs.Works.{So-start, and_built, first, last, more, or_built, pass}
 use Rattle.exact_engine.specs.private.Asks.{broken, broken_work}
-use Rattle.exact_engine.proofs.Adding.{xor_built}
+use Rattle.exact_engine.proofs.Added.{xor_built}
 use Rattle.exact_engine.proofs.adding.add_broken.Goals as goal
 
 pub returns-in_err-differs : goal.returns-in_err-differs
