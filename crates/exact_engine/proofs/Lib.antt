@@ -7,3 +7,4 @@ pub mod Starts
 pub mod Added
 pub mod Places
 pub mod OneTimes
+pub mod AllTimes
