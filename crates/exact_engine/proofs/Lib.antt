@@ -8,3 +8,5 @@ pub mod Added
 pub mod Places
 pub mod OneTimes
 pub mod AllTimes
+pub mod Chosen
+pub mod ExactTimes

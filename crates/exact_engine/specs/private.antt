@@ -6,3 +6,4 @@ pub mod Sources
 pub mod Asks
 pub mod Place
 pub mod Times
+pub mod Choosing

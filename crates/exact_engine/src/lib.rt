@@ -4,6 +4,7 @@
 
 mod adding;
 pub mod asks;
+mod choosing;
 mod counting;
 mod gates;
 mod place;
