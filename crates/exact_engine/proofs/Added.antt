@@ -22,7 +22,7 @@ use Rattle.dual_rail.specs.Rail.{Built, HasFunction}
 use Rattle.dual_rail.proofs.Turns.{zip_at, zip_long}
 use Rattle.dual_rail.proofs.Works.{SoFar, Within, Built-answer, Built-made, Built-wider, So-start, here}
 use Rattle.exact_model.specs.ExactWork.{differs, is_broken}
-use Rattle.exact_engine.specs.declared.asks.Ask.{Ask}
+use Rattle.exact_engine.specs.declared.ask.Ask.{Ask}
 use Rattle.exact_engine.specs.private.Asks.{AreAsks, IsAsk, IsAskRef, ask_work, broken, broken_at, broken_work, cuts_added, only_if, runs_at}
 use Rattle.exact_engine.specs.private.Bits.{AreBits, net_ref}
 use Rattle.exact_engine.specs.private.Joined.{Leads}

@@ -9,7 +9,8 @@ use Rattle.dd_nodes.specs.declared.node.Ref.{Ref}
 use Rattle.dd_nodes.specs.declared.node.Node.{Node}
 use Rattle.dd_nodes.specs.Diagram.{Function, IsCofactor, IsFrom, same_ref}
 use Rattle.dd_nodes.specs.Stores.{Store, IsRef, Keeps, Means, function}
-use Rattle.dd_nodes.proofs.Spending.{own}
+use Rattle.dd_nodes.specs.Spending.{Has}
+use Rattle.dd_nodes.proofs.Spending.{Means-same}
 use Rattle.dd_nodes.proofs.Stores.{IsGood, IsGood-at, Keeps-refl, Means-keeps, function-keeps}
 use Rattle.dd_nodes.proofs.Walks.{IsFrom-grows, IsFrom-less, bit-fixed, canonical, drop-fixed, fixed, from_constant, from_function, from_held, length-fixed, length-up_to, same_numbers, up_to, value-held, value-same_from, walk-constant}
 use Rattle.dd_ops.proofs.Terminal.{one_bit, zero_bit}
@@ -17,7 +18,7 @@ use Rattle.dd_ops.specs.declared.fault.OpFault.{OpFault}
 use Rattle.dd_ops.specs.Answer.{Answer}
 use Rattle.dd_ops.specs.private.Recursion.{Splits, half}
 use Rattle.dual_rail.specs.Rail.{Built, HasFunction}
-use Rattle.dual_rail.proofs.Works.{SoFar, Built-answer, Built-made, So-start, here, last}
+use Rattle.dual_rail.proofs.Works.{SoFar, Built-answer, Built-covers, Built-good, here, last}
 use Rattle.sym_step.proofs.Halving.{spends_below}
 use Rattle.exact_model.specs.ExactWork.{some_bits, some_choices}
 use Rattle.exact_engine.specs.private.Choosing.{AreMet, Met, some_behind}
@@ -207,3 +208,30 @@ module _ (s : Store) (v : ℕ) (ds : IsGood s) (le : v ≤ s.vars) (r : Ref) (n 
   made_turn u w lo hi result du dw so ml mh call =
       last (whole_of ∷ []) (HasFunction whole_of) s u w result du dw so
       (Built-answer (whole_of ∷ []) whole_of whole_of u w result (here whole_of []) (λ bits l. refl) (call whole_of (split_turn u lo hi du so.keeps ml mh)))
+
+-- ---- a function in place of the reference
+
+-- where the reference has a function, what some choices make of it is the same
+pub some_means : (s : Store) (v : ℕ) (f : Function) (r : Ref) → v ≤ s.vars → Means s f r → (bits : List Bool) → length bits ≡ s.vars → some_behind v s r bits ≡ some_choices v (s.vars - v) f bits
+some_means s v f r le m bits l =
+    some_same (s.vars - v) (λ rest. function s r (take v bits ++ rest)) (λ rest. f (take v bits ++ rest))
+    (λ rest n. m.value (take v bits ++ rest) (simp (length-append, length-take) (omega (arith, l, n, le))))
+
+-- the call for some choices, over a store with as many variables
+pub some_built : (work : List Function) (total v : ℕ) (f : Function) (s t : Store) (r : Ref) (result : Result Ref OpFault) → v ≤ s.vars → s.vars ≡ total → Contains work (some_choices v (total - v) f) → Means s f r
+    → Built (some_behind v s r ∷ []) (HasFunction (some_behind v s r)) s t result → Built work (HasFunction (some_choices v (total - v) f)) s t result
+some_built work total v f s t r result le vars has m b =
+    let F : Function = some_choices v (total - v) f in
+    let same : (bits : List Bool) → length bits ≡ s.vars → some_behind v s r bits ≡ F bits = λ bits l. some_means s v f r le m bits l ∙ ap (λ (k : ℕ). some_choices v (k - v) f bits) vars in
+    Built-good work (HasFunction (some_behind v s r)) (HasFunction F) s t result
+    (λ x h. Means-same t (some_behind v s r) F x (λ bits l. same bits (l ∙ b.spends.keeps.vars)) h)
+    (Built-covers work (some_behind v s r ∷ []) (HasFunction (some_behind v s r)) s t result (λ g h. one_of g h) b)
+  where
+    one_of : (g : Function) → Contains (some_behind v s r ∷ []) g → Has s.vars work g
+    one_of g (zero, lt, e) =
+        subst (λ (h : Function). Has s.vars work h) e (
+          some_choices v (total - v) f,
+          has,
+          λ bits l. sym (some_means s v f r le m bits l ∙ ap (λ (k : ℕ). some_choices v (k - v) f bits) vars),
+        )
+    one_of g (suc k, lt, e) = absurd (omega arith)

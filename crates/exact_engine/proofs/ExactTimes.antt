@@ -97,7 +97,7 @@ module _ (net : RawNet) (vars : ℕ) (task : Assertion) (bit : ℕ → ℕ → F
       let run : Cell → Bool = λ (c : Cell). bit c.time c.net all in
       ap run (sym (is some)) ∙ sym (get_or-map run (choices net task) p some false l)
       ∙ ap (λ (xs : List Bool). get_or xs p false) (exact.chosen all (front_long bits long))
-      ∙ get_or-drop all vars p false ∙ get_or-take width bits (vars + p) false (omega (arith, l))
+      ∙ get_or-drop vars all p false ∙ get_or-take width bits (vars + p) false (omega (arith, l))
 
   moved : (a b t id : ℕ) → a ≡ b → IsVariable total a (widened width bit t id) → IsVariable total b (widened width bit t id)
   moved a b t id e h = subst (λ (k : ℕ). IsVariable total k (widened width bit t id)) e h

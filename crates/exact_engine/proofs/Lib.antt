@@ -10,3 +10,5 @@ pub mod OneTimes
 pub mod AllTimes
 pub mod Chosen
 pub mod ExactTimes
+pub mod Reading
+pub mod Asked

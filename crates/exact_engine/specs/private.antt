@@ -4,6 +4,8 @@ pub mod Joined
 pub mod Bits
 pub mod Sources
 pub mod Asks
+pub mod Asking
 pub mod Place
 pub mod Times
 pub mod Choosing
+pub mod Finishing

@@ -10,7 +10,7 @@ ghost use Rattle.dual_rail.specs.Rail.{Built, HasFunction};
 ghost use Rattle.exact_engine.specs.private.Asks.{AreAsks, AreBothAdded, IsAskRef, ask_work, broken, both_added, broken_at, broken_work, cuts_added, only_if, runs_at};
 ghost use Rattle.exact_engine.specs.private.Bits.{AreBits};
 
-use crate::asks::Ask;
+use crate::ask::Ask;
 use crate::results::Broken;
 use dd_nodes::{Nodes, Ref};
 use dd_ops::{OpFault, Ops};

@@ -3,9 +3,11 @@
 #![tactic(auto)]
 
 mod adding;
-pub mod asks;
+pub mod ask;
+mod asks;
 mod choosing;
 mod counting;
+mod finishing;
 mod gates;
 mod place;
 mod settling;

@@ -8,3 +8,12 @@ pub struct Broken {
     pub ant: Ref,
     pub con: Ref,
 }
+
+/// The assignments and choices that make a counterexample, the exactly strong assignments, and the
+/// exactly contradictory ones.
+#[derive(Clone, Copy, PartialEq, Eq, Drop)]
+pub struct ExactResults {
+    pub counter: Ref,
+    pub strong: Ref,
+    pub contradictory: Ref,
+}

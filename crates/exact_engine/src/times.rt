@@ -15,7 +15,7 @@ ghost use Rattle.exact_engine.specs.private.Sources.{IsFirstTime, IsNextTime};
 ghost use Rattle.exact_engine.specs.private.Times.{AreSums, AreTimes, choice_at};
 
 use crate::adding::add_both;
-use crate::asks::Ask;
+use crate::ask::Ask;
 use crate::counting::{first_count, open_count};
 use crate::results::Broken;
 use crate::settling::settle;

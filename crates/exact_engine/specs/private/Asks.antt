@@ -8,7 +8,7 @@ use Rattle.net_core.specs.Work.{SymbolicCut, chain, conjunction, disjunction, wh
 use Rattle.ste_model.specs.declared.task.Quint.{Quint}
 use Rattle.ste_model.specs.Expressions.{exclusive_disjunction}
 use Rattle.exact_model.specs.ExactWork.{differs, is_broken}
-use Rattle.exact_engine.specs.declared.asks.Ask.{Ask}
+use Rattle.exact_engine.specs.declared.ask.Ask.{Ask}
 use Rattle.exact_engine.specs.declared.results.Broken.{Broken}
 
 -- the references have the functions of the quintuple

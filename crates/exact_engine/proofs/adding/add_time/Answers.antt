@@ -13,7 +13,7 @@ use Rattle.dual_rail.specs.Rail.{HasFunction}
 use Rattle.dual_rail.proofs.Turns.{zip_long}
 use Rattle.dual_rail.proofs.Works.{So-start, Built-made, first, pass}
 use Rattle.exact_model.specs.ExactWork.{differs}
-use Rattle.exact_engine.specs.declared.asks.Ask.{Ask}
+use Rattle.exact_engine.specs.declared.ask.Ask.{Ask}
 use Rattle.exact_engine.specs.private.Asks.{AreAsks, IsAsk, broken_at, cuts_added}
 use Rattle.exact_engine.specs.private.Bits.{AreBits, net_ref}
 use Rattle.exact_engine.specs.private.Joined.{Leads}

@@ -8,7 +8,7 @@ use Rattle.dd_nodes.proofs.Walks.{IsFrom-grows}
 use Rattle.dual_rail.proofs.Works.{So-start, Built-made, first}
 use Rattle.ste_model.specs.Asked.{depth}
 use Rattle.ste_model.specs.Work.{symbolic_cuts_at}
-use Rattle.exact_engine.specs.declared.asks.Ask.{Ask}
+use Rattle.exact_engine.specs.declared.ask.Ask.{Ask}
 use Rattle.exact_engine.specs.private.Asks.{IsAskRef}
 use Rattle.exact_engine.specs.private.Bits.{AreBits, net_ref}
 use Rattle.exact_engine.specs.private.Counts.{open_count}
