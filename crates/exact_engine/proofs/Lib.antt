@@ -12,3 +12,4 @@ pub mod Chosen
 pub mod ExactTimes
 pub mod Reading
 pub mod Asked
+pub mod Resulting
