@@ -1,12 +1,12 @@
 -- Time after time: the bits, and the sums of where quintuples are broken.
-use Rattle.std.proofs.Common.{◌≡◌, ℕ, zero, suc, ◌+◌, ◌*◌, ◌<◌, ◌≤◌, List, [], ◌∷◌, ◌++◌, length, map, refl, sym, ◌∙◌, ap, subst, arith, inl, inr, ⊎_elim, Contains, Result, Ok, Err, Vec, Global, All}
+use Rattle.std.proofs.Common.{◌≡◌, ℕ, zero, suc, ◌+◌, ◌*◌, ◌<◌, ◌≤◌, List, [], ◌∷◌, ◌++◌, length, map, refl, sym, ◌∙◌, ap, subst, arith, inl, inr, ⊎_elim, Contains, Result, Ok, Err, Vec, Global}
 use Rattle.std.specs.Result.{IsErrAnd}
 use Rattle.std.proofs.Math.Nat.{suc-mul, mul-le-mul_right, zero-mul}
 use Rattle.std.proofs.lemmas.Bool.{cases_lt}
 use Rattle.std.proofs.lemmas.List.Elements.{Contains-append_left, Contains-append_right, Contains-append_cases}
 use Rattle.dd_nodes.specs.declared.node.Ref.{Ref}
 use Rattle.dd_nodes.specs.Diagram.{Function}
-use Rattle.dd_nodes.specs.Stores.{Store, Keeps, Means}
+use Rattle.dd_nodes.specs.Stores.{Store, Means}
 use Rattle.dd_nodes.proofs.Stores.{IsGood, Means-keeps}
 use Rattle.dd_ops.specs.declared.fault.OpFault.{OpFault}
 use Rattle.net_core.specs.declared.raw.RawNet.{RawNet}
@@ -21,7 +21,7 @@ use Rattle.exact_model.specs.Choices.{choices}
 use Rattle.exact_model.specs.ExactWork.{all_broken, all_differ, counter_where, differs, exact_work, exactly_contradictory_where, exactly_strong_where, met_where, some_choices}
 use Rattle.exact_engine.specs.declared.results.Broken.{Broken}
 use Rattle.exact_engine.specs.private.Asks.{AreBothAdded, both_added, broken_at, cuts_added}
-use Rattle.exact_engine.specs.private.Bits.{AreBits, FollowGates, time_work}
+use Rattle.exact_engine.specs.private.Bits.{time_work}
 use Rattle.exact_engine.specs.private.Counts.{first_count, open_count}
 use Rattle.exact_engine.specs.private.Sources.{IsFirstTime, IsNextTime}
 use Rattle.exact_engine.specs.private.Times.{AreSums, AreTimes, broken_before, choice_at}

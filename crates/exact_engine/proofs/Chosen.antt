@@ -1,18 +1,18 @@
 -- What some choices make of the function of a reference, node by node.
-use Rattle.std.proofs.Common.{◌≡◌, ◌≢◌, ℕ, zero, suc, ◌+◌, ◌-◌, ◌<◌, ◌≤◌, Bool, true, false, List, [], ◌∷◌, ◌++◌, take, drop, length, get_or, refl, sym, ◌∙◌, ap, subst, arith, inl, inr, ⊎_elim, Contains, Result, Ok, Err, Some, cond}
-use Rattle.std.specs.Prelude.{◌||◌, ◌==◌, IsTrue, if◌then◌else◌}
+use Rattle.std.proofs.Common.{◌≡◌, ℕ, zero, suc, ◌+◌, ◌-◌, ◌<◌, ◌≤◌, Bool, true, false, List, [], ◌∷◌, ◌++◌, take, drop, length, get_or, refl, sym, ◌∙◌, ap, subst, arith, Contains, Result, Some, cond}
+use Rattle.std.specs.Prelude.{◌||◌, ◌==◌}
 use Rattle.std.specs.HashMap.{get}
-use Rattle.std.proofs.lemmas.Bool.{both_ways, or_cases, or_left, or_right, eqb-true}
-use Rattle.std.proofs.lemmas.List.{drop-append-le, drop-take, get_or-take, get_or_append_left, length-append, length-drop, length-take, take_all}
-use Rattle.std.proofs.Math.Seq.{drop-append_seam, take-length}
+use Rattle.std.proofs.lemmas.Bool.{eqb-true}
+use Rattle.std.proofs.lemmas.List.{drop-append-le, drop-take, get_or-take, get_or_append_left, length-append, length-drop, length-take}
+use Rattle.std.proofs.Math.Seq.{drop-append_seam}
 use Rattle.dd_nodes.specs.declared.node.Ref.{Ref}
 use Rattle.dd_nodes.specs.declared.node.Node.{Node}
 use Rattle.dd_nodes.specs.Diagram.{Function, IsCofactor, IsFrom, same_ref}
 use Rattle.dd_nodes.specs.Stores.{Store, IsRef, Keeps, Means, function}
 use Rattle.dd_nodes.specs.Spending.{Has}
 use Rattle.dd_nodes.proofs.Spending.{Means-same}
-use Rattle.dd_nodes.proofs.Stores.{IsGood, IsGood-at, Keeps-refl, Means-keeps, function-keeps}
-use Rattle.dd_nodes.proofs.Walks.{IsFrom-grows, IsFrom-less, bit-fixed, canonical, drop-fixed, fixed, from_constant, from_function, from_held, length-fixed, length-up_to, same_numbers, up_to, value-held, value-same_from, walk-constant}
+use Rattle.dd_nodes.proofs.Stores.{IsGood, Means-keeps, function-keeps}
+use Rattle.dd_nodes.proofs.Walks.{IsFrom-grows, IsFrom-less, bit-fixed, canonical, drop-fixed, fixed, from_constant, from_function, length-fixed, length-up_to, same_numbers, up_to, value-held, value-same_from, walk-constant}
 use Rattle.dd_ops.proofs.Terminal.{one_bit, zero_bit}
 use Rattle.dd_ops.specs.declared.fault.OpFault.{OpFault}
 use Rattle.dd_ops.specs.Answer.{Answer}

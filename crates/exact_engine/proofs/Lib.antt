@@ -5,7 +5,6 @@ pub mod Values
 pub mod Settled
 pub mod Starts
 pub mod Added
-pub mod Places
 pub mod OneTimes
 pub mod AllTimes
 pub mod Chosen

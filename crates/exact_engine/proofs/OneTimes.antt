@@ -1,5 +1,5 @@
 -- The bits of one time: first those that no gate drives, and then all.
-use Rattle.std.proofs.Common.{◌≡◌, ℕ, List, ◌++◌, sym, ◌∙◌, subst, Contains, Result, Vec, Global, Ok, Err}
+use Rattle.std.proofs.Common.{◌≡◌, ℕ, sym, subst, Result, Vec, Global, Ok, Err}
 use Rattle.std.specs.Result.{IsErrAnd}
 use Rattle.std.proofs.lemmas.List.Elements.{Contains-append_left}
 use Rattle.dd_nodes.specs.declared.node.Ref.{Ref}

@@ -1,6 +1,6 @@
 -- An expression over some variables is one over more.
-use Rattle.std.proofs.Common.{◌≡◌, ℕ, ◌<◌, ◌≤◌, Bool, true, List, [], ◌∷◌, map, refl, sym, ◌∙◌, subst, arith, length, get_or}
-use Rattle.std.specs.Prelude.{All, IsTrue, ◌&&◌, nat_lt}
+use Rattle.std.proofs.Common.{◌≡◌, ℕ, ◌≤◌, Bool, true, List, [], ◌∷◌, map, refl, sym, ◌∙◌, subst, arith, get_or}
+use Rattle.std.specs.Prelude.{IsTrue}
 use Rattle.std.specs.List.{list_all}
 use Rattle.std.proofs.lemmas.Bool.{and_from, and_parts}
 use Rattle.bool_expr.specs.declared.expr.Expr.{Expr, map-Expr, roll-Expr}

@@ -1,5 +1,5 @@
 -- From the sums to the results, over a store with more variables than there are choices.
-use Rattle.std.proofs.Common.{◌≡◌, ◌≢◌, ℕ, zero, suc, ◌+◌, ◌-◌, ◌<◌, ◌≤◌, Bool, true, false, not, List, [], ◌∷◌, ◌++◌, take, drop, length, refl, sym, ◌∙◌, ap, subst, arith, Contains, IfOk, Result, Ok, Err, All}
+use Rattle.std.proofs.Common.{◌≡◌, ◌≢◌, ℕ, zero, suc, ◌+◌, ◌-◌, ◌<◌, ◌≤◌, Bool, true, false, not, List, [], ◌∷◌, ◌++◌, take, length, refl, sym, ◌∙◌, ap, subst, arith, IfOk, Result, Ok, Err, All}
 use Rattle.std.specs.Prelude.{◌||◌, ◌↔◌, IsSome, IsTrue}
 use Rattle.std.specs.List.{AllPairs}
 use Rattle.std.proofs.Math.Seq.{take-append-add, take-length}
@@ -8,11 +8,10 @@ use Rattle.std.proofs.lemmas.List.Elements.{All-contains}
 use Rattle.dd_nodes.specs.Diagram.{Function}
 use Rattle.dd_nodes.specs.Functions.{node_count}
 use Rattle.dd_nodes.specs.Spending.{Has, Spends}
-use Rattle.dd_nodes.specs.Stores.{Store, Means, function}
+use Rattle.dd_nodes.specs.Stores.{Store, function}
 use Rattle.dd_nodes.proofs.Spending.{Covers, Means-same, too_few}
 use Rattle.dd_nodes.proofs.Stores.{IsGood}
 use Rattle.dd_ops.specs.declared.fault.OpFault.{OpFault}
-use Rattle.dd_ops.specs.declared.fault.OpFault.TheVariants.{StepsOut}
 use Rattle.net_core.specs.declared.raw.RawNet.{RawNet}
 use Rattle.net_core.specs.Work.{negation, sum}
 use Rattle.ste_model.specs.declared.task.Assertion.{Assertion}
@@ -138,6 +137,9 @@ module _ (net : RawNet) (vars : ℕ) (task : Assertion) (bit : ℕ → ℕ → F
 
   pub tells_exactly : (t : Store) (r : ExactResults) → vars + w ≤ t.vars → AreExactRefs net vars task wide t r → TellExactly net vars task t r
   tells_exactly t r room refs = record {
+    counter_ref = refs.counter.ref;
+    strong_ref = refs.strong.ref;
+    contradictory_ref = refs.contradictory.ref;
     strong = λ bits l. front t (exactly_strong_where net vars task wide) (IsExactlyStrong net task) bits (function t r.strong bits) (simp (length-take) (omega (arith, l, room)))
         (exact_results_are_findings.strong net vars task wide sound wide_exact) (refs.strong.value bits l)
         (ap (λ (xs : List Bool). some_bits w (λ rest. counter_where task wide (xs ++ rest))) (take_take vars bits));

@@ -1,6 +1,6 @@
 -- The gates have their bits, one after another.
-use Rattle.std.proofs.Common.{◌≡◌, ◌≢◌, ℕ, zero, suc, ◌<◌, ◌≤◌, ◌+◌, Bool, List, [], ◌∷◌, ◌++◌, map, length, get_or, set, arith, sym, ap, refl, subst, ◌∙◌, inl, inr, ⊎_elim, Contains, Result, Ok}
-use Rattle.std.specs.Prelude.{All, slice_get, Option, Some, None}
+use Rattle.std.proofs.Common.{◌≡◌, ◌≢◌, ℕ, zero, suc, ◌<◌, ◌≤◌, ◌+◌, Bool, List, [], ◌∷◌, map, length, get_or, set, arith, sym, ap, refl, subst, ◌∙◌, inl, inr, ⊎_elim, Contains, Result, Ok}
+use Rattle.std.specs.Prelude.{All, slice_get, Option, Some}
 use Rattle.std.proofs.lemmas.Bool.{cases_eq, cases_lt}
 use Rattle.std.proofs.lemmas.List.{get_or-set_same, get_or-set_other, get_or_default}
 use Rattle.std.proofs.lemmas.List.Elements.{Contains-append_left, Contains-append_right, Contains-append_cases}
@@ -17,7 +17,7 @@ use Rattle.ste_base.specs.declared.id.NodeId.{NodeId}
 use Rattle.net_core.specs.declared.cover.Cover.{Cover}
 use Rattle.net_core.specs.declared.raw.Gate.{Gate}
 use Rattle.net_core.specs.declared.raw.RawNet.{RawNet}
-use Rattle.net_core.specs.Cover.{IsCover, cover_bit}
+use Rattle.net_core.specs.Cover.{IsCover}
 use Rattle.net_core.specs.Flat.{IsInRange, IsSettledOrder}
 use Rattle.net_core.specs.Run.{bit_of, gate_bit}
 use Rattle.net_core.specs.Work.{AreWide, negation}
@@ -110,7 +110,7 @@ module _ (net : RawNet) (order : List ℕ) (bit : ℕ → Function) (range : IsI
         (λ (early : Contains (cover_functions (Some cover) fs) f). (
           f,
           Contains-append_right (bit_functions bit net.nets) (gates_functions net bit net.gates) f
-          (gates_have net bit net.gates number gate known is f (subst (λ (o : Option Cover). Contains (cover_functions o fs) f) (sym covers) early)),
+              (gates_have net bit net.gates number gate known is f (subst (λ (o : Option Cover). Contains (cover_functions o fs) f) (sym covers) early)),
           λ bits m. refl,
         ))
         (λ (late : Contains (cover_function (Some cover) fs ∷ []) f).

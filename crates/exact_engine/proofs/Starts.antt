@@ -6,7 +6,7 @@ use Rattle.std.proofs.lemmas.List.{length-append, get_or_append_left}
 use Rattle.std.proofs.lemmas.Option.{slice_get-get_or}
 use Rattle.dd_nodes.specs.declared.node.Ref.{Ref}
 use Rattle.dd_nodes.specs.Diagram.{Function}
-use Rattle.dd_nodes.specs.Stores.{Store, IsRef, Keeps, Means, function}
+use Rattle.dd_nodes.specs.Stores.{Store, IsRef, Keeps, Means}
 use Rattle.dd_nodes.proofs.Spending.{Means-same, one_means, zero_means}
 use Rattle.dd_nodes.proofs.Stores.{IsGood, Means-keeps}
 use Rattle.dd_ops.specs.declared.fault.OpFault.{OpFault}
@@ -19,14 +19,14 @@ use Rattle.net_core.specs.declared.raw.RawNet.{RawNet}
 use Rattle.net_core.specs.declared.source.Source.{Source}
 use Rattle.net_core.specs.declared.source.Source.TheVariants as source
 use Rattle.net_core.specs.Flat.{HasOneDriver}
-use Rattle.net_core.specs.Run.{IsInitial, MayStart}
+use Rattle.net_core.specs.Run.{IsInitial}
 use Rattle.net_core.specs.Source.{source_of}
 use Rattle.net_core.proofs.OneTime.{Facts, facts}
 use Rattle.dual_rail.specs.Rail.{Built, HasFunction}
-use Rattle.dual_rail.proofs.Works.{SoFar, Built-answer, Built-good, Built-made, Built-wider, So-start, here, last}
-use Rattle.exact_model.specs.Choices.{Cell, cells_at, is_first_choice, is_free, is_open, starts_free}
+use Rattle.dual_rail.proofs.Works.{SoFar, Built-answer, Built-good, Built-made, Built-wider, So-start, last}
+use Rattle.exact_model.specs.Choices.{cells_at, is_first_choice, is_free, is_open, starts_free}
 use Rattle.exact_model.specs.ExactWork.{bit_functions}
-use Rattle.exact_engine.specs.private.Bits.{AreBits, AreSources, net_ref}
+use Rattle.exact_engine.specs.private.Bits.{AreBits, net_ref}
 use Rattle.exact_engine.specs.private.Counts.{first_test, open_test}
 use Rattle.exact_engine.specs.private.Sources.{AreChoices, FollowLatches, HasStart, IsFirstTime, IsNextTime, IsSource, IsVariable, StartsAt}
 use Rattle.exact_engine.proofs.Settled.{bits_have}

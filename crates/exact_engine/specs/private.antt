@@ -5,7 +5,6 @@ pub mod Bits
 pub mod Sources
 pub mod Asks
 pub mod Asking
-pub mod Place
 pub mod Times
 pub mod Choosing
 pub mod Finishing

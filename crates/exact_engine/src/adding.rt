@@ -93,7 +93,14 @@ fn add_time<N: Nodes>(
 {
     let mut sum = sum;
     for k in 0..asks.len() {
-        sum = add_ask(ops, nodes, sum, asks[k], time, bits[asks[k].node.0 as usize])?;
+        sum = add_ask(
+            ops,
+            nodes,
+            sum,
+            asks[k],
+            time,
+            bits[asks[k].node.0 as usize],
+        )?;
     }
     Ok(sum)
 }

@@ -2,6 +2,7 @@
 
 ghost use Rattle.std.specs.Prelude.{◌≡◌, ◌<◌, ◌≤◌, ◌+◌, ℕ, All, Err, IfOk, length};
 ghost use Rattle.dd_nodes.specs.Diagram.{Function};
+ghost use Rattle.dd_nodes.specs.Stores.{Keeps};
 ghost use Rattle.dd_ops.specs.declared.fault.OpFault.TheVariants.{StepsOut};
 ghost use Rattle.dual_rail.specs.Rail.{Built};
 ghost use Rattle.ste_model.specs.Need.{ReadBelow};
@@ -86,6 +87,10 @@ pub fn exact_results<N: Nodes>(
         (AreExactRefs net.now.raw vars task.now
         (widened (vars + length (choices net.now.raw task.now)) bit))
         (N.store nodes.old) (N.store nodes.new) result }
+
+    // What was held stays, and so does the limit.
+    ensures keeps { Keeps (N.store nodes.old) (N.store nodes.new) }
+    ensures limit { (N.store nodes.new).limit ≡ (N.store nodes.old).limit }
 
     // Where steps are out, fewer were left than the assertion needs.
     ensures short { result ≡ Err StepsOut

@@ -10,7 +10,6 @@ mod counting;
 pub mod engine;
 mod finishing;
 mod gates;
-mod place;
 pub mod results;
 mod settling;
 mod sources;

@@ -1,5 +1,5 @@
 -- For private functions. Where some choices make the function of a reference 1.
-use Rattle.std.specs.Prelude.{◌≡◌, ◌-◌, ℕ, Some, Option}
+use Rattle.std.specs.Prelude.{◌≡◌, ◌-◌, ℕ, Some}
 use Rattle.std.specs.HashMap.{get, HashMap}
 use Rattle.std.specs.declared.hash.FoldHasher.{FoldHasher}
 use Rattle.std.specs.declared.hash.BuildHasherDefault.{BuildHasherDefault}

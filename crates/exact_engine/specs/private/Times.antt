@@ -1,5 +1,5 @@
 -- For private functions. The bits of all times, and the sums so far.
-use Rattle.std.specs.Prelude.{◌≡◌, ◌<◌, ◌+◌, ◌*◌, ℕ, suc, List}
+use Rattle.std.specs.Prelude.{◌<◌, ◌+◌, ◌*◌, ℕ, suc, List}
 use Rattle.dd_nodes.specs.Diagram.{Function}
 use Rattle.dd_nodes.specs.Stores.{Means, Store}
 use Rattle.net_core.specs.declared.raw.RawNet.{RawNet}

@@ -1,5 +1,4 @@
 use Rattle.std.proofs.Common.{arith}
-use Rattle.dd_nodes.specs.Stores.{Store}
 use Rattle.exact_engine.proofs.Added.{in_time, is_added, not_added, too_early, too_late}
 use Rattle.exact_engine.specs.private.Asks.{runs_at}
 use Rattle.exact_engine.proofs.adding.add_ask.Goals as goal

@@ -1,4 +1,4 @@
-use Rattle.std.proofs.Common.{ℕ, List, Ok, Err}
+use Rattle.std.proofs.Common.{List, Ok, Err}
 use Rattle.std.proofs.lemmas.List.Elements.{Contains-append_left, Contains-append_right}
 use Rattle.dd_nodes.specs.declared.node.Ref.{Ref}
 use Rattle.dd_nodes.specs.Diagram.{Function}
@@ -10,9 +10,8 @@ use Rattle.ste_model.specs.Work.{symbolic_cuts_at}
 use Rattle.dual_rail.specs.Rail.{HasFunction}
 use Rattle.dual_rail.proofs.Works.{So-start, Built-made, Built-wider, first, more, pass}
 use Rattle.exact_engine.specs.private.Asks.{AreBothAdded, both_added, broken_at, cuts_added}
-use Rattle.exact_engine.specs.private.Bits.{AreBits, net_ref}
+use Rattle.exact_engine.specs.private.Bits.{net_ref}
 use Rattle.exact_engine.proofs.Added.{ask_refs_keep, asks_keep}
-use Rattle.exact_engine.proofs.Rows.{refs_keep}
 use Rattle.exact_engine.proofs.adding.add_both.Goals as goal
 
 pub add_time-requires-2-clause-asks : goal.add_time-requires-2-clause-asks

@@ -1,7 +1,6 @@
 use Rattle.std.proofs.Common.{List, Ok, Err, refl, arith}
 use Rattle.dd_nodes.specs.Diagram.{Function}
-use Rattle.dd_nodes.specs.Stores.{Store, function}
-use Rattle.dd_nodes.proofs.Spending.{own}
+use Rattle.dd_nodes.specs.Stores.{Store}
 use Rattle.dd_nodes.proofs.Stores.{Means-keeps}
 use Rattle.dd_nodes.proofs.Walks.{IsFrom-grows}
 use Rattle.net_core.specs.Work.{disjunction}

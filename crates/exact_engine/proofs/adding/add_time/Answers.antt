@@ -1,21 +1,20 @@
-use Rattle.std.proofs.Common.{◌≡◌, ◌<◌, ◌+◌, ◌++◌, ℕ, List, [], length, sym, subst, arith, drop, map, get_or, refl, Ok, Err}
+use Rattle.std.proofs.Common.{◌<◌, ◌+◌, ◌++◌, List, length, sym, subst, arith, drop, map, get_or, refl, Ok, Err}
 use Rattle.std.proofs.lemmas.List.{get_or_default}
 use Rattle.std.proofs.lemmas.List.Elements.{Contains-append_left}
 use Rattle.dd_nodes.specs.declared.node.Ref.{Ref}
 use Rattle.dd_nodes.specs.Diagram.{Function}
-use Rattle.dd_nodes.specs.Stores.{Store, IsRef, Means, function}
+use Rattle.dd_nodes.specs.Stores.{Store, IsRef, function}
 use Rattle.dd_nodes.proofs.Spending.{own}
 use Rattle.dd_nodes.proofs.Stores.{Keeps-refl, Keeps-trans}
 use Rattle.net_core.specs.Work.{chain, disjunction, whole}
-use Rattle.ste_model.specs.declared.task.Quint.{Quint}
 use Rattle.ste_model.specs.Work.{symbolic_cuts_at}
 use Rattle.dual_rail.specs.Rail.{HasFunction}
 use Rattle.dual_rail.proofs.Turns.{zip_long}
 use Rattle.dual_rail.proofs.Works.{So-start, Built-made, first, pass}
 use Rattle.exact_model.specs.ExactWork.{differs}
 use Rattle.exact_engine.specs.declared.ask.Ask.{Ask}
-use Rattle.exact_engine.specs.private.Asks.{AreAsks, IsAsk, broken_at, cuts_added}
-use Rattle.exact_engine.specs.private.Bits.{AreBits, net_ref}
+use Rattle.exact_engine.specs.private.Asks.{IsAsk, broken_at, cuts_added}
+use Rattle.exact_engine.specs.private.Bits.{net_ref}
 use Rattle.exact_engine.specs.private.Joined.{Leads}
 use Rattle.exact_engine.proofs.Added.{ask_refs_keep, ask_turn, cuts_behind}
 use Rattle.exact_engine.proofs.Leading.{leads_first, leads_last}

@@ -1,5 +1,5 @@
 use Rattle.std.proofs.Math.Seq.{take-suc}
-use Rattle.std.proofs.Common.{◌≡◌, ◌+◌, ◌<◌, ◌∷◌, ◌++◌, [], suc, length, take, get_or, sym, ◌∙◌, ap, subst, arith, List, Ok, Err, Vec, Global, Contains}
+use Rattle.std.proofs.Common.{◌≡◌, ◌+◌, ◌<◌, ◌∷◌, ◌++◌, [], suc, length, take, get_or, sym, ◌∙◌, ap, subst, arith, List, Ok, Err, Contains}
 use Rattle.std.proofs.lemmas.List.{take_all}
 use Rattle.dd_nodes.specs.Stores.{Store}
 use Rattle.dual_rail.specs.Rail.{Built}

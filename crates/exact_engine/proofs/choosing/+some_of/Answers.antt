@@ -1,15 +1,15 @@
-use Rattle.std.proofs.Common.{◌≡◌, ◌<◌, ◌≤◌, ◌+◌, ◌-◌, ◌∷◌, [], ℕ, List, Bool, true, false, sym, ◌∙◌, ap, subst, arith, Ok, Err, Some}
+use Rattle.std.proofs.Common.{◌≡◌, ◌<◌, ◌≤◌, ◌-◌, ◌∷◌, [], ℕ, List, true, false, sym, ap, subst, arith, Ok, Err, Some}
 use Rattle.dd_nodes.specs.declared.node.Ref.{Ref}
 use Rattle.dd_nodes.specs.declared.node.Node.{Node}
-use Rattle.dd_nodes.specs.Diagram.{Function, IsFrom}
-use Rattle.dd_nodes.specs.Stores.{Store, IsRef, Keeps, Means}
+use Rattle.dd_nodes.specs.Diagram.{Function}
+use Rattle.dd_nodes.specs.Stores.{Store, Keeps, Means}
 use Rattle.dd_nodes.proofs.Stores.{IsGood, Keeps-refl, Keeps-trans, Means-keeps}
 use Rattle.dd_nodes.proofs.Walks.{IsFrom-grows, from_held}
 use Rattle.dual_rail.specs.Rail.{Built, HasFunction}
 use Rattle.dual_rail.proofs.Works.{SoFar, Built-made, So-start, first, lost, pass}
 use Rattle.dd_query.proofs.Room.{falls_in, ref_in, room, room_falls}
 use Rattle.exact_engine.specs.private.Choosing.{AreMet, some_behind}
-use Rattle.exact_engine.proofs.Chosen.{behind_keeps, child_at, child_from, child_ref, half_turn, made_turn, met_keep, met_more, of_choice, of_constant, part_from, part_of, split_turn, whole_of}
+use Rattle.exact_engine.proofs.Chosen.{behind_keeps, child_ref, half_turn, made_turn, met_keep, met_more, of_choice, of_constant, part_from, part_of, split_turn, whole_of}
 use Rattle.exact_engine.proofs.choosing.+some_of.Goals as goal
 
 -- a store that is the same keeps all

@@ -1,5 +1,4 @@
-use Rattle.std.proofs.Common.{◌≡◌, ◌+◌, ◌≤◌, ℕ, List, length, sym, ◌∙◌, ap, subst, arith, Ok, Err, All, Vec, Global}
-use Rattle.dd_nodes.specs.declared.node.Ref.{Ref}
+use Rattle.std.proofs.Common.{◌≡◌, ◌+◌, ◌≤◌, ℕ, List, length, sym, ◌∙◌, subst, arith, Ok, Err, All, Vec, Global}
 use Rattle.dd_nodes.specs.Diagram.{Function}
 use Rattle.dd_nodes.specs.Stores.{Store, Keeps}
 use Rattle.dd_nodes.proofs.Stores.{Keeps-trans}
@@ -18,8 +17,7 @@ use Rattle.exact_engine.specs.Results.{AreExactRefs}
 use Rattle.exact_engine.specs.declared.ask.Ask.{Ask}
 use Rattle.exact_engine.specs.private.Asking.{AreAskItems}
 use Rattle.exact_engine.specs.private.Asks.{AreAsks, IsAskRef}
-use Rattle.exact_engine.specs.private.Times.{AreTimes}
-use Rattle.exact_engine.proofs.Added.{asks_keep, ask_refs_keep}
+use Rattle.exact_engine.proofs.Added.{asks_keep}
 use Rattle.exact_engine.proofs.AllTimes.{HasSums, ant_in, con_in}
 use Rattle.exact_engine.proofs.Asked.{asks_held}
 use Rattle.exact_engine.proofs.ExactTimes.{are_times}
@@ -28,7 +26,7 @@ use Rattle.exact_engine.proofs.Resulting.{finished, wide, work}
 use Rattle.exact_engine.proofs.engine.results.Goals as goal
 
 pub asks_of-requires : goal.asks_of-requires
-asks_of-requires g c = 
+asks_of-requires g c =
     let s : Store = g.N.Nodes.store c.args.nodes.now in
     let ds = g.met.N.Nodes.diagram c.args.nodes.now in
     let full = c.args.net.now in
@@ -41,7 +39,7 @@ asks_of-requires g c =
     subst (λ (qs : List Quint). ReadBelow s.vars qs) (sym c.as_slice.ensures) (read_more vars s.vars le task.ant q.reads_ant)
 
 pub asks_of-requires-2 : goal.asks_of-requires-2
-asks_of-requires-2 g c = 
+asks_of-requires-2 g c =
     let s : Store = g.N.Nodes.store c.args.nodes.now in
     let t : Store = g.N.Nodes.store c.asks_of.new.nodes in
     let ds = g.met.N.Nodes.diagram c.args.nodes.now in
@@ -58,7 +56,7 @@ asks_of-requires-2 g c =
     subst (λ (qs : List Quint). ReadBelow t.vars qs) (sym c.as_slice-2.ensures) (read_more vars t.vars le task.con q.reads_con)
 
 pub broken_sums-requires-clause-ant : goal.broken_sums-requires-clause-ant
-broken_sums-requires-clause-ant g c = 
+broken_sums-requires-clause-ant g c =
     let s : Store = g.N.Nodes.store c.args.nodes.now in
     let t : Store = g.N.Nodes.store c.asks_of.new.nodes in
     let ds = g.met.N.Nodes.diagram c.args.nodes.now in
@@ -81,7 +79,7 @@ broken_sums-requires-clause-ant g c =
     subst (λ (zs : List Ask). All (IsAskRef u net.nets) zs) (sym c.as_slice-3.ensures.value) (asks_held u net.nets task.ant xs.items ant_u q.ant)
 
 pub broken_sums-requires-clause-con : goal.broken_sums-requires-clause-con
-broken_sums-requires-clause-con g c = 
+broken_sums-requires-clause-con g c =
     let s : Store = g.N.Nodes.store c.args.nodes.now in
     let t : Store = g.N.Nodes.store c.asks_of.new.nodes in
     let ds = g.met.N.Nodes.diagram c.args.nodes.now in
@@ -104,7 +102,7 @@ broken_sums-requires-clause-con g c =
     subst (λ (zs : List Ask). All (IsAskRef u net.nets) zs) (sym c.as_slice-4.ensures.value) (asks_held u net.nets task.con ys.items b.ok q.con)
 
 pub broken_sums-requires-clause-room : goal.broken_sums-requires-clause-room
-broken_sums-requires-clause-room g c = 
+broken_sums-requires-clause-room g c =
     let s : Store = g.N.Nodes.store c.args.nodes.now in
     let t : Store = g.N.Nodes.store c.asks_of.new.nodes in
     let ds = g.met.N.Nodes.diagram c.args.nodes.now in
@@ -127,7 +125,7 @@ broken_sums-requires-clause-room g c =
     subst (λ (n : ℕ). vars + length (choices net task) ≤ n) (sym k_su.vars) q.room
 
 pub finish-requires-clause-vars : goal.finish-requires-clause-vars
-finish-requires-clause-vars g c = 
+finish-requires-clause-vars g c =
     let s : Store = g.N.Nodes.store c.args.nodes.now in
     let t : Store = g.N.Nodes.store c.asks_of.new.nodes in
     let ds = g.met.N.Nodes.diagram c.args.nodes.now in
@@ -271,4 +269,3 @@ returns g c = λ bit exact.
     let so3 = more W (HasSums net vars task at (depth task)) s u v (Ok broken) du dv so2 x in
     last W Good s v z c.finish.result dv dz so3
     (finished net vars task bit sound exact s.vars q.room v z c.finish.result so3.keeps.vars (c.finish.ensures _ _ x.ok.ant x.ok.con))
-

@@ -1,10 +1,10 @@
-use Rattle.std.proofs.Common.{◌≡◌, ◌≤◌, ◌-◌, ℕ, List, sym, ◌∙◌, subst, arith, refl, Ok, Err}
+use Rattle.std.proofs.Common.{◌≡◌, ◌≤◌, ◌-◌, ℕ, List, sym, subst, arith, refl, Ok, Err}
 use Rattle.dd_nodes.specs.declared.node.Ref.{Ref}
 use Rattle.dd_nodes.specs.Diagram.{Function}
 use Rattle.dd_nodes.specs.Stores.{Store, Keeps, Means, function}
 use Rattle.dd_nodes.proofs.Spending.{own}
 use Rattle.dd_nodes.proofs.Stores.{Keeps-trans, Means-keeps}
-use Rattle.net_core.specs.Work.{conjunction, negation}
+use Rattle.net_core.specs.Work.{negation}
 use Rattle.dual_rail.specs.Rail.{Built, HasFunction}
 use Rattle.dual_rail.proofs.Works.{So-start, Built-made, and_built, first, more, not_built, pass}
 use Rattle.exact_model.specs.ExactWork.{some_choices}
@@ -220,7 +220,7 @@ returns g c = λ a b ma mb.
     (record { counter = Means-keeps u q h r2 du dq k_uq x2.ok; strong = Means-keeps z q (some_choices v w h) r3 dz dq k_zq x3.ok; contradictory = x5.ok })
 
 pub both-requires-clause-left : goal.both-requires-clause-left
-both-requires-clause-left g c = 
+both-requires-clause-left g c =
     let a : Function = function (g.N.Nodes.store c.args.nodes.now) c.args.broken.ant in
     let b : Function = function (g.N.Nodes.store c.args.nodes.now) c.args.broken.con in
     let ma = own (g.N.Nodes.store c.args.nodes.now) c.args.broken.ant c.requires.ant in
@@ -243,7 +243,7 @@ both-requires-clause-left g c =
     x1.ok.ref
 
 pub both-requires-clause-right : goal.both-requires-clause-right
-both-requires-clause-right g c = 
+both-requires-clause-right g c =
     let a : Function = function (g.N.Nodes.store c.args.nodes.now) c.args.broken.ant in
     let b : Function = function (g.N.Nodes.store c.args.nodes.now) c.args.broken.con in
     let ma = own (g.N.Nodes.store c.args.nodes.now) c.args.broken.ant c.requires.ant in
@@ -266,7 +266,7 @@ both-requires-clause-right g c =
     mb1.ref
 
 pub some_choices-requires-clause-held : goal.some_choices-requires-clause-held
-some_choices-requires-clause-held g c = 
+some_choices-requires-clause-held g c =
     let a : Function = function (g.N.Nodes.store c.args.nodes.now) c.args.broken.ant in
     let b : Function = function (g.N.Nodes.store c.args.nodes.now) c.args.broken.con in
     let ma = own (g.N.Nodes.store c.args.nodes.now) c.args.broken.ant c.requires.ant in
@@ -297,7 +297,7 @@ some_choices-requires-clause-held g c =
     x2.ok.ref
 
 pub some_choices-requires-clause-vars : goal.some_choices-requires-clause-vars
-some_choices-requires-clause-vars g c = 
+some_choices-requires-clause-vars g c =
     let a : Function = function (g.N.Nodes.store c.args.nodes.now) c.args.broken.ant in
     let b : Function = function (g.N.Nodes.store c.args.nodes.now) c.args.broken.con in
     let ma = own (g.N.Nodes.store c.args.nodes.now) c.args.broken.ant c.requires.ant in
@@ -328,7 +328,7 @@ some_choices-requires-clause-vars g c =
     leu
 
 pub some_choices-requires-2-clause-held : goal.some_choices-requires-2-clause-held
-some_choices-requires-2-clause-held g c = 
+some_choices-requires-2-clause-held g c =
     let a : Function = function (g.N.Nodes.store c.args.nodes.now) c.args.broken.ant in
     let b : Function = function (g.N.Nodes.store c.args.nodes.now) c.args.broken.con in
     let ma = own (g.N.Nodes.store c.args.nodes.now) c.args.broken.ant c.requires.ant in
@@ -367,7 +367,7 @@ some_choices-requires-2-clause-held g c =
     m1z.ref
 
 pub some_choices-requires-2-clause-vars : goal.some_choices-requires-2-clause-vars
-some_choices-requires-2-clause-vars g c = 
+some_choices-requires-2-clause-vars g c =
     let a : Function = function (g.N.Nodes.store c.args.nodes.now) c.args.broken.ant in
     let b : Function = function (g.N.Nodes.store c.args.nodes.now) c.args.broken.con in
     let ma = own (g.N.Nodes.store c.args.nodes.now) c.args.broken.ant c.requires.ant in
@@ -406,7 +406,7 @@ some_choices-requires-2-clause-vars g c =
     lez
 
 pub opposite-requires-2 : goal.opposite-requires-2
-opposite-requires-2 g c = 
+opposite-requires-2 g c =
     let a : Function = function (g.N.Nodes.store c.args.nodes.now) c.args.broken.ant in
     let b : Function = function (g.N.Nodes.store c.args.nodes.now) c.args.broken.con in
     let ma = own (g.N.Nodes.store c.args.nodes.now) c.args.broken.ant c.requires.ant in

@@ -1,10 +1,9 @@
-use Rattle.std.proofs.Common.{◌≡◌, ◌<◌, ◌+◌, ℕ, List, length, get_or, set, sym, ◌∙◌, subst, ap, arith, refl, Ok, Err, Some, Vec, Global}
+use Rattle.std.proofs.Common.{◌≡◌, ◌<◌, ℕ, List, length, get_or, sym, ◌∙◌, ap, arith, refl, Ok, Err, Vec, Global}
 use Rattle.std.proofs.lemmas.List.{length-set}
 use Rattle.dd_nodes.specs.declared.node.Ref.{Ref}
 use Rattle.dd_nodes.specs.Diagram.{Function}
 use Rattle.dd_nodes.specs.Stores.{Store}
 use Rattle.dd_nodes.proofs.Stores.{Keeps-refl, Keeps-trans}
-use Rattle.ste_base.specs.declared.id.NodeId.{NodeId}
 use Rattle.net_core.specs.declared.raw.Gate.{Gate}
 use Rattle.dual_rail.specs.Rail.{HasFunction}
 use Rattle.dual_rail.proofs.Works.{Built-made, So-start, first, pass}

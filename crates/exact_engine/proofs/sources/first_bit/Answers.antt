@@ -1,5 +1,4 @@
 use Rattle.std.proofs.Common.{[], ◌∷◌, sym, ◌∙◌}
-use Rattle.dd_nodes.specs.Stores.{Store}
 use Rattle.dual_rail.proofs.Works.{here}
 use Rattle.exact_engine.proofs.Starts.{start_one, start_zero, variable_built}
 use Rattle.exact_engine.proofs.sources.first_bit.Goals as goal

@@ -1,13 +1,11 @@
-use Rattle.std.proofs.Common.{◌≡◌, List, [], ◌∷◌, sym, ◌∙◌, ap, subst, refl, get_or}
-use Rattle.dd_nodes.specs.declared.node.Ref.{Ref}
-use Rattle.dd_nodes.specs.Stores.{Store}
+use Rattle.std.proofs.Common.{◌≡◌, List, sym, ◌∙◌, ap, subst, refl, get_or}
 use Rattle.net_core.specs.declared.raw.Latch.{Latch}
 use Rattle.std.specs.Prelude.{IsTrue}
 use Rattle.net_core.specs.declared.source.Source.{Source}
 use Rattle.net_core.specs.declared.raw.Init.TheVariants as init
 use Rattle.std.proofs.lemmas.List.{get_or_default}
 use Rattle.exact_model.specs.Choices.{is_open}
-use Rattle.exact_engine.proofs.Starts.{first_latch, gate_source, latch_inside, next_latch, open_source}
+use Rattle.exact_engine.proofs.Starts.{first_latch, gate_source, latch_inside, open_source}
 use Rattle.exact_engine.proofs.sources.first_source.Goals as goal
 
 pub returns-in-Input-clause-built : goal.returns-in-Input-clause-built

@@ -1,18 +1,16 @@
-use Rattle.std.proofs.Common.{◌≡◌, ◌+◌, ◌<◌, ◌≤◌, ℕ, Bool, List, [], ◌∷◌, ◌++◌, length, sym, ◌∙◌, ap, subst, arith, Ok, Err, Vec, Global, refl, All}
+use Rattle.std.proofs.Common.{◌≡◌, ◌+◌, ◌<◌, ℕ, Bool, List, [], ◌∷◌, ◌++◌, length, sym, ◌∙◌, ap, subst, arith, Ok, Err, Vec, Global, All}
 use Rattle.std.specs.Prelude.{IsTrue, if◌then◌else◌}
 use Rattle.std.proofs.lemmas.List.{length-append}
 use Rattle.dd_nodes.specs.declared.node.Ref.{Ref}
-use Rattle.dd_nodes.specs.Diagram.{Function}
 use Rattle.dd_nodes.specs.Stores.{Store, IsRef}
-use Rattle.dd_nodes.proofs.Stores.{Keeps-refl, Keeps-trans}
+use Rattle.dd_nodes.proofs.Stores.{Keeps-trans}
 use Rattle.dual_rail.proofs.Works.{Built-lost, Built-made, So-start, first, pass}
-use Rattle.exact_model.specs.Choices.{cells_at}
 use Rattle.exact_model.specs.ExactWork.{bit_functions}
-use Rattle.exact_engine.specs.private.Bits.{AreSources, net_ref}
+use Rattle.exact_engine.specs.private.Bits.{AreSources}
 use Rattle.exact_engine.specs.private.Counts.{first_test, open_test}
 use Rattle.exact_engine.specs.private.Sources.{IsSource}
 use Rattle.exact_engine.proofs.Rows.{refs_keep}
-use Rattle.exact_engine.proofs.Starts.{AreFirst, first_push, first_turn, next_below, next_turn, next_variable, refs_push}
+use Rattle.exact_engine.proofs.Starts.{AreFirst, first_push, first_turn, next_below, next_variable, refs_push}
 use Rattle.exact_engine.proofs.sources.first_sources.Goals as goal
 
 pub first_source-requires-clause-first : goal.first_source-requires-clause-first
@@ -40,7 +38,6 @@ behind-choice-requires g c = λ h.
     let p = c.loop-id.invariant in
     let net = c.args.net.now.raw in
     subst (λ (v : ℕ). c.loop-id.choice < v) (sym c.vars-limit.ensures) (next_below (open_test net) c.args.choice c.loop-id.choice c.loop-id.id net.nets (g.N.Nodes.store c.args.nodes.now).vars p.choice c.requires.choice (omega (arith, c.loop-id-test.true, c.nets-id-end.ensures)) (subst IsTrue c.is_open.ensures h))
-
 
 pub loop-id-preserved : goal.loop-id-preserved
 loop-id-preserved g c =

@@ -5,8 +5,8 @@ use Rattle.dd_nodes.specs.Stores.{IsRef, Keeps}
 use Rattle.exact_model.specs.Choices.{cells_at}
 use Rattle.exact_model.specs.ExactWork.{bit_functions}
 use Rattle.exact_engine.specs.private.Bits.{AreBits}
-use Rattle.exact_engine.specs.private.Counts.{first_test, open_test}
-use Rattle.exact_engine.specs.private.Sources.{IsFirstTime, IsNextTime}
+use Rattle.exact_engine.specs.private.Counts.{open_test}
+use Rattle.exact_engine.specs.private.Sources.{IsNextTime}
 use Rattle.exact_engine.proofs.Starts.{AreFirst}
 use Rattle.exact_engine.proofs.sources.next_sources.Given as goal
 

@@ -1,5 +1,3 @@
-use Rattle.std.proofs.Common.{ℕ, List, sym, subst, suc}
-use Rattle.dd_nodes.specs.Stores.{Store}
 use Rattle.exact_engine.proofs.AllTimes.{before_of, first_given, next_given}
 use Rattle.exact_engine.proofs.times.bits_at.Goals as goal
 

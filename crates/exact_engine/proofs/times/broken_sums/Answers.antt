@@ -1,18 +1,14 @@
-use Rattle.std.proofs.Common.{◌≡◌, ◌<◌, ◌≤◌, ◌+◌, ℕ, suc, List, length, sym, ◌∙◌, ap, subst, arith, refl, Ok, Err, Vec, Global, All}
+use Rattle.std.proofs.Common.{◌≡◌, ◌<◌, ◌+◌, ℕ, List, length, sym, ◌∙◌, ap, subst, arith, Ok, Vec, Global, All}
 use Rattle.dd_nodes.specs.declared.node.Ref.{Ref}
-use Rattle.dd_nodes.specs.Diagram.{Function}
 use Rattle.dd_nodes.specs.Stores.{Store, Means}
 use Rattle.dd_nodes.proofs.Spending.{zero_means}
 use Rattle.dd_nodes.proofs.Stores.{Keeps-refl, Keeps-trans, Means-keeps}
 use Rattle.dd_nodes.proofs.Walks.{IsFrom-grows}
 use Rattle.dual_rail.proofs.Works.{So-start, Built-made, first}
 use Rattle.ste_model.specs.Asked.{depth}
-use Rattle.ste_model.specs.Work.{symbolic_cuts_at}
-use Rattle.exact_engine.specs.declared.ask.Ask.{Ask}
 use Rattle.exact_engine.specs.private.Asks.{IsAskRef}
 use Rattle.exact_engine.specs.private.Bits.{AreBits, net_ref}
-use Rattle.exact_engine.specs.private.Counts.{open_count}
-use Rattle.exact_engine.specs.private.Times.{AreTimes, broken_before, choice_at}
+use Rattle.exact_engine.specs.private.Times.{AreTimes, broken_before}
 use Rattle.exact_engine.proofs.Added.{ask_refs_keep, asks_keep}
 use Rattle.exact_engine.proofs.Rows.{refs_keep}
 use Rattle.exact_engine.proofs.AllTimes.{HasSums, add_failed, bits_failed, choice_first, choice_next, room_at, time_turn, work}
@@ -175,7 +171,7 @@ loop-t-preserved g c =
           (λ k e. subst (λ (xs : List Ref). AreBits t net.nets (bit k) xs) (sym c.as_slice.ensures.value) (p.last bit given fa fc k e))) in
           let here : AreBits u (length c.as_slice-in-loop-t.result.now) (bit n) c.as_slice-in-loop-t.result.now = λ id l. subst (λ (xs : List Ref). Means u (bit n id) (net_ref xs id)) (sym value) (made.ok id (subst (λ (m : ℕ). id < m) long l)) in
           let to_u = Keeps-trans s t u p.keeps keeps in
-      first (work net vars task bit) (HasSums net vars task bit (n + 1)) s v (Ok added)
+          first (work net vars task bit) (HasSums net vars task bit (n + 1)) s v (Ok added)
           (time_turn net vars task bit s t u n dt du inside (p.so bit given fa fc) v dv before bits (Ok added) (p.sums bit given fa fc) made
           (λ mf mh. c.in_ok-broken.ensures.built (broken_before task.ant bit n) (broken_before task.con bit n) (bit n) task.ant task.con mf mh here (asks_keep s u task.ant c.args.ant.now ds du to_u fa) (asks_keep s u task.con c.args.con.now ds du to_u fc)));
       last = λ bit given fa fc k e.
@@ -184,13 +180,13 @@ loop-t-preserved g c =
           (λ k e. subst (λ (xs : List Ref). AreBits t net.nets (bit k) xs) (sym c.as_slice.ensures.value) (p.last bit given fa fc k e))) in
           let here : AreBits u (length c.as_slice-in-loop-t.result.now) (bit n) c.as_slice-in-loop-t.result.now = λ id l. subst (λ (xs : List Ref). Means u (bit n id) (net_ref xs id)) (sym value) (made.ok id (subst (λ (m : ℕ). id < m) long l)) in
           let to_u = Keeps-trans s t u p.keeps keeps in
-      λ id l. subst (λ (j : ℕ). Means v (bit j id) (net_ref bits.items id)) (sym same) (Means-keeps u v (bit n id) (net_ref bits.items id) du dv on (made.ok id l));
+          λ id l. subst (λ (j : ℕ). Means v (bit j id) (net_ref bits.items id)) (sym same) (Means-keeps u v (bit n id) (net_ref bits.items id) du dv on (made.ok id l));
       sums = λ bit given fa fc.
           let made = (c.in_ok-bits.ensures.built bit (subst (λ (v : ℕ). AreTimes v net vars task bit) (sym p.keeps.vars) given) inside
           (λ k e. subst (λ (xs : List Ref). AreBits t net.nets (bit k) xs) (sym c.as_slice.ensures.value) (p.last bit given fa fc k e))) in
           let here : AreBits u (length c.as_slice-in-loop-t.result.now) (bit n) c.as_slice-in-loop-t.result.now = λ id l. subst (λ (xs : List Ref). Means u (bit n id) (net_ref xs id)) (sym value) (made.ok id (subst (λ (m : ℕ). id < m) long l)) in
           let to_u = Keeps-trans s t u p.keeps keeps in
-      (time_turn net vars task bit s t u n dt du inside (p.so bit given fa fc) v dv before bits (Ok added) (p.sums bit given fa fc) made
+          (time_turn net vars task bit s t u n dt du inside (p.so bit given fa fc) v dv before bits (Ok added) (p.sums bit given fa fc) made
           (λ mf mh. c.in_ok-broken.ensures.built (broken_before task.ant bit n) (broken_before task.con bit n) (bit n) task.ant task.con mf mh here (asks_keep s u task.ant c.args.ant.now ds du to_u fa) (asks_keep s u task.con c.args.con.now ds du to_u fc))).ok;
     }
 

@@ -1,4 +1,3 @@
-use Rattle.dd_nodes.specs.Stores.{Store}
 use Rattle.dd_nodes.proofs.Stores.{Keeps-trans}
 use Rattle.exact_engine.proofs.OneTimes.{settled_from, sources_failed}
 use Rattle.exact_engine.proofs.times.first_bits.Goals as goal
