@@ -1,5 +1,5 @@
--- Meaning. What the results of an exact check are, by references: where the functions of the store's
--- variables are 1.
+-- Meaning. What the results of an exact check are, by references: where the functions of the
+-- store's variables are 1.
 use Rattle.std.specs.Prelude.{◌≡◌, ◌↔◌, ℕ, Bool, List, IsTrue, length, take}
 use Rattle.dd_nodes.specs.Diagram.{Function}
 use Rattle.dd_nodes.specs.Stores.{IsRef, Means, Store, function}

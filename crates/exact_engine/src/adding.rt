@@ -83,7 +83,8 @@ fn add_time<N: Nodes>(
     requires asks { All (IsAskRef (N.store nodes.old) (length bits.now)) asks.now }
     requires refs { All (IsRef (N.store nodes.old)) bits.now }
     ensures built { (f : Function) (bit : ℕ → Function) (quints : List Quint)
-        → Means (N.store nodes.old) f sum → AreBits (N.store nodes.old) (length bits.now) bit bits.now
+        → Means (N.store nodes.old) f sum
+        → AreBits (N.store nodes.old) (length bits.now) bit bits.now
         → AreAsks (N.store nodes.old) quints asks.now
         → Built (cuts_added f bit (symbolic_cuts_at quints time))
         (HasFunction (whole disjunction f (broken_at bit (symbolic_cuts_at quints time))))

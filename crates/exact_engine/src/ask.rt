@@ -3,8 +3,8 @@
 use dd_nodes::Ref;
 use ste_base::{NodeId, Time};
 
-/// What a quintuple asks, by references: where the guard is 1 the net has the value's bit, from when
-/// on, and up to when.
+/// What a quintuple asks, by references: where the guard is 1 the net has the value's bit, from
+/// when on, and up to when.
 #[derive(Clone, Copy, PartialEq, Eq, Drop)]
 pub struct Ask {
     pub node: NodeId,

@@ -37,8 +37,8 @@ fn remember(met: &mut HashMap<Ref, Ref>, r: Ref, found: Ref) -> Result<(), Alloc
     }
 }
 
-/// Where some bits of the variables from `vars` on make the function 1, with what was met before. Each
-/// node that is made is one of the result's own, and calls are as deep as there are variables.
+/// Where some bits of the variables from `vars` on make the function 1, with what was met before.
+/// Each node that is made is one of the result's own, and calls are as deep as there are variables.
 fn some_of<N: Nodes>(
     nodes: &mut N,
     met: &mut HashMap<Ref, Ref>,
@@ -70,8 +70,8 @@ fn some_of<N: Nodes>(
     Ok(made)
 }
 
-/// Where some choices make the function 1: they are the variables from `vars` on, which stand behind
-/// all others.
+/// Where some choices make the function 1: they are the variables from `vars` on, which stand
+/// behind all others.
 pub fn some_choices<N: Nodes>(
     alloc: Global,
     nodes: &mut N,

@@ -76,10 +76,10 @@ pub fn open_count(net: &Net) -> u32
     count
 }
 
-/// How many choices an assertion leaves open on a net: the bits of a run that are free. These are the
-/// first values of the latches that may start with either bit, and at each time below the depth the
-/// bits of the inputs and free nets. It takes no memory, and its time is linear in the number of nets
-/// and quintuples.
+/// How many choices an assertion leaves open on a net: the bits of a run that are free. These are
+/// the first values of the latches that may start with either bit, and at each time below the depth
+/// the bits of the inputs and free nets. It takes no memory, and its time is linear in the number
+/// of nets and quintuples.
 pub fn choices(net: &Net, task: &Assertion) -> u64
     ensures { result ≡ length (choices net.now.raw task.now) }
 {

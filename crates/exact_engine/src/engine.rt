@@ -58,12 +58,14 @@ fn results<N: Nodes>(
     finish(alloc, ops, nodes, broken, vars)
 }
 
-/// The exactly strong and the exactly contradictory assignments of an assertion over `vars` variables,
-/// with where assignments and choices make a counterexample. The choices are the variables from `vars`
-/// on, in their order; the store may have more. The task's nodes are nets of the net.
+/// The exactly strong and the exactly contradictory assignments of an assertion over `vars`
+/// variables, with where assignments and choices make a counterexample. The choices are the
+/// variables from `vars` on, in their order; the store may have more. The task's nodes are nets of
+/// the net.
 ///
-/// `StepsOut` comes only where fewer steps were left at the start than the assertion needs. Whatever
-/// the answer, each node that is made is a node of the exact work functions, and what was held stays.
+/// `StepsOut` comes only where fewer steps were left at the start than the assertion needs.
+/// Whatever the answer, each node that is made is a node of the exact work functions, and what was
+/// held stays.
 pub fn exact_results<N: Nodes>(
     alloc: Global,
     nodes: &mut N,

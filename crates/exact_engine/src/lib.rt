@@ -1,5 +1,5 @@
-//! The symbolic engine for assertions on two-valued runs: every choice that an assertion leaves open
-//! has a variable of its own. Begin with `choices` and `exact_results`.
+//! The symbolic engine for assertions on two-valued runs: every choice that an assertion leaves
+//! open has a variable of its own. Begin with `choices` and `exact_results`.
 #![tactic(auto)]
 
 mod adding;

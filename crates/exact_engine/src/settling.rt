@@ -13,8 +13,8 @@ use dd_ops::{OpFault, Ops};
 use net_core::Net;
 use std::alloc::Global;
 
-/// The bits of all nets at one time: those of gates, in a settled order, put among the given ones of
-/// the other nets.
+/// The bits of all nets at one time: those of gates, in a settled order, put among the given ones
+/// of the other nets.
 pub fn settle<N: Nodes>(
     ops: &Ops,
     nodes: &mut N,

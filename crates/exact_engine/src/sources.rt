@@ -65,7 +65,8 @@ fn first_source<N: Nodes>(
     choice: u32,
 ) -> Result<Ref, OpFault>
     requires inside { node.0 < net.now.raw.nets }
-    requires first { IsTrue (first_test net.now.raw reset node.0) → first < (N.store nodes.old).vars }
+    requires first { IsTrue (first_test net.now.raw reset node.0)
+        → first < (N.store nodes.old).vars }
     requires choice { IsTrue (open_test net.now.raw node.0) → choice < (N.store nodes.old).vars }
     ensures built { (bit : ℕ → Function)
         → (IsTrue (first_test net.now.raw reset node.0)
@@ -88,8 +89,8 @@ fn first_source<N: Nodes>(
     }
 }
 
-/// The bit at a later time of a net that no gate drives, from the bits of one time earlier, with the
-/// variable of the next choice.
+/// The bit at a later time of a net that no gate drives, from the bits of one time earlier, with
+/// the variable of the next choice.
 fn next_source<N: Nodes>(
     ops: &Ops,
     nodes: &mut N,
@@ -157,8 +158,8 @@ pub fn first_sources<N: Nodes>(
     Ok(bits)
 }
 
-/// The bits at a later time of the nets that no gate drives, from the bits of one time earlier, with
-/// the variable of this time's first choice.
+/// The bits at a later time of the nets that no gate drives, from the bits of one time earlier,
+/// with the variable of this time's first choice.
 pub fn next_sources<N: Nodes>(
     alloc: Global,
     ops: &Ops,

@@ -81,8 +81,8 @@ fn next_bits<N: Nodes>(
     settle(ops, nodes, net, sources)
 }
 
-/// The bits of all nets at a time, from those of one time earlier, where there is one. `choice` is the
-/// variable of this time's first input.
+/// The bits of all nets at a time, from those of one time earlier, where there is one. `choice` is
+/// the variable of this time's first input.
 fn bits_at<N: Nodes>(
     alloc: Global,
     ops: &Ops,

@@ -10,15 +10,15 @@ use blif_lines::logical_lines;
 use blif_syntax::read_models;
 use bool_expr::Expr;
 use dd_nodes::{Nodes, PlainNodes, Ref};
+use dd_ops::OpFault;
+use dd_query::eval;
+use exact_engine::{ExactResults, choices, exact_results};
 use flat_net::flatten;
 use net_core::{Net, order};
 use net_names::NetNames;
 use std::alloc::{AllocError, Global};
 use std::test::Fail;
 use ste_base::{Items, Name, Time, VarId};
-use dd_ops::OpFault;
-use dd_query::eval;
-use exact_engine::{ExactResults, choices, exact_results};
 use ste_model::{Assertion, Quint};
 
 /// An expression over two variables.
@@ -55,9 +55,7 @@ fn net_of(alloc: Global, text: &[u8]) -> Result<Ready, Fail>
         Err(_) => return Err("no flat net".into()),
     };
     match order(alloc, raw) {
-        Ok(net) => {
-            Ok(Ready { net, names })
-        }
+        Ok(net) => { Ok(Ready { net, names }) }
         Err(_) => Err("no order".into()),
     }
 }
@@ -119,11 +117,12 @@ const AND_GATE: &str = ".model and2\n.inputs a b\n.outputs y\n.names a b y\n11 1
 
 const NOR_GATE: &str = ".model nor2\n.outputs y\n.names a b y\n1- 0\n-1 0\n.end\n";
 
-const OR_GATE: &str = ".model or3\n.inputs a b c\n.outputs y\n.names a b c y\n1-- 1\n-1- 1\n--1 1\n.end\n";
+const OR_GATE: &str =
+    ".model or3\n.inputs a b c\n.outputs y\n.names a b c y\n1-- 1\n-1- 1\n--1 1\n.end\n";
 
 const LATCH: &str = ".model l\n.inputs d\n.outputs q\n.latch d q 1\n.end\n";
 
-/// Whether an assignment is exactly strong, for the assignments 00, 01, 10 and 11 of the two variables.
+/// A bit for each of the assignments 00, 01, 10 and 11 of the two variables.
 type Set = [bool; 4];
 
 /// The exactly strong and the exactly contradictory assignments, and how many steps were used.
@@ -141,10 +140,26 @@ fn set_of(nodes: &mut PlainNodes, r: Ref) -> Set
     ensures store { ⟦<PlainNodes as Nodes>⟧.store nodes.new
         ≡ ⟦<PlainNodes as Nodes>⟧.store nodes.old }
 {
-    let none = eval(nodes, r, &[false, false, false, false, false, false, false, false]);
-    let last = eval(nodes, r, &[false, true, false, false, false, false, false, false]);
-    let first = eval(nodes, r, &[true, false, false, false, false, false, false, false]);
-    let both = eval(nodes, r, &[true, true, false, false, false, false, false, false]);
+    let none = eval(
+        nodes,
+        r,
+        &[false, false, false, false, false, false, false, false],
+    );
+    let last = eval(
+        nodes,
+        r,
+        &[false, true, false, false, false, false, false, false],
+    );
+    let first = eval(
+        nodes,
+        r,
+        &[true, false, false, false, false, false, false, false],
+    );
+    let both = eval(
+        nodes,
+        r,
+        &[true, true, false, false, false, false, false, false],
+    );
     [none, last, first, both]
 }
 
@@ -195,8 +210,10 @@ fn task_of(
     ant: &[Asked],
     con: &[Asked],
 ) -> Result<Assertion, Fail>
-    ensures ant { IfOk result (λ task. All (λ quint. quint.node.0 < ready.now.net.raw.nets) task.ant) }
-    ensures con { IfOk result (λ task. All (λ quint. quint.node.0 < ready.now.net.raw.nets) task.con) }
+    ensures ant { IfOk result (λ task.
+        All (λ quint. quint.node.0 < ready.now.net.raw.nets) task.ant) }
+    ensures con { IfOk result (λ task.
+        All (λ quint. quint.node.0 < ready.now.net.raw.nets) task.con) }
     ensures ant_reads { IfOk result (λ task. ReadBelow 2 task.ant) }
     ensures con_reads { IfOk result (λ task. ReadBelow 2 task.con) }
 {
@@ -347,7 +364,10 @@ fn has_results(
     for steps in 0..40 {
         match told_with(alloc, ready, task, steps)? {
             Some(told) => {
-                if told.strong != strong || told.contradictory != contradictory || told.used > steps {
+                if told.strong != strong || told.contradictory != contradictory {
+                    return Ok(false);
+                }
+                if told.used > steps {
                     return Ok(false);
                 }
             }
