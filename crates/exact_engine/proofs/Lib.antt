@@ -1,0 +1,14 @@
+pub mod Counted
+pub mod Leading
+pub mod Rows
+pub mod Values
+pub mod Settled
+pub mod Starts
+pub mod Added
+pub mod OneTimes
+pub mod AllTimes
+pub mod Chosen
+pub mod ExactTimes
+pub mod Reading
+pub mod Asked
+pub mod Resulting

@@ -1,0 +1,10 @@
+-- Definitions that serve private functions.
+pub mod Counts
+pub mod Joined
+pub mod Bits
+pub mod Sources
+pub mod Asks
+pub mod Asking
+pub mod Times
+pub mod Choosing
+pub mod Finishing

@@ -1,0 +1,20 @@
+//! The symbolic engine for assertions on two-valued runs: every choice that an assertion leaves
+//! open has a variable of its own. Begin with `choices` and `exact_results`.
+#![tactic(auto)]
+
+mod adding;
+pub mod ask;
+mod asks;
+mod choosing;
+mod counting;
+pub mod engine;
+mod finishing;
+mod gates;
+pub mod results;
+mod settling;
+mod sources;
+mod times;
+
+pub use counting::choices;
+pub use engine::exact_results;
+pub use results::ExactResults;

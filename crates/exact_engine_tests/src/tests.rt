@@ -1,0 +1,395 @@
+//! Exact results of worked examples, how many steps they need, and how many choices they leave
+//! open.
+
+ghost use Rattle.std.specs.Prelude.{◌≡◌, ◌≤◌, ◌<◌, ℕ, All, IfOk, IsTrue, length};
+ghost use Rattle.dd_nodes.specs.Stores.{IsRef};
+ghost use Rattle.ste_model.specs.Expressions.{reads};
+ghost use Rattle.ste_model.specs.Need.{ReadBelow};
+
+use blif_lines::logical_lines;
+use blif_syntax::read_models;
+use bool_expr::Expr;
+use dd_nodes::{Nodes, PlainNodes, Ref};
+use dd_ops::OpFault;
+use dd_query::eval;
+use exact_engine::{ExactResults, choices, exact_results};
+use flat_net::flatten;
+use net_core::{Net, order};
+use net_names::NetNames;
+use std::alloc::{AllocError, Global};
+use std::test::Fail;
+use ste_base::{Items, Name, Time, VarId};
+use ste_model::{Assertion, Quint};
+
+/// An expression over two variables.
+#[derive(Clone, Copy, Drop)]
+enum Value {
+    Zero,
+    One,
+    P,
+    Q,
+    NotP,
+    PAndQ,
+}
+
+/// For a net, guard and value, and the times.
+type Asked = (&'static str, Value, Value, Time, Time);
+
+/// A net with the names of its nets.
+#[derive(Drop)]
+struct Ready {
+    net: Net,
+    names: NetNames,
+}
+
+/// The net of a text.
+fn net_of(alloc: Global, text: &[u8]) -> Result<Ready, Fail>
+    requires { length text.now ≤ 20000 }
+{
+    let lines = logical_lines(alloc, text)?;
+    let Ok(models) = read_models(alloc, lines.as_slice()) else {
+        return Err("no models".into());
+    };
+    let (raw, names) = match flatten(alloc, &models) {
+        Ok(made) => made,
+        Err(_) => return Err("no flat net".into()),
+    };
+    match order(alloc, raw) {
+        Ok(net) => { Ok(Ready { net, names }) }
+        Err(_) => Err("no order".into()),
+    }
+}
+
+/// The expression of a value.
+fn expr_of(alloc: Global, value: Value) -> Result<Expr, AllocError>
+    ensures { IfOk result (λ expr. IsTrue (reads 2 expr)) }
+{
+    match value {
+        Value::Zero => Ok(Expr::Const(false)),
+        Value::One => Ok(Expr::Const(true)),
+        Value::P => Ok(Expr::Var(VarId(0))),
+        Value::Q => Ok(Expr::Var(VarId(1))),
+        Value::NotP => Ok(Expr::Not(Box::new(alloc, Expr::Var(VarId(0)))?)),
+        Value::PAndQ => {
+            let parts = Vec::from_array(alloc, [Expr::Var(VarId(0)), Expr::Var(VarId(1))])?;
+            Ok(Expr::All(parts))
+        }
+    }
+}
+
+/// The quintuples of what is asked.
+fn quints_of(
+    alloc: Global,
+    names: &NetNames,
+    nets: u32,
+    asked: &[Asked],
+) -> Result<Items<Quint>, Fail>
+    ensures nodes { IfOk result (λ quints. All (λ quint. quint.node.0 < nets) quints) }
+    ensures reads { IfOk result (λ quints. ReadBelow 2 quints) }
+{
+    let mut quints = Items::new(alloc);
+    for (name, guard, value, from, to) in asked {
+        let Some(node) = names.resolve(name.as_bytes()) else {
+            return Err("no such net".into());
+        };
+        if node.0 >= nets {
+            return Err("no such number".into());
+        }
+        let guard = expr_of(alloc, *guard)?;
+        let value = expr_of(alloc, *value)?;
+        quints.push(Quint {
+            guard,
+            node,
+            value,
+            from: *from,
+            to: *to,
+        })?;
+    }
+    Ok(quints)
+}
+
+const INVERTER: &str = ".model inv\n.inputs a\n.outputs y\n.names a y\n0 1\n.end\n";
+
+const BOTH_SIGNS: &str =
+    ".model both\n.inputs a\n.outputs y\n.names a n\n0 1\n.names a n y\n11 1\n.end\n";
+
+const AND_GATE: &str = ".model and2\n.inputs a b\n.outputs y\n.names a b y\n11 1\n.end\n";
+
+const NOR_GATE: &str = ".model nor2\n.outputs y\n.names a b y\n1- 0\n-1 0\n.end\n";
+
+const OR_GATE: &str =
+    ".model or3\n.inputs a b c\n.outputs y\n.names a b c y\n1-- 1\n-1- 1\n--1 1\n.end\n";
+
+const LATCH: &str = ".model l\n.inputs d\n.outputs q\n.latch d q 1\n.end\n";
+
+/// A bit for each of the assignments 00, 01, 10 and 11 of the two variables.
+type Set = [bool; 4];
+
+/// The exactly strong and the exactly contradictory assignments, and how many steps were used.
+#[derive(Clone, Copy, PartialEq, Eq, Drop)]
+struct Told {
+    strong: Set,
+    contradictory: Set,
+    used: u32,
+}
+
+/// The bit of a function of eight variables where the first two are these, and the others 0.
+fn bit_at(nodes: &mut PlainNodes, r: Ref, first: bool, second: bool) -> bool
+    requires held { IsRef (⟦<PlainNodes as Nodes>⟧.store nodes.old) r }
+    requires vars { (⟦<PlainNodes as Nodes>⟧.store nodes.old).vars ≡ 8 }
+    ensures held { IsRef (⟦<PlainNodes as Nodes>⟧.store nodes.new) r }
+    ensures vars { (⟦<PlainNodes as Nodes>⟧.store nodes.new).vars ≡ 8 }
+    ensures store { ⟦<PlainNodes as Nodes>⟧.store nodes.new
+        ≡ ⟦<PlainNodes as Nodes>⟧.store nodes.old }
+{
+    eval(
+        nodes,
+        r,
+        &[first, second, false, false, false, false, false, false],
+    )
+}
+
+/// The assignments at which a function of eight variables is 1, where the further variables are 0.
+fn set_of(nodes: &mut PlainNodes, r: Ref) -> Set
+    requires held { IsRef (⟦<PlainNodes as Nodes>⟧.store nodes.old) r }
+    requires vars { (⟦<PlainNodes as Nodes>⟧.store nodes.old).vars ≡ 8 }
+    ensures store { ⟦<PlainNodes as Nodes>⟧.store nodes.new
+        ≡ ⟦<PlainNodes as Nodes>⟧.store nodes.old }
+{
+    let none = bit_at(nodes, r, false, false);
+    let last = bit_at(nodes, r, false, true);
+    let first = bit_at(nodes, r, true, false);
+    let both = bit_at(nodes, r, true, true);
+    [none, last, first, both]
+}
+
+/// What the results tell.
+fn told_of(nodes: &mut PlainNodes, r: ExactResults) -> Told
+    requires strong { IsRef (⟦<PlainNodes as Nodes>⟧.store nodes.old) r.strong }
+    requires contradictory { IsRef (⟦<PlainNodes as Nodes>⟧.store nodes.old) r.contradictory }
+    requires vars { (⟦<PlainNodes as Nodes>⟧.store nodes.old).vars ≡ 8 }
+{
+    let strong = set_of(nodes, r.strong);
+    let contradictory = set_of(nodes, r.contradictory);
+    Told {
+        strong,
+        contradictory,
+        used: nodes.used(),
+    }
+}
+
+/// What is told of a task with so many steps; none where they are out.
+fn told_with(
+    alloc: Global,
+    ready: &Ready,
+    task: &Assertion,
+    steps: u32,
+) -> Result<Option<Told>, Fail>
+    requires steps { steps ≤ 1000 }
+    requires ant { All (λ quint. quint.node.0 < ready.now.net.raw.nets) task.now.ant }
+    requires con { All (λ quint. quint.node.0 < ready.now.net.raw.nets) task.now.con }
+    requires ant_reads { ReadBelow 2 task.now.ant }
+    requires con_reads { ReadBelow 2 task.now.con }
+{
+    if choices(&ready.net, task) > 6 {
+        return Err("too many choices".into());
+    }
+    let mut nodes = PlainNodes::new(alloc, 8, steps)?;
+    match exact_results(alloc, &mut nodes, &ready.net, task, 2) {
+        Ok(r) => Ok(Some(told_of(&mut nodes, r))),
+        Err(OpFault::StepsOut) => Ok(None),
+        Err(OpFault::OutOfMemory) => Err("no memory".into()),
+    }
+}
+
+/// The task of what is given and what is to follow.
+fn task_of(
+    alloc: Global,
+    ready: &Ready,
+    reset: bool,
+    ant: &[Asked],
+    con: &[Asked],
+) -> Result<Assertion, Fail>
+    ensures ant { IfOk result (λ task.
+        All (λ quint. quint.node.0 < ready.now.net.raw.nets) task.ant) }
+    ensures con { IfOk result (λ task.
+        All (λ quint. quint.node.0 < ready.now.net.raw.nets) task.con) }
+    ensures ant_reads { IfOk result (λ task. ReadBelow 2 task.ant) }
+    ensures con_reads { IfOk result (λ task. ReadBelow 2 task.con) }
+{
+    Ok(Assertion {
+        name: Name::from_bytes(alloc, b"t")?,
+        reset,
+        ant: quints_of(alloc, &ready.names, ready.net.nets(), ant)?,
+        con: quints_of(alloc, &ready.names, ready.net.nets(), con)?,
+    })
+}
+
+/// A net by its text, a task, its choices, its exact need, and what has to be told.
+type Case = (
+    &'static str,
+    bool,
+    &'static [Asked],
+    &'static [Asked],
+    u64,
+    u32,
+    Set,
+    Set,
+);
+
+const NONE: Set = [false, false, false, false];
+
+const ALL: Set = [true, true, true, true];
+
+/// Worked examples, whose results and needs were found by hand.
+const CASES: &[Case] = &[
+    // True, and not shown by sets of single nets.
+    (
+        BOTH_SIGNS,
+        false,
+        &[],
+        &[("y", Value::One, Value::Zero, 0, 1)],
+        1,
+        20,
+        NONE,
+        NONE,
+    ),
+    // Nothing is given: under each assignment some input breaks it.
+    (
+        INVERTER,
+        false,
+        &[],
+        &[("y", Value::One, Value::NotP, 0, 1)],
+        1,
+        5,
+        ALL,
+        NONE,
+    ),
+    (
+        INVERTER,
+        false,
+        &[("a", Value::One, Value::P, 0, 1)],
+        &[("y", Value::One, Value::NotP, 0, 1)],
+        1,
+        6,
+        NONE,
+        NONE,
+    ),
+    // The two variables have to be one; then the output is not the first.
+    (
+        INVERTER,
+        false,
+        &[
+            ("a", Value::One, Value::P, 0, 1),
+            ("a", Value::One, Value::Q, 0, 1),
+        ],
+        &[("y", Value::One, Value::P, 0, 1)],
+        1,
+        20,
+        [true, false, false, true],
+        [false, true, true, false],
+    ),
+    (
+        AND_GATE,
+        false,
+        &[
+            ("a", Value::One, Value::P, 0, 1),
+            ("b", Value::One, Value::Q, 0, 1),
+        ],
+        &[("y", Value::One, Value::PAndQ, 0, 1)],
+        2,
+        25,
+        NONE,
+        NONE,
+    ),
+    // Off-rows, over nets that are free.
+    (
+        NOR_GATE,
+        false,
+        &[("a", Value::One, Value::P, 0, 1)],
+        &[("y", Value::One, Value::P, 0, 1)],
+        2,
+        11,
+        ALL,
+        NONE,
+    ),
+    (
+        OR_GATE,
+        false,
+        &[],
+        &[("y", Value::One, Value::One, 0, 1)],
+        3,
+        11,
+        ALL,
+        NONE,
+    ),
+    (
+        LATCH,
+        true,
+        &[],
+        &[("q", Value::One, Value::One, 0, 1)],
+        1,
+        2,
+        NONE,
+        NONE,
+    ),
+    // Without reset the latch may start with 0.
+    (
+        LATCH,
+        false,
+        &[],
+        &[("q", Value::One, Value::One, 0, 2)],
+        3,
+        7,
+        ALL,
+        NONE,
+    ),
+];
+
+/// Whether a task has just these results, with as many steps as it needs, and with more; and with
+/// fewer these, or none.
+fn has_results(
+    alloc: Global,
+    ready: &Ready,
+    task: &Assertion,
+    need: u32,
+    strong: Set,
+    contradictory: Set,
+) -> Result<bool, Fail>
+    requires ant { All (λ quint. quint.node.0 < ready.now.net.raw.nets) task.now.ant }
+    requires con { All (λ quint. quint.node.0 < ready.now.net.raw.nets) task.now.con }
+    requires ant_reads { ReadBelow 2 task.now.ant }
+    requires con_reads { ReadBelow 2 task.now.con }
+{
+    for steps in 0..40 {
+        match told_with(alloc, ready, task, steps)? {
+            Some(told) => {
+                if told.strong != strong || told.contradictory != contradictory {
+                    return Ok(false);
+                }
+                if told.used > steps {
+                    return Ok(false);
+                }
+            }
+            None => {
+                if steps >= need {
+                    return Ok(false);
+                }
+            }
+        }
+    }
+    Ok(true)
+}
+
+#[test]
+fn worked_examples_have_their_exact_results(rt: HostRuntime) -> Result<(), Fail> {
+    for (text, reset, ant, con, count, need, strong, contradictory) in CASES {
+        let bytes = text.as_bytes();
+        assert!(&rt; bytes.len() <= 20000);
+        let ready = net_of(rt.alloc(), bytes)?;
+        let task = task_of(rt.alloc(), &ready, *reset, ant, con)?;
+        assert_eq!(&rt; choices(&ready.net, &task), *count);
+        assert!(&rt; has_results(rt.alloc(), &ready, &task, *need, *strong, *contradictory)?);
+    }
+    Ok(())
+}
