@@ -4,13 +4,15 @@ from __future__ import annotations
 import functools
 import os
 import pathlib
+import random
+import re
 import stat
 import sys
 import tempfile
 import unittest
-from typing import Any, Callable
+from typing import Any, Callable, List
 
-from stework import Fault, SteworkError
+from stework import Fault, SteworkError, Tasks, bits
 from stework.run import find_program
 
 TOP = pathlib.Path(__file__).resolve().parents[2]
@@ -29,6 +31,30 @@ def program() -> str:
 @functools.lru_cache(maxsize=None)
 def _say_once(words: str) -> None:
     print(words, file=sys.stderr)
+
+
+def random_tasks(rng: random.Random, net: str, count: int) -> Tasks:
+    """So many assertions and graphs on the nets of this netlist, of which most fail."""
+    tasks = Tasks(net)
+    assert tasks.netlist is not None
+    nets, v = sorted(tasks.netlist.signals), bits("v", 3)
+    inputs: List[str] = [word for line in re.findall(r"^\.inputs (.*)", pathlib.Path(net).read_text(), re.MULTILINE) for word in line.split()]
+    values = [v[0], ~v[1], v[1] ^ v[2], v == 3, 0, 1]
+    for number in range(count):
+        if rng.random() < 0.5:
+            t = tasks.ste(f"t{number}", reset=rng.random() < 0.5)
+            for _ in range(rng.randint(0, 6)):
+                t.ant(rng.choice(inputs), rng.choice(values), at=rng.choice([0, 1, range(0, 3)]), when=rng.choice([1, v[0], v != 2]))
+            for _ in range(rng.randint(1, 4)):
+                t.con(rng.choice(nets), rng.choice(values), at=rng.choice([0, 1, 2, range(1, 3)]), when=rng.choice([1, v[2], v != 5]))
+        else:
+            g = tasks.gste(f"t{number}", "a", reset=rng.random() < 0.5)
+            for tail, head in (("a", "b"), ("b", "b"), ("b", "c"), ("c", "a")):
+                edge = g.edge(tail, head)
+                for _ in range(rng.randint(0, 3)):
+                    edge.ant(rng.choice(inputs), rng.choice(values), when=rng.choice([1, v[0]]))
+                edge.con(rng.choice(nets), rng.choice(values), when=rng.choice([1, v[1]]))
+    return tasks
 
 
 TOLD = """

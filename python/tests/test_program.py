@@ -2,17 +2,16 @@
 from __future__ import annotations
 
 import os
-import pathlib
 import random
 import re
 import sys
 import types
-from typing import Any, List
+from typing import Any
 from unittest import mock
 
 from stework import Netlist, Refused, Tasks, Verdict, bit, bits, check, read_report, unasked
 
-from .support import Case, EXAMPLES, TOP, program
+from .support import Case, EXAMPLES, TOP, program, random_tasks
 
 INVERTER = ".model inverter\n.inputs a\n.outputs y\n.names a y\n0 1\n.end\n"
 p, q = bit("p"), bit("q")
@@ -175,7 +174,7 @@ class Program(Case):
         rng, failures, runs = random.Random(7), 0, 0
         for name in ["ram", "fifo", "arbiter", "pipeline"] * 5:
             net = str(EXAMPLES / f"{name}.blif")
-            tasks = self.random_tasks(rng, net)
+            tasks = random_tasks(rng, net, 4)
             options: Any = {"program": self.program, "wave": rng.random() < 0.5, "cubes": rng.choice([1, 64])}
             results = check(net, tasks, **options)
             self.assertEqual(read_report(results.text)[0], list(results.values()))
@@ -189,26 +188,3 @@ class Program(Case):
                 if result.run is not None and result.fails is not None:
                     self.assertEqual({result.run[result.fails.net][result.fails.time]}, {1 - bit for _, bit in failing})
         self.assertGreater(min(failures, runs), 15)
-
-    def random_tasks(self, rng: random.Random, net: str) -> Tasks:
-        """Assertions and graphs on the nets of this netlist, of which most fail."""
-        tasks = Tasks(net)
-        assert tasks.netlist is not None
-        nets, v = sorted(tasks.netlist.signals), bits("v", 3)
-        inputs: List[str] = [word for line in re.findall(r"^\.inputs (.*)", pathlib.Path(net).read_text(), re.MULTILINE) for word in line.split()]
-        for number in range(4):
-            values = [v[0], ~v[1], v[1] ^ v[2], v == 3, 0, 1]
-            if rng.random() < 0.5:
-                t = tasks.ste(f"t{number}", reset=rng.random() < 0.5)
-                for _ in range(rng.randint(0, 6)):
-                    t.ant(rng.choice(inputs), rng.choice(values), at=rng.choice([0, 1, range(0, 3)]), when=rng.choice([1, v[0], v != 2]))
-                for _ in range(rng.randint(1, 4)):
-                    t.con(rng.choice(nets), rng.choice(values), at=rng.choice([0, 1, 2, range(1, 3)]), when=rng.choice([1, v[2], v != 5]))
-            else:
-                g = tasks.gste(f"t{number}", "a", reset=rng.random() < 0.5)
-                for tail, head in (("a", "b"), ("b", "b"), ("b", "c"), ("c", "a")):
-                    edge = g.edge(tail, head)
-                    for _ in range(rng.randint(0, 3)):
-                        edge.ant(rng.choice(inputs), rng.choice(values), when=rng.choice([1, v[0]]))
-                    edge.con(rng.choice(nets), rng.choice(values), when=rng.choice([1, v[1]]))
-        return tasks

@@ -19,7 +19,6 @@ from __future__ import annotations
 import contextlib
 import os
 import random
-import re
 import signal
 import subprocess
 import sys
@@ -33,36 +32,13 @@ from typing import Any, Callable, Iterator, List, Optional, Tuple
 TOP = Path(__file__).resolve().parents[2]
 sys.path.insert(0, str(TOP / "python"))
 
-from stework import Plan, Progress, Tasks, Verdict, bits, check, read_report  # noqa: E402
+from stework import Plan, Progress, Tasks, Verdict, check, read_report  # noqa: E402
+from tests.support import random_tasks  # noqa: E402
 
 PROGRAM = os.path.abspath(sys.argv[1] if len(sys.argv) > 1 else TOP / "crates" / "stework" / "out" / "stework")
 ENVIRONMENT = {**os.environ, "PYTHONPATH": str(TOP / "python")}
 NETS = [str(TOP / "examples" / f"{name}.blif") for name in ("ram", "fifo", "arbiter", "pipeline")]
 STEPS = 100_000
-
-
-def random_tasks(rng: random.Random, net: str, count: int) -> Tasks:
-    """So many assertions and graphs on the nets of this netlist, of which most fail."""
-    tasks = Tasks(net)
-    assert tasks.netlist is not None
-    nets, v = sorted(tasks.netlist.signals), bits("v", 3)
-    inputs = [word for line in re.findall(r"^\.inputs (.*)", Path(net).read_text(), re.MULTILINE) for word in line.split()]
-    values = [v[0], ~v[1], v[1] ^ v[2], v == 3, 0, 1]
-    for number in range(count):
-        if rng.random() < 0.5:
-            t = tasks.ste(f"t{number}", reset=rng.random() < 0.5)
-            for _ in range(rng.randint(0, 6)):
-                t.ant(rng.choice(inputs), rng.choice(values), at=rng.choice([0, 1, range(0, 3)]), when=rng.choice([1, v[0], v != 2]))
-            for _ in range(rng.randint(1, 4)):
-                t.con(rng.choice(nets), rng.choice(values), at=rng.choice([0, 1, 2, range(1, 3)]), when=rng.choice([1, v[2], v != 5]))
-        else:
-            g = tasks.gste(f"t{number}", "a", reset=rng.random() < 0.5)
-            for tail, head in (("a", "b"), ("b", "b"), ("b", "c"), ("c", "a")):
-                edge = g.edge(tail, head)
-                for _ in range(rng.randint(0, 3)):
-                    edge.ant(rng.choice(inputs), rng.choice(values), when=rng.choice([1, v[0]]))
-                edge.con(rng.choice(nets), rng.choice(values), when=rng.choice([1, v[1]]))
-    return tasks
 
 
 def report_on_file(net: str, tasks: Tasks, folder: Path, steps: int = STEPS) -> str:
