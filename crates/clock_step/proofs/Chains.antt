@@ -9,7 +9,7 @@ use Rattle.net_core.specs.declared.raw.Gate.{Gate}
 use Rattle.net_core.specs.declared.raw.RawNet.{RawNet}
 use Rattle.clock_step.specs.declared.readers.Readers.{Readers}
 use Rattle.clock_step.specs.private.Readers.{AreChains, AreMarked, AreReaders, HasSlot, IsLast, IsNoInput, gate_at}
-use Rattle.clock_step.specs.private.Settled.{bit_at}
+use Rattle.clock_step.specs.Determined.{bit_at}
 
 -- ---- one slot more
 

@@ -5,7 +5,7 @@ use Rattle.std.proofs.Common.{eq-eqb, ne_eqb}
 use Rattle.std.proofs.lemmas.Bool.{cases_eq}
 use Rattle.ste_base.specs.declared.id.NodeId.{NodeId}
 use Rattle.clock_step.specs.Simulation.{bit_in}
-use Rattle.clock_step.specs.private.Settled.{bit_at}
+use Rattle.clock_step.specs.Determined.{bit_at}
 
 -- the bit of the node at place k, where it is none of those before
 bit_here : (nodes : List NodeId) (row : List Bool) (k : ℕ) (d : NodeId) (e : Bool) → k < length nodes → k < length row → ((j : ℕ) → j < k → (get_or nodes j d).0 ≢ (get_or nodes k d).0) → bit_in (take (suc k) nodes) row (get_or nodes k d).0 ≡ get_or row k e

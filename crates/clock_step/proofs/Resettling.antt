@@ -20,8 +20,9 @@ use Rattle.net_core.proofs.Ordered.{place_of, settled_by_order}
 use Rattle.net_core.proofs.Runs.{same_run}
 use Rattle.clock_step.specs.Simulation.{bit_in}
 use Rattle.clock_step.specs.private.Readers.{AreMarked, IsNoInput, gate_at}
-use Rattle.clock_step.specs.private.Resettled.{AreAtRest, AreFirstPlaced, AreInputsKept, AreTurned, IsAtRest, IsEverySource, IsPlaced}
-use Rattle.clock_step.specs.private.Settled.{AreBits, AreDetermined, bit_at}
+use Rattle.clock_step.specs.private.Resettled.{AreFirstPlaced, AreInputsKept, AreTurned, IsEverySource, IsPlaced}
+use Rattle.clock_step.specs.Resting.{AreAtRest, IsAtRest}
+use Rattle.clock_step.specs.Determined.{AreBits, AreDetermined, bit_at}
 use Rattle.clock_step.proofs.Settling.{bits_known}
 
 -- ---- one net

@@ -15,7 +15,8 @@ use Rattle.net_core.specs.Run.{AreGateBits, bit_of, gate_bit}
 use Rattle.net_core.specs.Flat.{IsInRange, IsSettledOrder}
 use Rattle.net_core.proofs.Ordered.{place_of}
 use Rattle.clock_step.specs.Simulation.{bit_in}
-use Rattle.clock_step.specs.private.Settled.{AreDetermined, AreLatched, AreSettled, bit_at}
+use Rattle.clock_step.specs.private.Settled.{AreLatched, AreSettled}
+use Rattle.clock_step.specs.Determined.{AreDetermined, bit_at}
 
 -- bits at nets, where each is known
 pub bits_known : {X : Type 0} (net_of : X → ℕ) (one other : ℕ → Bool) (xs : List X) → All (λ x. one (net_of x) ≡ other (net_of x)) xs → map (λ x. one (net_of x)) xs ≡ map (λ x. other (net_of x)) xs

@@ -12,7 +12,7 @@ use Rattle.net_core.proofs.Ordered.{settled_by_order}
 use Rattle.net_core.proofs.Runs.{some_run}
 use Rattle.clock_step.specs.declared.inputs.Inputs.{Inputs}
 use Rattle.clock_step.specs.Simulation.{AreOutputs, IsSimulation, bit_in, first_bit, first_bits, given_bit, outputs_at}
-use Rattle.clock_step.specs.private.Settled.{AreBits, AreDetermined, bit_at}
+use Rattle.clock_step.specs.Determined.{AreBits, AreDetermined, bit_at}
 use Rattle.clock_step.proofs.Settling.{bits_known}
 
 -- the bits at the latches' outputs, as a list

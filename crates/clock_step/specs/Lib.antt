@@ -5,4 +5,6 @@ pub mod Answer
 pub mod Simulation
 pub mod Rules
 pub mod Laws
+pub mod Determined
+pub mod Resting
 pub mod private

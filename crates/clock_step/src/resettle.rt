@@ -4,8 +4,9 @@ ghost use Rattle.std.specs.Prelude.{◌≡◌, ◌≢◌, ◌<◌, ◌+◌, ℕ,
 ghost use Rattle.ste_base.specs.declared.id.NodeId.{NodeId};
 ghost use Rattle.net_core.specs.Run.{IsUndriven};
 ghost use Rattle.clock_step.specs.private.Readers.{AreReaders};
-ghost use Rattle.clock_step.specs.private.Settled.{AreBits, AreDetermined};
-ghost use Rattle.clock_step.specs.private.Resettled.{AreAtRest, AreNodesPlaced, AreTurned, IsEverySource, IsPlaced};
+ghost use Rattle.clock_step.specs.Determined.{AreBits, AreDetermined};
+ghost use Rattle.clock_step.specs.private.Resettled.{AreNodesPlaced, AreTurned, IsEverySource, IsPlaced};
+ghost use Rattle.clock_step.specs.Resting.{AreAtRest};
 
 use crate::readers::Readers;
 use crate::settle::cover_bit;

@@ -5,7 +5,8 @@ ghost use Rattle.std.specs.List.{list_all, zip};
 ghost use Rattle.net_core.specs.Cover.{admits, cover_bit, matches, some_matches};
 ghost use Rattle.net_core.specs.Run.{AreGateBits};
 ghost use Rattle.clock_step.specs.Simulation.{bit_in};
-ghost use Rattle.clock_step.specs.private.Settled.{AreBits, AreDetermined, AreLatched, AreSettled, bit_at};
+ghost use Rattle.clock_step.specs.private.Settled.{AreLatched, AreSettled};
+ghost use Rattle.clock_step.specs.Determined.{AreBits, AreDetermined, bit_at};
 
 use net_core::{Cover, Lit, Net, Row};
 use ste_base::NodeId;

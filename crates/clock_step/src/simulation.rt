@@ -3,7 +3,7 @@
 ghost use Rattle.std.specs.Prelude.{◌≡◌, ◌<◌, All, IfOk, IsTrue, length, map};
 ghost use Rattle.clock_step.specs.Order.{is_undriven};
 ghost use Rattle.clock_step.specs.Simulation.{AreOutputs, first_bit, first_bits, outputs_at};
-ghost use Rattle.clock_step.specs.private.Settled.{bit_at};
+ghost use Rattle.clock_step.specs.Determined.{bit_at};
 
 use crate::inputs::Inputs;
 use crate::settle::{bit_at, settle};

@@ -4,7 +4,7 @@ use Rattle.std.specs.Prelude.{All, AllPairs, ◌⊎◌}
 use Rattle.ste_base.specs.declared.id.NodeId.{NodeId}
 use Rattle.net_core.specs.declared.raw.Latch.{Latch}
 use Rattle.counter_run.specs.private.Asking.{start_bit}
-use Rattle.clock_step.specs.private.Settled.{bit_at}
+use Rattle.clock_step.specs.Determined.{bit_at}
 use Rattle.std.proofs.lemmas.Bool.{cases_eq, cases_lt}
 use Rattle.std.proofs.lemmas.List.{get_or_default, length-replicate, take_at}
 use Rattle.counter_run.specs.private.Matrix.{IsMatrix, SameShape, cell}

@@ -13,7 +13,7 @@ use Rattle.net_core.specs.OneRun.{IsGivenRun}
 use Rattle.net_core.proofs.Ordered.{settled_by_order}
 use Rattle.net_core.proofs.Runs.{some_run}
 use Rattle.clock_step.specs.Simulation.{bit_in}
-use Rattle.clock_step.specs.private.Settled.{AreBits, AreDetermined, bit_at}
+use Rattle.clock_step.specs.Determined.{AreBits, AreDetermined, bit_at}
 use Rattle.clock_step.proofs.Settling.{bits_known}
 use Rattle.counter_run.specs.private.Matrix.{AreSourceNodes, cell}
 

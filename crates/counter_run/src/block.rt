@@ -1,7 +1,7 @@
 //! Bits of some times in a row, which go into the rows together; begin with `Block`.
 
 ghost use Rattle.std.specs.Prelude.{◌≡◌, ◌≢◌, ◌≤◌, ◌<◌, ◌⊎◌, ◌+◌, ◌-◌, ◌^◌, ℕ, All, IfOk, OnOk, false, length, slice_index_or};
-ghost use Rattle.clock_step.specs.private.Settled.{bit_at};
+ghost use Rattle.clock_step.specs.Determined.{bit_at};
 ghost use Rattle.counter_run.specs.private.Block.{IsBlock, block_bit, over_block};
 ghost use Rattle.counter_run.specs.private.Matrix.{SameShape, cell};
 

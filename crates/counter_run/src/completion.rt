@@ -2,7 +2,7 @@
 
 ghost use Rattle.std.specs.Prelude.{◌≡◌, ◌<◌, OnOk, IfOk, length, map, replicate, true};
 ghost use Rattle.net_core.specs.OneRun.{IsGivenRun};
-ghost use Rattle.clock_step.specs.private.Settled.{bit_at};
+ghost use Rattle.clock_step.specs.Determined.{bit_at};
 ghost use Rattle.ste_model.specs.Runs.{HasRows, run_of};
 ghost use Rattle.counter_run.specs.private.Matrix.{AreSourceNodes, IsMatrix, cell};
 

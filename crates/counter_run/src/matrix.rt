@@ -1,7 +1,7 @@
 //! Rows of bits, one for each net; begin with `zeros`.
 
 ghost use Rattle.std.specs.Prelude.{◌≡◌, ◌≢◌, ◌<◌, ℕ, All, IfOk, OnOk, false, length, map, replicate};
-ghost use Rattle.clock_step.specs.private.Settled.{bit_at};
+ghost use Rattle.clock_step.specs.Determined.{bit_at};
 ghost use Rattle.counter_run.specs.private.Matrix.{SameShape, cell};
 
 use crate::row::Row;

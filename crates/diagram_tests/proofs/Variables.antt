@@ -14,7 +14,7 @@ use Rattle.dd_nodes.proofs.Members.{Contains-head, Contains-filter_of, Contains-
 use Rattle.dd_nodes.proofs.Sizes.{walks_all, from_var}
 use Rattle.dd_nodes.proofs.Stores.{IsGood}
 use Rattle.dd_nodes.proofs.Walks.{IsAt, at_or_above, child-above, child-constant, from_held}
-use Rattle.dd_ops.specs.private.Recursion.{half}
+use Rattle.dd_ops.specs.Splitting.{half}
 use Rattle.dd_ops.proofs.Splits.{HasChildren, Splits-children}
 use Rattle.dd_ops.proofs.Steps.{variable_splits}
 

@@ -12,7 +12,8 @@ use Rattle.net_core.specs.declared.cover.Lit.{Lit}
 use Rattle.net_core.specs.Work.{SymbolicSet, negation, cut_work, cut_set, whole, always, never, everything, conjunction, disjunction, factor, factors, product, products, some_bit, row_products, rows_chains, rows_work, sums}
 use Rattle.dual_rail.specs.declared.rails.Rails.{Rails}
 use Rattle.dual_rail.specs.Rail.{Built, HasFunction, AreRails, AreRefs}
-use Rattle.dual_rail.specs.private.Parts.{row_work, without, without_work, Reached}
+use Rattle.dual_rail.specs.private.Parts.{row_work, without, without_work}
+use Rattle.dual_rail.specs.Calls.{Reached}
 use Rattle.dual_rail.proofs.Works.{Within, Built-wider, last, Rails-keep, set_where, own_set}
 use Rattle.dd_nodes.proofs.Spending.{own}
 use Rattle.dual_rail.proofs.Chains.{chain-has, whole-next, length-factors, factors-at, row_products-at, length-row_products, rows_chains-has, some_bit-has}

@@ -1,2 +1,3 @@
 pub mod Rail
+pub mod Calls
 pub mod private

@@ -16,7 +16,7 @@ use Rattle.net_core.specs.Work.{chain, never, whole}
 use Rattle.ste_model.specs.Expressions.{all_work, exclusive_disjunction, reads, symbolic_value}
 use Rattle.ste_model.proofs.Values.{functions_are_values, values_of}
 use Rattle.dual_rail.specs.Rail.{Built, HasFunction}
-use Rattle.dual_rail.specs.private.Parts.{Reached}
+use Rattle.dual_rail.specs.Calls.{Reached}
 use Rattle.dual_rail.proofs.Works.{Within, Built-answer, Built-wider, last, more}
 use Rattle.dual_rail.proofs.Chains.{chain-has, whole-next}
 

@@ -16,7 +16,7 @@ use Rattle.dd_nodes.proofs.Walks.{IsFrom-grows, IsFrom-less, bit-fixed, canonica
 use Rattle.dd_ops.proofs.Terminal.{one_bit, zero_bit}
 use Rattle.dd_ops.specs.declared.fault.OpFault.{OpFault}
 use Rattle.dd_ops.specs.Answer.{Answer}
-use Rattle.dd_ops.specs.private.Recursion.{Splits, half}
+use Rattle.dd_ops.specs.Splitting.{Splits, half}
 use Rattle.dual_rail.specs.Rail.{Built, HasFunction}
 use Rattle.dual_rail.proofs.Works.{SoFar, Built-answer, Built-covers, Built-good, here, last}
 use Rattle.gate_sets.proofs.Halving.{spends_below}

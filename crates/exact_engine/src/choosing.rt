@@ -5,7 +5,7 @@ ghost use Rattle.std.specs.HashMap.{get};
 ghost use Rattle.dd_nodes.specs.Diagram.{Function, IsFrom, same_ref};
 ghost use Rattle.dd_nodes.specs.Stores.{IsRef};
 ghost use Rattle.dd_ops.specs.Answer.{Answer};
-ghost use Rattle.dd_ops.specs.private.Recursion.{Splits};
+ghost use Rattle.dd_ops.specs.Splitting.{Splits};
 ghost use Rattle.dual_rail.specs.Rail.{Built, HasFunction};
 ghost use Rattle.exact_engine.specs.private.Choosing.{AreMet, some_behind};
 ghost use Rattle.dd_nodes.specs.declared.node.Ref.{Ref};

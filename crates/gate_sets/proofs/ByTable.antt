@@ -15,7 +15,7 @@ use Rattle.dd_nodes.proofs.Stores.{IsGood, IsGood-at, Means-keeps, Builds-weaker
 use Rattle.dd_nodes.proofs.Spending.{Covers, Means-same}
 use Rattle.dd_ops.specs.declared.fault.OpFault.{OpFault}
 use Rattle.dd_ops.specs.Answer.{Answer}
-use Rattle.dd_ops.specs.private.Recursion.{Splits, half}
+use Rattle.dd_ops.specs.Splitting.{Splits, half}
 use Rattle.dd_ops.proofs.Terminal.{one_bit}
 use Rattle.net_core.specs.Work.{SymbolicSet}
 use Rattle.dual_rail.specs.declared.rails.Rails.{Rails}

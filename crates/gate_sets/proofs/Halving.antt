@@ -15,7 +15,7 @@ use Rattle.dd_nodes.proofs.Stores.{IsGood, Builds-weaker, IsSpent-weaker}
 use Rattle.dd_nodes.proofs.Spending.{Covers, Means-same}
 use Rattle.dd_ops.proofs.Terminal.{one_bit, zero_bit}
 use Rattle.dd_ops.specs.declared.fault.OpFault.{OpFault}
-use Rattle.dd_ops.specs.private.Recursion.{Splits}
+use Rattle.dd_ops.specs.Splitting.{Splits}
 use Rattle.net_core.specs.declared.cover.Lit.{Lit}
 use Rattle.net_core.specs.Cases.{begins_with, half_of_rows, without_first}
 use Rattle.net_core.specs.Work.{SymbolicSet}

@@ -11,7 +11,7 @@ use Rattle.dd_nodes.specs.Stores.{Store, Keeps, Means, function, node_of}
 use Rattle.dd_nodes.proofs.Walks.{fixed, bit-fixed, drop-fixed, from_function, length-fixed, length-up_to, up_to, value-held}
 use Rattle.dd_nodes.proofs.Stores.{IsGood}
 use Rattle.dd_ops.proofs.Terminal.{one_bit, zero_bit}
-use Rattle.dd_ops.specs.private.Recursion.{Splits, half}
+use Rattle.dd_ops.specs.Splitting.{Splits, half}
 use Rattle.net_core.specs.declared.cover.Lit.{Lit}
 use Rattle.net_core.specs.declared.cover.Lit.TheVariants.{Zero, One, Any}
 use Rattle.net_core.specs.Cases.{begins_with, half_of_rows, without_first}

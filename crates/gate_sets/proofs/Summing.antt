@@ -13,7 +13,7 @@ use Rattle.dual_rail.specs.Rail.{Built, HasFunction}
 use Rattle.dual_rail.proofs.Works.{SoFar, Within, Built-wider, last}
 use Rattle.std.proofs.Common.{All}
 use Rattle.ste_base.specs.declared.id.NodeId.{NodeId}
-use Rattle.dual_rail.specs.private.Parts.{Reached}
+use Rattle.dual_rail.specs.Calls.{Reached}
 use Rattle.gate_sets.specs.declared.net_rails.NetRails.{NetRails}
 use Rattle.gate_sets.specs.NetSets.{AreNetRails, HaveInputs, sets_at}
 use Rattle.gate_sets.proofs.NetRefs.{Net-keeps, input_here, set_here}

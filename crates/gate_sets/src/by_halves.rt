@@ -5,7 +5,7 @@
 ghost use Rattle.std.specs.Prelude.{◌≡◌, ◌≢◌, ◌↔◌, ◌+◌, ◌<◌, ◌≤◌, ◌∷◌, [], ℕ, List, All, IfOk, IfSome, IsTrue, OnOk, drop, length, map, take, if◌then◌else◌};
 ghost use Rattle.dd_nodes.specs.Diagram.{Function, IsFrom};
 ghost use Rattle.dd_ops.specs.Answer.{Answer};
-ghost use Rattle.dd_ops.specs.private.Recursion.{Splits};
+ghost use Rattle.dd_ops.specs.Splitting.{Splits};
 ghost use Rattle.std.specs.List.{flat_map, list_any};
 ghost use Rattle.net_core.specs.declared.cover.Lit.{Lit};
 ghost use Rattle.net_core.specs.Cases.{begins_with, half_of_rows, without_first};

@@ -5,7 +5,7 @@
 ghost use Rattle.std.specs.Prelude.{◌≡◌, ◌≤◌, ◌<◌, ◌+◌, ◌∷◌, [], ℕ, All, IfOk, OnOk, drop, length, map, take};
 ghost use Rattle.dd_nodes.specs.Diagram.{Function, IsFrom, child};
 ghost use Rattle.dd_nodes.specs.Stores.{IsRef, Keeps};
-ghost use Rattle.dd_ops.specs.private.Recursion.{Splits};
+ghost use Rattle.dd_ops.specs.Splitting.{Splits};
 ghost use Rattle.dual_rail.specs.Rail.{AreRefs, Built, HasSet};
 ghost use Rattle.net_core.specs.Work.{SymbolicSet};
 ghost use Rattle.gate_sets.specs.NetSets.{AreNetRefs, HaveInputs, net_at, sets_at};

@@ -17,7 +17,7 @@ use Rattle.sym_step.specs.private.Boards.{AreFull}
 use Rattle.gate_sets.specs.NetSets.{AreNetRails}
 use Rattle.gate_sets.proofs.NetRefs.{Net-keeps}
 use Rattle.dual_rail.specs.Rail.{Built, HasFunction}
-use Rattle.dual_rail.specs.private.Parts.{Reached}
+use Rattle.dual_rail.specs.Calls.{Reached}
 use Rattle.dual_rail.proofs.Works.{Within, Built-wider, last}
 use Rattle.dual_rail.proofs.Chains.{chain-has, whole-next}
 use Rattle.dual_rail.proofs.Turns.{zip_at, zip_long, within_two}

@@ -4,7 +4,7 @@ use Rattle.ste_base.specs.declared.id.NodeId.{NodeId}
 use Rattle.net_core.specs.declared.raw.Gate.{Gate}
 use Rattle.net_core.specs.declared.raw.RawNet.{RawNet}
 use Rattle.clock_step.specs.declared.readers.Readers.{Readers}
-use Rattle.clock_step.specs.private.Settled.{bit_at}
+use Rattle.clock_step.specs.Determined.{bit_at}
 
 -- the gate at a place of the order
 abbrev pub gate_at : RawNet → List ℕ → ℕ → Gate → Gate

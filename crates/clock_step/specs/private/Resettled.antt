@@ -1,27 +1,19 @@
 -- For private functions. The bits of one time, got from those of another: a gate that is not due is at rest, whatever time
 -- the bits are of.
-use Rattle.std.specs.Prelude.{◌≡◌, ◌≢◌, ◌<◌, ℕ, Bool, false, List, All, length, map, slice_index_or}
+use Rattle.std.specs.Prelude.{◌≡◌, ◌≢◌, ◌<◌, ℕ, Bool, false, List, All, length, slice_index_or}
 use Rattle.ste_base.specs.declared.id.NodeId.{NodeId}
 use Rattle.net_core.specs.declared.raw.Gate.{Gate}
 use Rattle.net_core.specs.declared.raw.RawNet.{RawNet}
-use Rattle.net_core.specs.Run.{IsUndriven, gate_bit}
+use Rattle.net_core.specs.Run.{IsUndriven}
 use Rattle.clock_step.specs.private.Readers.{IsNoInput, gate_at}
-use Rattle.clock_step.specs.private.Settled.{bit_at}
+use Rattle.clock_step.specs.Determined.{bit_at}
+use Rattle.clock_step.specs.Resting.{AreAtRest}
 
 -- each net that nothing drives is among the nodes
 abbrev pub IsEverySource : RawNet → List NodeId → Type 0
 IsEverySource net nodes =
     (id : ℕ) → id < net.nets → IsUndriven net id →
     (k : ℕ) × (k < length nodes) × ((d : NodeId) → (slice_index_or nodes k d).0 ≡ id)
-
--- the gate's output has the gate's function of the bits of its inputs
-abbrev pub IsAtRest : RawNet → List Bool → Gate → Type 0
-IsAtRest net bits gate = bit_at bits gate.output.0 ≡ gate_bit net gate (map (λ input. bit_at bits input.0) gate.inputs)
-
--- each gate that is not due is at rest
-abbrev pub AreAtRest : RawNet → List ℕ → List Bool → List Bool → Type 0
-AreAtRest net order due bits =
-    (k : ℕ) (d : Gate) → k < length order → bit_at due k ≡ false → IsAtRest net bits (gate_at net order k d)
 
 -- the gate's inputs have the same bits in both rows
 abbrev pub AreInputsKept : List Bool → List Bool → Gate → Type 0

@@ -1,19 +1,9 @@
 -- For private functions. The bits of one time, as the simulator comes to them net by net.
-use Rattle.std.specs.Prelude.{◌≡◌, ◌≢◌, ◌<◌, ◌≤◌, ℕ, List, length, map, All, Bool, false, slice_index, slice_index_or}
-use Rattle.ste_base.specs.declared.id.NodeId.{NodeId}
+use Rattle.std.specs.Prelude.{◌≡◌, ◌≢◌, ◌<◌, ◌≤◌, ℕ, List, length, All, Bool, slice_index, slice_index_or}
 use Rattle.net_core.specs.declared.raw.Gate.{Gate}
 use Rattle.net_core.specs.declared.raw.Latch.{Latch}
 use Rattle.net_core.specs.declared.raw.RawNet.{RawNet}
-use Rattle.net_core.specs.Run.{AreGateBits, IsUndriven}
-use Rattle.clock_step.specs.Simulation.{bit_in}
-
--- the bit of a net in a row of bits, one for each net; what stands behind the row is 0
-abbrev pub bit_at : List Bool → ℕ → Bool
-bit_at bits id = slice_index_or bits id false
-
--- each net has its bit
-abbrev pub AreBits : RawNet → (ℕ → Bool) → List Bool → Type 0
-AreBits net bit bits = (id : ℕ) → id < net.nets → bit_at bits id ≡ bit id
+use Rattle.clock_step.specs.Determined.{bit_at}
 
 -- the nets that no gate and no latch from the n-th on drives have their bits
 abbrev pub AreLatched : RawNet → ℕ → (ℕ → Bool) → List Bool → Type 0
@@ -27,9 +17,3 @@ AreSettled net order n bit bits =
     (id : ℕ) → id < net.nets →
     ((k : ℕ) (d : Gate) → n ≤ k → k < length order → (slice_index_or net.gates (slice_index order k) d).output.0 ≢ id) →
     bit_at bits id ≡ bit id
-
--- the bits of one time, from a row with a bit for each of these nodes and what the latches hold
-pub record AreDetermined (net : RawNet) (nodes : List NodeId) (row held : List Bool) (bit : ℕ → Bool) : Type 0 where
-  pub gates : AreGateBits net bit
-  pub given : (id : ℕ) → id < net.nets → IsUndriven net id → bit id ≡ bit_in nodes row id
-  pub latches : held ≡ map (λ latch. bit latch.output.0) net.latches

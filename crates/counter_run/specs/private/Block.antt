@@ -1,6 +1,6 @@
 -- For private functions. Bits of all nets at some times in a row, which the rows do not have yet.
 use Rattle.std.specs.Prelude.{◌≡◌, ◌≤◌, ◌-◌, ◌*◌, ◌+◌, ◌&&◌, ℕ, Bool, length, if◌then◌else◌, nat_le, nat_lt}
-use Rattle.clock_step.specs.private.Settled.{bit_at}
+use Rattle.clock_step.specs.Determined.{bit_at}
 use Rattle.counter_run.specs.declared.block.Block.{Block}
 
 -- a bit for each of so many nets at each of the times

@@ -1,6 +1,6 @@
 use Rattle.std.proofs.Common.{◌≡◌, ℕ, length, take}
 use Rattle.clock_step.specs.Simulation.{bit_in}
-use Rattle.clock_step.specs.private.Settled.{bit_at}
+use Rattle.clock_step.specs.Determined.{bit_at}
 use Rattle.clock_step.proofs.settle.place_inputs.Given as goal
 
 -- the nodes so far have their bits, and each other net has 0

@@ -3,7 +3,7 @@ use Rattle.std.specs.Prelude.{slice_get, Some}
 use Rattle.std.proofs.lemmas.List.{length-map}
 use Rattle.net_core.specs.declared.raw.Latch.{Latch}
 use Rattle.clock_step.specs.Simulation.{IsSimulation, first_bit, outputs_at}
-use Rattle.clock_step.specs.private.Settled.{AreBits, bit_at}
+use Rattle.clock_step.specs.Determined.{AreBits, bit_at}
 use Rattle.clock_step.proofs.Simulated.{are_outputs, determined, held_first, held_next, more_outputs}
 use Rattle.clock_step.proofs.simulation.outputs_of.Goals as goal
 

@@ -1,5 +1,5 @@
 use Rattle.std.proofs.Common.{◌≡◌, length}
-use Rattle.clock_step.specs.private.Resettled.{AreAtRest}
+use Rattle.clock_step.specs.Resting.{AreAtRest}
 use Rattle.counter_run.specs.private.Block.{IsBlock, over_block}
 use Rattle.counter_run.specs.private.Matrix.{IsMatrix, cell}
 use Rattle.counter_run.proofs.Given.{AreCompleted}

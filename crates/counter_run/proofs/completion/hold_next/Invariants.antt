@@ -1,5 +1,5 @@
 use Rattle.std.proofs.Common.{◌≡◌, map, take}
-use Rattle.clock_step.specs.private.Settled.{bit_at}
+use Rattle.clock_step.specs.Determined.{bit_at}
 use Rattle.counter_run.proofs.completion.hold_next.Given as goal
 
 abbrev pub invariant-loop-latch : goal.invariant-loop-latch

@@ -1,5 +1,5 @@
 use Rattle.std.proofs.Common.{◌≡◌, ◌≢◌, ◌<◌, ℕ}
-use Rattle.clock_step.specs.private.Settled.{bit_at}
+use Rattle.clock_step.specs.Determined.{bit_at}
 use Rattle.counter_run.specs.private.Matrix.{SameShape, cell}
 use Rattle.counter_run.proofs.matrix.put_column.Given as goal
 

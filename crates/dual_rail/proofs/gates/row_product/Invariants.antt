@@ -3,7 +3,8 @@ use Rattle.std.specs.List.{AllZip}
 use Rattle.dd_nodes.specs.Stores.{IsRef, Keeps}
 use Rattle.net_core.specs.Work.{SymbolicSet, always, conjunction, factors, whole}
 use Rattle.dual_rail.specs.Rail.{AreRails}
-use Rattle.dual_rail.specs.private.Parts.{Reached, row_work}
+use Rattle.dual_rail.specs.private.Parts.{row_work}
+use Rattle.dual_rail.specs.Calls.{Reached}
 use Rattle.dual_rail.proofs.gates.row_product.Given as goal
 
 -- the product of the first literals

@@ -3,7 +3,7 @@ use Rattle.std.specs.List.{AllZip}
 use Rattle.dd_nodes.specs.Stores.{IsRef, Keeps}
 use Rattle.net_core.specs.Work.{SymbolicSet, never, disjunction, row_products, rows_work, whole}
 use Rattle.dual_rail.specs.Rail.{AreRails}
-use Rattle.dual_rail.specs.private.Parts.{Reached}
+use Rattle.dual_rail.specs.Calls.{Reached}
 use Rattle.dual_rail.proofs.gates.rows_sum.Given as goal
 
 -- the sum of the first rows

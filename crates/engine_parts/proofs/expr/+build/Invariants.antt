@@ -2,7 +2,7 @@ use Rattle.std.proofs.Common.{◌≡◌, map, All}
 use Rattle.std.specs.Prelude.{IsTrue}
 use Rattle.net_core.specs.Work.{always, never, conjunction, disjunction}
 use Rattle.ste_model.specs.Expressions.{symbolic_value, exclusive_disjunction, joined, reads}
-use Rattle.dual_rail.specs.private.Parts.{Reached}
+use Rattle.dual_rail.specs.Calls.{Reached}
 use Rattle.engine_parts.proofs.Exprs.{work_of, so_far}
 use Rattle.engine_parts.proofs.expr.+build.Given as goal
 

@@ -11,7 +11,7 @@ use Rattle.dd_nodes.specs.Stores.{Store, Keeps, Means}
 use Rattle.dd_nodes.specs.declared.node.Node.{Node}
 use Rattle.dd_nodes.proofs.Stores.{IsGood, Keeps-refl, Means-keeps}
 use Rattle.dd_ops.specs.declared.fault.OpFault.{OpFault}
-use Rattle.dd_ops.specs.private.Recursion.{Splits}
+use Rattle.dd_ops.specs.Splitting.{Splits}
 use Rattle.net_core.specs.Cases.{begins_with, half_of_rows, without_first}
 use Rattle.net_core.specs.Work.{SymbolicSet}
 use Rattle.dual_rail.specs.Rail.{Built, HasFunction}

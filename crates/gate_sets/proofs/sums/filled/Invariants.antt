@@ -3,7 +3,7 @@ use Rattle.dd_nodes.specs.Stores.{IsRef, Means, Keeps}
 use Rattle.net_core.specs.declared.cover.Lit.{Lit}
 use Rattle.net_core.specs.declared.cover.Lit.TheVariants.{Any}
 use Rattle.net_core.specs.Work.{SymbolicSet, factors, product, products}
-use Rattle.dual_rail.specs.private.Parts.{Reached}
+use Rattle.dual_rail.specs.Calls.{Reached}
 use Rattle.gate_sets.specs.NetSets.{HaveInputs, sets_at}
 use Rattle.gate_sets.proofs.Summing.{begun_product}
 use Rattle.gate_sets.proofs.sums.filled.Given as goal

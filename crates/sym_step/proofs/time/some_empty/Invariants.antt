@@ -2,7 +2,7 @@ use Rattle.std.proofs.Common.{List, take, map, ◌++◌}
 use Rattle.std.specs.List.{AllZip}
 use Rattle.dd_nodes.specs.Stores.{IsRef, Keeps}
 use Rattle.net_core.specs.Work.{SymbolicSet, never, disjunction, no_bit, some_bit, sums, whole}
-use Rattle.dual_rail.specs.private.Parts.{Reached}
+use Rattle.dual_rail.specs.Calls.{Reached}
 use Rattle.gate_sets.specs.NetSets.{AreNetRails}
 use Rattle.sym_step.proofs.time.some_empty.Given as goal
 
