@@ -53,5 +53,6 @@ room_behind parse context (form.edge from to) e room =
     let h = both_true (nat_le (length vertices) 1000) (nat_le (suc context.edges) 10000) (if_none (nat_le (length vertices) 1000 && nat_le (suc context.edges) 10000) e) in
     record { vars = room.vars; names = room.names; vertices = grind (arith, h.0); edges = grind (arith, h.1) }
 room_behind parse context (form.clause clause) e room = room
+room_behind parse context (form.weak node times) e room = room
 room_behind parse context form.ending e room = record { vars = room.vars; names = room.names; vertices = room.vertices; edges = room.edges }
 room_behind parse context form.wrong e room = room

@@ -6,7 +6,7 @@ use Rattle.assert_syntax.specs.declared.tasks.RawEdge.{RawEdge}
 use Rattle.assert_syntax.specs.declared.tasks.RawTask.{RawTask}
 use Rattle.assert_syntax.specs.declared.tasks.RawTask.TheVariants as raw
 use Rattle.assert_syntax.specs.Parses.{Parse}
-use Rattle.assert_syntax.specs.Spelled.{TaskTree, EdgeTree, assertion, graph, bind_tree, edge_tree, quint_tree, task_tree}
+use Rattle.assert_syntax.specs.Spelled.{TaskTree, EdgeTree, assertion, graph, bind_tree, edge_tree, mark_tree, quint_tree, task_tree, weak_tree}
 use Rattle.assert_syntax.specs.private.Drafts.{edges_closed, tasks_closed}
 use Rattle.assert_syntax.specs.private.Steps.{grown, grown_edge}
 
@@ -15,8 +15,20 @@ map_more f [] x ys = refl
 map_more f (y ∷ xs) x ys = ap (λ l. f y ∷ l) (map_more f xs x ys)
 
 -- an edge to which nothing is added any more
-edge_whole : (edge : RawEdge) → edge_tree edge ≡ record { line = edge.line; from = edge.from; to = edge.to; ant = map bind_tree edge.ant ++ []; con = map bind_tree edge.con ++ [] }
-edge_whole edge = rw (append-nil (map bind_tree edge.ant)) (rw (append-nil (map bind_tree edge.con)) refl)
+abbrev edge_so_far : RawEdge → EdgeTree
+edge_so_far edge = record {
+  line = edge.line;
+  from = edge.from;
+  to = edge.to;
+  ant = map bind_tree edge.ant ++ [];
+  con = map bind_tree edge.con ++ [];
+  weak = map mark_tree edge.weak ++ [];
+}
+
+edge_whole : (edge : RawEdge) → edge_tree edge ≡ edge_so_far edge
+edge_whole edge =
+    rw (append-nil (map bind_tree edge.ant))
+    (rw (append-nil (map bind_tree edge.con)) (rw (append-nil (map mark_tree edge.weak)) refl))
 
 edges_whole : (parse : Parse) (vars : List (List ℕ)) (edges : List RawEdge) (edge : Option RawEdge) (later : List EdgeTree) → map edge_tree (edges_closed edges edge) ++ later ≡ map edge_tree edges ++ (grown_edge parse vars edge [] ++ later)
 edges_whole parse vars edges None later = refl
@@ -25,10 +37,18 @@ edges_whole parse vars edges (Some edge) later = map_more edge_tree edges edge l
 -- the open task is ended
 pub closed : (parse : Parse) (vars vertices : List (List ℕ)) (tasks : List RawTask) (task : OpenTask) (later : List TaskTree) → map task_tree (tasks_closed tasks task vertices) ++ later ≡ map task_tree tasks ++ (grown parse vars vertices task [] ++ later)
 closed parse vars vertices tasks Closed later = refl
-closed parse vars vertices tasks (Ste head name reset ant con) later =
-    map_more task_tree tasks (raw.Ste head name reset ant con) later
-    ∙ ap (λ a. map task_tree tasks ++ assertion head name reset a (map quint_tree con) ∷ later) (sym (append-nil (map quint_tree ant)))
-    ∙ ap (λ b. map task_tree tasks ++ assertion head name reset (map quint_tree ant ++ []) b ∷ later) (sym (append-nil (map quint_tree con)))
+closed parse vars vertices tasks (Ste head name reset ant con weak) later =
+    let before = map task_tree tasks in
+    let given = map quint_tree ant in
+    let asked = map quint_tree con in
+    let weakened = map weak_tree weak in
+    map_more task_tree tasks (raw.Ste head name reset ant con weak) later
+    ∙ ap (λ a. before ++ assertion head name reset a asked weakened ∷ later)
+    (sym (append-nil given))
+    ∙ ap (λ a. before ++ assertion head name reset (given ++ []) a weakened ∷ later)
+    (sym (append-nil asked))
+    ∙ ap (λ a. before ++ assertion head name reset (given ++ []) (asked ++ []) a ∷ later)
+    (sym (append-nil weakened))
 closed parse vars vertices tasks (Gste head name reset edges edge) later =
     map_more task_tree tasks (raw.Gste head name reset vertices (edges_closed edges edge)) later
     ∙ ap (λ e. map task_tree tasks ++ graph head name reset vertices e ∷ later)

@@ -223,6 +223,35 @@ clause_decides lines i clause vars None guard known s v g = bad_first lines i (f
 clause_decides lines i clause vars (Some d) None known s v g = bad_first lines i (form.clause clause) (inr (inr g))
 clause_decides lines i clause vars (Some d) (Some e) known s v g = depth_by (is_deep d || is_deep e) lines i clause vars d e known s v g refl
 
+-- a weakening
+weak_before : (lines : List Entry) (i : ℕ) (node : List ℕ) (times : Span) →
+    Stands lines i (form.weak node times) → (other : LineFault) → GoesBefore other Many →
+    ¬ HasFault lines i (form.weak node times) other
+weak_before lines i node times s Bad g (inl f) = f s
+weak_before lines i node times s Bad g (inr f) = f
+weak_before lines i node times s Deep g f = f
+weak_before lines i node times s (Double x) g f = f
+weak_before lines i node times s (Unknown x) g f = f
+weak_before lines i node times s Many g f = absurd g
+
+weak_none : (lines : List Entry) (i : ℕ) (node : List ℕ) (times : Span) →
+    Stands lines i (form.weak node times) → (¬ IsLate times) → (kind : LineFault) →
+    ¬ HasFault lines i (form.weak node times) kind
+weak_none lines i node times s early Bad (inl f) = f s
+weak_none lines i node times s early Bad (inr f) = f
+weak_none lines i node times s early Deep f = f
+weak_none lines i node times s early (Double x) f = f
+weak_none lines i node times s early (Unknown x) f = f
+weak_none lines i node times s early Many f = early f
+
+weak_decides : (lines : List Entry) (i : ℕ) (node : List ℕ) (times : Span) →
+    Stands lines i (form.weak node times) →
+    Decided lines i (form.weak node times) (span_fault times)
+weak_decides lines i node span.Late s = (tt, weak_before lines i node span.Late s)
+weak_decides lines i node span.Absent s = weak_none lines i node span.Absent s (λ late. late)
+weak_decides lines i node (span.During a b) s =
+    weak_none lines i node (span.During a b) s (λ late. late)
+
 -- a line that ends a task
 end_none : (lines : List Entry) (i : ℕ) → Stands lines i form.ending → (kind : LineFault) → ¬ HasFault lines i form.ending kind
 end_none lines i s Bad (inl f) = f s
@@ -273,6 +302,8 @@ form_decides parse lines i c (form.gste name vertex reset) is told has may =
     }) refl
 form_decides parse lines i c (form.edge from to) is told has may = edge_by _ lines i c from to told has may refl
 form_decides parse lines i c (form.clause clause) is told has may = clause_decides lines i clause c.vars (parse clause.value) (parse clause.guard) told.vars (stands lines i c.place (form.clause clause) told.place may) (is clause.value) (is clause.guard)
+form_decides parse lines i c (form.weak node times) is told has may =
+    weak_decides lines i node times (stands lines i c.place (form.weak node times) told.place may)
 form_decides parse lines i c form.ending is told has may = end_none lines i (stands lines i c.place form.ending told.place may)
 form_decides parse lines i c form.wrong is told has may = absurd (cc may)
 

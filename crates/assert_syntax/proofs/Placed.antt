@@ -60,6 +60,8 @@ place_on lines i place (form.ste name reset) at has = behind_here lines i Assert
 place_on lines i place (form.gste name vertex reset) at has = behind_here lines i Graph (form.gste name vertex reset) has refl
 place_on lines i place (form.edge from to) at has = behind_here lines i Edge (form.edge from to) has refl
 place_on lines i place (form.clause clause) at has = at_on lines i place (form.clause clause) at has refl
+place_on lines i place (form.weak node times) at has =
+    at_on lines i place (form.weak node times) at has refl
 place_on lines i place form.ending at has = behind_here lines i Ended form.ending has refl
 place_on lines i place form.wrong at has = at_on lines i place form.wrong at has refl
 
@@ -103,7 +105,7 @@ at_first lines i Graph at first = absurd (first_behind lines i Graph first at)
 at_first lines i Edge at first = absurd (first_behind lines i Edge first at)
 at_first lines i Ended at first = absurd (first_behind lines i Ended first at)
 
--- a clause with these times may stand
+-- a clause or a weakening with these times may stand
 clause_stands : (lines : List Entry) (i : ℕ) (place : Place) (times : Span) → IsAt lines i place → span_fits times place ≡ true → ClauseStands lines i times
 clause_stands lines i Edge span.Absent at may = at
 clause_stands lines i Start span.Absent at may = absurd (cc may)
@@ -141,6 +143,7 @@ stands lines i Graph (form.edge from to) at may = inl at
 stands lines i Edge (form.edge from to) at may = inr at
 stands lines i Ended (form.edge from to) at may = absurd (cc may)
 stands lines i place (form.clause clause) at may = clause_stands lines i place clause.span at may
+stands lines i place (form.weak node times) at may = clause_stands lines i place times at may
 stands lines i Start form.ending at may = absurd (cc may)
 stands lines i Assertion form.ending at may = inl at
 stands lines i Graph form.ending at may = inr (inl at)
@@ -156,6 +159,8 @@ stands_not lines i place (form.gste name vertex reset) at may s = absurd (cc may
 stands_not lines i place (form.edge from to) at may (inl b) = let e = sym (ap (may_stand (form.edge from to)) (at_behind lines i place Graph at b)) ∙ may in absurd (cc e)
 stands_not lines i place (form.edge from to) at may (inr b) = let e = sym (ap (may_stand (form.edge from to)) (at_behind lines i place Edge at b)) ∙ may in absurd (cc e)
 stands_not lines i place (form.clause clause) at may s = clause_stands_not lines i place clause.span at may s
+stands_not lines i place (form.weak node times) at may s =
+    clause_stands_not lines i place times at may s
 stands_not lines i place form.ending at may (inl b) = let e = sym (ap (may_stand form.ending) (at_behind lines i place Assertion at b)) ∙ may in absurd (cc e)
 stands_not lines i place form.ending at may (inr (inl b)) = let e = sym (ap (may_stand form.ending) (at_behind lines i place Graph at b)) ∙ may in absurd (cc e)
 stands_not lines i place form.ending at may (inr (inr b)) = let e = sym (ap (may_stand form.ending) (at_behind lines i place Edge at b)) ∙ may in absurd (cc e)
@@ -191,6 +196,7 @@ vars_are (form.ste name reset) vars = sym (append-nil vars)
 vars_are (form.gste name vertex reset) vars = sym (append-nil vars)
 vars_are (form.edge from to) vars = sym (append-nil vars)
 vars_are (form.clause clause) vars = sym (append-nil vars)
+vars_are (form.weak node times) vars = sym (append-nil vars)
 vars_are form.ending vars = sym (append-nil vars)
 vars_are form.wrong vars = sym (append-nil vars)
 
@@ -200,6 +206,7 @@ names_are (form.ste name reset) names = refl
 names_are (form.gste name vertex reset) names = refl
 names_are (form.edge from to) names = sym (append-nil names)
 names_are (form.clause clause) names = sym (append-nil names)
+names_are (form.weak node times) names = sym (append-nil names)
 names_are form.ending names = sym (append-nil names)
 names_are form.wrong names = sym (append-nil names)
 
@@ -246,6 +253,7 @@ vertices_are (form.ste name reset) vertices apart = refl
 vertices_are (form.gste name vertex reset) vertices apart = absurd (apart refl)
 vertices_are (form.edge from to) vertices apart = refl
 vertices_are (form.clause clause) vertices apart = refl
+vertices_are (form.weak node times) vertices apart = refl
 vertices_are form.ending vertices apart = refl
 vertices_are form.wrong vertices apart = refl
 
@@ -255,6 +263,7 @@ edges_are (form.ste name reset) edges apart = omega arith
 edges_are (form.gste name vertex reset) edges apart = absurd (apart refl)
 edges_are (form.edge from to) edges apart = omega arith
 edges_are (form.clause clause) edges apart = omega arith
+edges_are (form.weak node times) edges apart = omega arith
 edges_are form.ending edges apart = omega arith
 edges_are form.wrong edges apart = omega arith
 
@@ -293,6 +302,8 @@ graph_told lines i c (form.vars names) told has start g = graph_kept lines i c (
 graph_told lines i c (form.ste name reset) told has start g = graph_kept lines i c (form.ste name reset) told has (λ e. absurd (cc e)) start g
 graph_told lines i c (form.edge from to) told has start g = graph_kept lines i c (form.edge from to) told has (λ e. absurd (cc e)) start g
 graph_told lines i c (form.clause clause) told has start g = graph_kept lines i c (form.clause clause) told has (λ e. absurd (cc e)) start g
+graph_told lines i c (form.weak node times) told has start g =
+    graph_kept lines i c (form.weak node times) told has (λ e. absurd (cc e)) start g
 graph_told lines i c form.ending told has start g = graph_kept lines i c form.ending told has (λ e. absurd (cc e)) start g
 graph_told lines i c form.wrong told has start g = graph_kept lines i c form.wrong told has (λ e. absurd (cc e)) start g
 
@@ -302,6 +313,9 @@ still_started lines i c (form.vars names) told has may h = let s = told.started 
 still_started lines i c (form.ste name reset) told has may h = absurd (cc h)
 still_started lines i c (form.edge from to) told has may h = let s = told.started may in (s.0, graph_on lines i s.0 (form.edge from to) s.1 has (λ e. absurd (cc e)))
 still_started lines i c (form.clause clause) told has may h = let s = told.started h in (s.0, graph_on lines i s.0 (form.clause clause) s.1 has (λ e. absurd (cc e)))
+still_started lines i c (form.weak node times) told has may h =
+    let s = told.started h in
+    (s.0, graph_on lines i s.0 (form.weak node times) s.1 has (λ e. absurd (cc e)))
 still_started lines i c form.ending told has may h = absurd (cc h)
 still_started lines i c form.wrong told has may h = absurd (cc may)
 

@@ -22,14 +22,14 @@ use Rattle.assert_syntax.specs.declared.place.Place.{Place}
 use Rattle.assert_syntax.specs.declared.place.Place.TheVariants as place
 use Rattle.assert_syntax.specs.declared.form.LineFault.TheVariants.{Bad}
 use Rattle.assert_syntax.specs.Answer.{entry_of, entries_of}
-use Rattle.assert_syntax.specs.Forms.{Clause, Entry, Form, clause_of, clause_with, expression_length, form_of, guarded, span_of, valued}
+use Rattle.assert_syntax.specs.Forms.{Clause, Entry, Form, clause_of, clause_with, expression_length, form_of, guarded, span_of, valued, weak_with}
 use Rattle.assert_syntax.specs.Forms as form
 use Rattle.assert_syntax.specs.Parses.{Parse, IsParse, IsSpelled, is_deep, tree_over}
-use Rattle.assert_syntax.specs.Places.{Context, clause_fault, context_of, fault_or, first_double, first_fault, graph_fault, holds_edges, names_fault, span_fits}
+use Rattle.assert_syntax.specs.Places.{Context, clause_fault, context_of, fault_or, first_double, first_fault, graph_fault, holds_edges, names_fault, span_fault, span_fits}
 use Rattle.assert_syntax.specs.Rules.{IsFirstDouble}
-use Rattle.assert_syntax.specs.Spelled.{assertion, graph, bind_said, binds_of, edges_of, from_of, is_side, quint_said, quints_of, tasks_of, to_of, vars_with, vertex_number, vertices_of}
+use Rattle.assert_syntax.specs.Spelled.{BindTree, EdgeTree, MarkTree, QuintTree, WeakTree, assertion, graph, bind_said, binds_of, edges_of, from_of, is_side, marks_of, quint_said, quints_of, tasks_of, to_of, vars_with, vertex_number, vertices_of, weaks_of}
 use Rattle.assert_syntax.specs.Words.{ends_expression, is_variable}
-use Rattle.assert_syntax.specs.Written.{SaidClause, SaidEdge, SaidTask, SaidTimes, ste, gste, AreSayable, AreTimes, IsBindSaid, IsExpression, IsGuard, IsQuintSaid, IsSayable, IsTimed, WrittenIsRead, clause_line, clause_words, edge_lines, ends_of, guard_text, guard_words, line_of, on_side, reset_words, said_bind, said_edge, said_from, said_name, said_quint, said_task, said_to, side_word, task_lines, times_words, vars_lines, vertices_said, written}
+use Rattle.assert_syntax.specs.Written.{SaidClause, SaidEdge, SaidTask, SaidTimes, SaidWeak, ste, gste, AreSayable, AreTimes, IsBindSaid, IsEdgeSaid, IsExpression, IsGuard, IsQuintSaid, IsSayable, IsTimed, WrittenIsRead, clause_line, clause_words, edge_lines, ends_of, guard_text, guard_words, line_of, on_side, reset_words, said_bind, said_edge, said_from, said_mark, said_name, said_quint, said_task, said_to, said_weak, side_word, task_lines, times_words, vars_lines, vertices_said, weak_line, written}
 use Rattle.assert_syntax.proofs.Faults.{fault_from, same_fault}
 use Rattle.assert_syntax.proofs.Named.{double_found}
 use Rattle.assert_syntax.proofs.Numbered.{inserted, number_stays, place_is, stays_in}
@@ -49,11 +49,17 @@ entry line form = record { line = line; form = form }
 abbrev clause_entry : SaidClause → Entry
 clause_entry c = entry c.line (form.clause (said_clause c))
 
+abbrev weak_entry : SaidWeak → Entry
+weak_entry w = entry w.line (form.weak w.node (said_span w.times))
+
 abbrev edge_entries : SaidEdge → List Entry
-edge_entries e = entry e.line (form.edge e.from e.to) ∷ map clause_entry e.clauses
+edge_entries e =
+    entry e.line (form.edge e.from e.to) ∷ (map clause_entry e.clauses ++ map weak_entry e.weaks)
 
 abbrev task_entries : SaidTask → List Entry
-task_entries (ste line name reset clauses) = entry line (form.ste name reset) ∷ (map clause_entry clauses ++ entry line form.ending ∷ [])
+task_entries (ste line name reset clauses weaks) =
+    entry line (form.ste name reset)
+    ∷ (map clause_entry clauses ++ (map weak_entry weaks ++ entry line form.ending ∷ []))
 task_entries (gste line name vertex reset edges) = entry line (form.gste name vertex reset) ∷ (flat_map edge_entries edges ++ entry line form.ending ∷ [])
 
 abbrev vars_entries : List (List ℕ) → List Entry
@@ -156,15 +162,48 @@ binds_spelled vars (c ∷ cs) all =
     ap (λ e. e ∷ entries_of (map clause_line cs)) (one_spelled c (clause_form c h.value.goes_on (open_guard vars c.guard h.guard) (bind_times c.times h.times)))
     ∙ ap (λ es. clause_entry c ∷ es) (binds_spelled vars cs (All-tail (IsBindSaid vars) c cs all))
 
-abbrev EdgeSaid : List (List ℕ) → SaidEdge → Type 0
-EdgeSaid vars e = All (IsBindSaid vars) e.clauses
+-- weakenings
+weak_spelled : (w : SaidWeak) → AreSaid w.times → entry_of (weak_line w) ≡ weak_entry w
+weak_spelled w said = ap (λ times. entry w.line (weak_with w.node times)) (span_is w.times said)
 
-edges_spelled : (vars : List (List ℕ)) (es : List SaidEdge) → All (EdgeSaid vars) es → entries_of (flat_map edge_lines es) ≡ flat_map edge_entries es
+abbrev WeaksSaid : List SaidWeak → Type 0
+WeaksSaid ws = All (λ w. AreSaid w.times) ws
+
+weaks_spelled : (ws : List SaidWeak) → WeaksSaid ws →
+    entries_of (map weak_line ws) ≡ map weak_entry ws
+weaks_spelled [] all = refl
+weaks_spelled (w ∷ ws) all =
+    ap (λ e. e ∷ entries_of (map weak_line ws))
+    (weak_spelled w (All-head (λ w. AreSaid w.times) w ws all))
+    ∙ ap (λ es. weak_entry w ∷ es)
+    (weaks_spelled ws (All-tail (λ w. AreSaid w.times) w ws all))
+
+timed_weaks : (ws : List SaidWeak) → All (λ w. IsTimed w.times) ws → WeaksSaid ws
+timed_weaks ws all = λ k d h. quint_times (get_or ws k d).times (all k d h)
+
+bare_weaks : (ws : List SaidWeak) → All (λ w. w.times ≡ None) ws → WeaksSaid ws
+bare_weaks ws all = λ k d h. bind_times (get_or ws k d).times (all k d h)
+
+edge_spelled : (vars : List (List ℕ)) (e : SaidEdge) → IsEdgeSaid vars e →
+    entries_of (edge_lines e) ≡ edge_entries e
+edge_spelled vars e said =
+    let inner : entries_of (map clause_line e.clauses ++ map weak_line e.weaks)
+    ≡ map clause_entry e.clauses ++ map weak_entry e.weaks =
+    map-append entry_of (map clause_line e.clauses) (map weak_line e.weaks)
+    ∙ ap (λ k. k ++ entries_of (map weak_line e.weaks))
+    (binds_spelled vars e.clauses said.clauses)
+    ∙ ap (λ k. map clause_entry e.clauses ++ k)
+    (weaks_spelled e.weaks (bare_weaks e.weaks said.weaks)) in
+    ap (λ k. entry e.line (form.edge e.from e.to) ∷ k) inner
+
+edges_spelled : (vars : List (List ℕ)) (es : List SaidEdge) → All (IsEdgeSaid vars) es →
+    entries_of (flat_map edge_lines es) ≡ flat_map edge_entries es
 edges_spelled vars [] all = refl
 edges_spelled vars (e ∷ es) all =
     map-append entry_of (edge_lines e) (flat_map edge_lines es)
-    ∙ ap (λ k. (entry e.line (form.edge e.from e.to) ∷ k) ++ entries_of (flat_map edge_lines es)) (binds_spelled vars e.clauses (All-head (EdgeSaid vars) e es all))
-    ∙ ap (λ k. edge_entries e ++ k) (edges_spelled vars es (All-tail (EdgeSaid vars) e es all))
+    ∙ ap (λ k. k ++ entries_of (flat_map edge_lines es))
+    (edge_spelled vars e (All-head (IsEdgeSaid vars) e es all))
+    ∙ ap (λ k. edge_entries e ++ k) (edges_spelled vars es (All-tail (IsEdgeSaid vars) e es all))
 
 ste_form : (name : List ℕ) (reset : Bool) → form_of (codes ".ste" ∷ name ∷ reset_words reset) ≡ form.ste name reset
 ste_form name true = refl
@@ -175,9 +214,20 @@ gste_form name vertex true = refl
 gste_form name vertex false = refl
 
 task_spelled : (vars : List (List ℕ)) (t : SaidTask) → IsSayable vars t → entries_of (task_lines t) ≡ task_entries t
-task_spelled vars (ste line name reset cs) say =
-    ap (λ f. entry line f ∷ entries_of (map clause_line cs ++ line_of line (codes ".end" ∷ []) ∷ [])) (ste_form name reset)
-    ∙ ap (λ k. entry line (form.ste name reset) ∷ k) (map-append entry_of (map clause_line cs) (line_of line (codes ".end" ∷ []) ∷ []) ∙ ap (λ k. k ++ entry line form.ending ∷ []) (quints_spelled vars cs say))
+task_spelled vars (ste line name reset cs ws) say =
+    let last = line_of line (codes ".end" ∷ []) ∷ [] in
+    let weakened : entries_of (map weak_line ws ++ last)
+    ≡ map weak_entry ws ++ entry line form.ending ∷ [] =
+    map-append entry_of (map weak_line ws) last
+    ∙ ap (λ k. k ++ entry line form.ending ∷ []) (weaks_spelled ws (timed_weaks ws say.1)) in
+    let inner : entries_of (map clause_line cs ++ (map weak_line ws ++ last))
+    ≡ map clause_entry cs ++ (map weak_entry ws ++ entry line form.ending ∷ []) =
+    map-append entry_of (map clause_line cs) (map weak_line ws ++ last)
+    ∙ ap (λ k. k ++ entries_of (map weak_line ws ++ last)) (quints_spelled vars cs say.0)
+    ∙ ap (λ k. map clause_entry cs ++ k) weakened in
+    ap (λ f. entry line f ∷ entries_of (map clause_line cs ++ (map weak_line ws ++ last)))
+    (ste_form name reset)
+    ∙ ap (λ k. entry line (form.ste name reset) ∷ k) inner
 task_spelled vars (gste line name vertex reset es) say =
     ap (λ f. entry line f ∷ entries_of (flat_map edge_lines es ++ line_of line (codes ".end" ∷ []) ∷ [])) (gste_form name vertex reset)
     ∙ ap (λ k. entry line (form.gste name vertex reset) ∷ k) (map-append entry_of (flat_map edge_lines es) (line_of line (codes ".end" ∷ []) ∷ []) ∙ ap (λ k. k ++ entry line form.ending ∷ []) (edges_spelled vars es say.2))
@@ -221,13 +271,54 @@ one_more : {A B : Type 0} (b : Bool) (f : A → B) (c : A) (q : B) (ys : List A)
 one_more true f c q ys x z e h = ap (λ k. k ∷ x) e ∙ ap (λ k. f c ∷ k) h
 one_more false f c q ys x z e h = h
 
-quints_read : (parse : Parse) (side : Side) (vars : List (List ℕ)) (cs : List SaidClause) (rest : List Entry) → quints_of parse side vars (map clause_entry cs ++ rest) ≡ map (said_quint parse vars) (on_side side cs) ++ quints_of parse side vars rest
-quints_read parse side vars [] rest = refl
-quints_read parse side vars (c ∷ cs) rest = one_more (is_side side c.side) (said_quint parse vars) c (quint_said parse vars c.line (said_clause c)) (on_side side cs) _ _ (quint_is parse vars c) (quints_read parse side vars cs rest)
+abbrev weak_said : ℕ → List ℕ → ℕ → ℕ → WeakTree
+weak_said line node from to = record { line = line; node = node; from = from; to = to }
 
-binds_read : (parse : Parse) (side : Side) (vars : List (List ℕ)) (cs : List SaidClause) (rest : List Entry) → binds_of parse side vars (map clause_entry cs ++ rest) ≡ map (said_bind parse vars) (on_side side cs) ++ binds_of parse side vars rest
-binds_read parse side vars [] rest = refl
-binds_read parse side vars (c ∷ cs) rest = one_more (is_side side c.side) (said_bind parse vars) c (bind_said parse vars c.line (said_clause c)) (on_side side cs) _ _ refl (binds_read parse side vars cs rest)
+weak_is : (w : SaidWeak) →
+    weak_said w.line w.node (from_of (said_span w.times)) (to_of (said_span w.times)) ≡ said_weak w
+weak_is w =
+    ap (λ n. weak_said w.line w.node n (to_of (said_span w.times))) (from_is w.times)
+    ∙ ap (weak_said w.line w.node (said_from w.times)) (to_is w.times)
+
+-- clauses and weakenings, and what is behind them
+abbrev inside : List SaidClause → List SaidWeak → List Entry → List Entry
+inside cs ws rest = map clause_entry cs ++ (map weak_entry ws ++ rest)
+
+quints_read : (parse : Parse) (side : Side) (vars : List (List ℕ)) (cs : List SaidClause)
+    (ws : List SaidWeak) (rest : List Entry) →
+    quints_of parse side vars (inside cs ws rest)
+    ≡ map (said_quint parse vars) (on_side side cs) ++ quints_of parse side vars rest
+quints_read parse side vars [] [] rest = refl
+quints_read parse side vars [] (w ∷ ws) rest = quints_read parse side vars [] ws rest
+quints_read parse side vars (c ∷ cs) ws rest =
+    one_more (is_side side c.side) (said_quint parse vars) c
+    (quint_said parse vars c.line (said_clause c)) (on_side side cs) _ _ (quint_is parse vars c)
+    (quints_read parse side vars cs ws rest)
+
+binds_read : (parse : Parse) (side : Side) (vars : List (List ℕ)) (cs : List SaidClause)
+    (ws : List SaidWeak) (rest : List Entry) →
+    binds_of parse side vars (inside cs ws rest)
+    ≡ map (said_bind parse vars) (on_side side cs) ++ binds_of parse side vars rest
+binds_read parse side vars [] [] rest = refl
+binds_read parse side vars [] (w ∷ ws) rest = binds_read parse side vars [] ws rest
+binds_read parse side vars (c ∷ cs) ws rest =
+    one_more (is_side side c.side) (said_bind parse vars) c
+    (bind_said parse vars c.line (said_clause c)) (on_side side cs) _ _ refl
+    (binds_read parse side vars cs ws rest)
+
+weaks_read : (cs : List SaidClause) (ws : List SaidWeak) (rest : List Entry) →
+    weaks_of (inside cs ws rest) ≡ map said_weak ws ++ weaks_of rest
+weaks_read [] [] rest = refl
+weaks_read [] (w ∷ ws) rest =
+    ap (λ k. k ∷ weaks_of (map weak_entry ws ++ rest)) (weak_is w)
+    ∙ ap (λ k. said_weak w ∷ k) (weaks_read [] ws rest)
+weaks_read (c ∷ cs) ws rest = weaks_read cs ws rest
+
+marks_read : (cs : List SaidClause) (ws : List SaidWeak) (rest : List Entry) →
+    marks_of (inside cs ws rest) ≡ map said_mark ws ++ marks_of rest
+marks_read [] [] rest = refl
+marks_read [] (w ∷ ws) rest = ap (λ k. said_mark w ∷ k) (marks_read [] ws rest)
+marks_read (c ∷ cs) ws rest = marks_read cs ws rest
 
 -- later tasks have no part in one
 abbrev Later : List SaidTask → List Entry
@@ -235,90 +326,189 @@ Later ts = flat_map task_entries ts
 
 no_quints : (parse : Parse) (side : Side) (vars : List (List ℕ)) (ts : List SaidTask) → quints_of parse side vars (Later ts) ≡ []
 no_quints parse side vars [] = refl
-no_quints parse side vars (ste line name reset cs ∷ ts) = refl
+no_quints parse side vars (ste line name reset cs ws ∷ ts) = refl
 no_quints parse side vars (gste line name vertex reset es ∷ ts) = refl
 
 no_binds : (parse : Parse) (side : Side) (vars : List (List ℕ)) (ts : List SaidTask) → binds_of parse side vars (Later ts) ≡ []
 no_binds parse side vars [] = refl
-no_binds parse side vars (ste line name reset cs ∷ ts) = refl
+no_binds parse side vars (ste line name reset cs ws ∷ ts) = refl
 no_binds parse side vars (gste line name vertex reset es ∷ ts) = refl
+
+no_weaks : (ts : List SaidTask) → weaks_of (Later ts) ≡ []
+no_weaks [] = refl
+no_weaks (ste line name reset cs ws ∷ ts) = refl
+no_weaks (gste line name vertex reset es ∷ ts) = refl
+
+no_marks : (ts : List SaidTask) → marks_of (Later ts) ≡ []
+no_marks [] = refl
+no_marks (ste line name reset cs ws ∷ ts) = refl
+no_marks (gste line name vertex reset es ∷ ts) = refl
 
 no_vertices : (vertices : List (List ℕ)) (ts : List SaidTask) → vertices_of vertices (Later ts) ≡ vertices
 no_vertices vertices [] = refl
-no_vertices vertices (ste line name reset cs ∷ ts) = refl
+no_vertices vertices (ste line name reset cs ws ∷ ts) = refl
 no_vertices vertices (gste line name vertex reset es ∷ ts) = refl
 
 no_edges : (parse : Parse) (vars vertices : List (List ℕ)) (ts : List SaidTask) → edges_of parse vars vertices (Later ts) ≡ []
 no_edges parse vars vertices [] = refl
-no_edges parse vars vertices (ste line name reset cs ∷ ts) = refl
+no_edges parse vars vertices (ste line name reset cs ws ∷ ts) = refl
 no_edges parse vars vertices (gste line name vertex reset es ∷ ts) = refl
 
--- clauses are in no list of tasks, vertices or edges
-tasks_past : (parse : Parse) (vars : List (List ℕ)) (cs : List SaidClause) (rest : List Entry) → tasks_of parse vars (map clause_entry cs ++ rest) ≡ tasks_of parse vars rest
-tasks_past parse vars [] rest = refl
-tasks_past parse vars (c ∷ cs) rest = tasks_past parse vars cs rest
+-- clauses and weakenings are in no list of tasks, vertices or edges
+tasks_past : (parse : Parse) (vars : List (List ℕ)) (cs : List SaidClause) (ws : List SaidWeak)
+    (rest : List Entry) → tasks_of parse vars (inside cs ws rest) ≡ tasks_of parse vars rest
+tasks_past parse vars [] [] rest = refl
+tasks_past parse vars [] (w ∷ ws) rest = tasks_past parse vars [] ws rest
+tasks_past parse vars (c ∷ cs) ws rest = tasks_past parse vars cs ws rest
 
-vertices_past : (vertices : List (List ℕ)) (cs : List SaidClause) (rest : List Entry) → vertices_of vertices (map clause_entry cs ++ rest) ≡ vertices_of vertices rest
-vertices_past vertices [] rest = refl
-vertices_past vertices (c ∷ cs) rest = vertices_past vertices cs rest
+vertices_past : (vertices : List (List ℕ)) (cs : List SaidClause) (ws : List SaidWeak)
+    (rest : List Entry) → vertices_of vertices (inside cs ws rest) ≡ vertices_of vertices rest
+vertices_past vertices [] [] rest = refl
+vertices_past vertices [] (w ∷ ws) rest = vertices_past vertices [] ws rest
+vertices_past vertices (c ∷ cs) ws rest = vertices_past vertices cs ws rest
 
-edges_past : (parse : Parse) (vars vertices : List (List ℕ)) (cs : List SaidClause) (rest : List Entry) → edges_of parse vars vertices (map clause_entry cs ++ rest) ≡ edges_of parse vars vertices rest
-edges_past parse vars vertices [] rest = refl
-edges_past parse vars vertices (c ∷ cs) rest = edges_past parse vars vertices cs rest
+edges_past : (parse : Parse) (vars vertices : List (List ℕ)) (cs : List SaidClause)
+    (ws : List SaidWeak) (rest : List Entry) →
+    edges_of parse vars vertices (inside cs ws rest) ≡ edges_of parse vars vertices rest
+edges_past parse vars vertices [] [] rest = refl
+edges_past parse vars vertices [] (w ∷ ws) rest = edges_past parse vars vertices [] ws rest
+edges_past parse vars vertices (c ∷ cs) ws rest = edges_past parse vars vertices cs ws rest
 
 -- the lines of edges, and what is behind them
-edge_apart : (e : SaidEdge) (es : List SaidEdge) (rest : List Entry) → flat_map edge_entries (e ∷ es) ++ rest ≡ entry e.line (form.edge e.from e.to) ∷ (map clause_entry e.clauses ++ (flat_map edge_entries es ++ rest))
-edge_apart e es rest = append_assoc (edge_entries e) (flat_map edge_entries es) rest
+edge_apart : (e : SaidEdge) (es : List SaidEdge) (rest : List Entry) →
+    flat_map edge_entries (e ∷ es) ++ rest
+    ≡ entry e.line (form.edge e.from e.to)
+    ∷ inside e.clauses e.weaks (flat_map edge_entries es ++ rest)
+edge_apart e es rest =
+    let behind = flat_map edge_entries es ++ rest in
+    append_assoc (edge_entries e) (flat_map edge_entries es) rest
+    ∙ ap (λ k. entry e.line (form.edge e.from e.to) ∷ k)
+    (append_assoc (map clause_entry e.clauses) (map weak_entry e.weaks) behind)
 
-tasks_past_edges : (parse : Parse) (vars : List (List ℕ)) (es : List SaidEdge) (rest : List Entry) → tasks_of parse vars (flat_map edge_entries es ++ rest) ≡ tasks_of parse vars rest
+tasks_past_edges : (parse : Parse) (vars : List (List ℕ)) (es : List SaidEdge)
+    (rest : List Entry) →
+    tasks_of parse vars (flat_map edge_entries es ++ rest) ≡ tasks_of parse vars rest
 tasks_past_edges parse vars [] rest = refl
-tasks_past_edges parse vars (e ∷ es) rest = ap (tasks_of parse vars) (edge_apart e es rest) ∙ tasks_past parse vars e.clauses (flat_map edge_entries es ++ rest) ∙ tasks_past_edges parse vars es rest
+tasks_past_edges parse vars (e ∷ es) rest =
+    ap (tasks_of parse vars) (edge_apart e es rest)
+    ∙ tasks_past parse vars e.clauses e.weaks (flat_map edge_entries es ++ rest)
+    ∙ tasks_past_edges parse vars es rest
 
-vertices_read : (vertices : List (List ℕ)) (es : List SaidEdge) (rest : List Entry) → ((vs : List (List ℕ)) → vertices_of vs rest ≡ vs) → vertices_of vertices (flat_map edge_entries es ++ rest) ≡ insert_all bytes_eq vertices (flat_map ends_of es)
+vertices_read : (vertices : List (List ℕ)) (es : List SaidEdge) (rest : List Entry) →
+    ((vs : List (List ℕ)) → vertices_of vs rest ≡ vs) →
+    vertices_of vertices (flat_map edge_entries es ++ rest)
+    ≡ insert_all bytes_eq vertices (flat_map ends_of es)
 vertices_read vertices [] rest none = none vertices
 vertices_read vertices (e ∷ es) rest none =
     let more = insert_all bytes_eq vertices (ends_of e) in
-    ap (vertices_of vertices) (edge_apart e es rest) ∙ vertices_past more e.clauses (flat_map edge_entries es ++ rest) ∙ vertices_read more es rest none ∙ sym (fold-append _ vertices (ends_of e) (flat_map ends_of es))
+    ap (vertices_of vertices) (edge_apart e es rest)
+    ∙ vertices_past more e.clauses e.weaks (flat_map edge_entries es ++ rest)
+    ∙ vertices_read more es rest none
+    ∙ sym (fold-append _ vertices (ends_of e) (flat_map ends_of es))
 
 -- the edges
-edges_read : (parse : Parse) (vars vertices all : List (List ℕ)) (es : List SaidEdge) (rest : List Entry) → all ≡ insert_all bytes_eq vertices (flat_map ends_of es) → ((vs : List (List ℕ)) → edges_of parse vars vs rest ≡ []) → ((side : Side) → binds_of parse side vars rest ≡ []) → edges_of parse vars vertices (flat_map edge_entries es ++ rest) ≡ map (said_edge parse vars all) es
-edges_read parse vars vertices all [] rest e none no_bind = none vertices
-edges_read parse vars vertices all (edge ∷ es) rest e none no_bind =
+abbrev one_edge : ℕ → ℕ → ℕ → List BindTree → List BindTree → List MarkTree → EdgeTree
+one_edge line from to ant con weak =
+    record { line = line; from = from; to = to; ant = ant; con = con; weak = weak }
+
+edges_read : (parse : Parse) (vars vertices all : List (List ℕ)) (es : List SaidEdge)
+    (rest : List Entry) → all ≡ insert_all bytes_eq vertices (flat_map ends_of es) →
+    ((vs : List (List ℕ)) → edges_of parse vars vs rest ≡ []) →
+    ((side : Side) → binds_of parse side vars rest ≡ []) → marks_of rest ≡ [] →
+    edges_of parse vars vertices (flat_map edge_entries es ++ rest)
+    ≡ map (said_edge parse vars all) es
+edges_read parse vars vertices all [] rest e none no_bind no_mark = none vertices
+edges_read parse vars vertices all (edge ∷ es) rest e none no_bind no_mark =
     let more = insert_all bytes_eq vertices (ends_of edge) in
     let behind = flat_map edge_entries es ++ rest in
-    let whole : all ≡ insert_all bytes_eq more (flat_map ends_of es) = e ∙ fold-append _ vertices (ends_of edge) (flat_map ends_of es) in
-    let from : vertex_number more edge.from ≡ vertex_number all edge.from = sym (ap (λ vs. vertex_number vs edge.from) whole ∙ number_stays more (flat_map ends_of es) edge.from (stays_in (insert_key bytes_eq vertices edge.from) (edge.to ∷ []) edge.from (inserted vertices edge.from))) in
-    let to : vertex_number more edge.to ≡ vertex_number all edge.to = sym (ap (λ vs. vertex_number vs edge.to) whole ∙ number_stays more (flat_map ends_of es) edge.to (inserted (insert_key bytes_eq vertices edge.from) edge.to)) in
-    let nothing : (side : Side) → binds_of parse side vars behind ≡ [] = no_more es in
-    let side_read : (side : Side) → binds_of parse side vars (map clause_entry edge.clauses ++ behind) ≡ map (said_bind parse vars) (on_side side edge.clauses) = λ side. binds_read parse side vars edge.clauses behind ∙ ap (λ k. map (said_bind parse vars) (on_side side edge.clauses) ++ k) (nothing side) ∙ append-nil (map (said_bind parse vars) (on_side side edge.clauses)) in
+    let lines = inside edge.clauses edge.weaks behind in
+    let whole : all ≡ insert_all bytes_eq more (flat_map ends_of es) =
+    e ∙ fold-append _ vertices (ends_of edge) (flat_map ends_of es) in
+    let first = insert_key bytes_eq vertices edge.from in
+    let from : vertex_number more edge.from ≡ vertex_number all edge.from =
+    sym (ap (λ vs. vertex_number vs edge.from) whole
+    ∙ number_stays more (flat_map ends_of es) edge.from
+    (stays_in first (edge.to ∷ []) edge.from (inserted vertices edge.from))) in
+    let to : vertex_number more edge.to ≡ vertex_number all edge.to =
+    sym (ap (λ vs. vertex_number vs edge.to) whole
+    ∙ number_stays more (flat_map ends_of es) edge.to (inserted first edge.to)) in
+    let said : Side → List BindTree =
+    λ side. map (said_bind parse vars) (on_side side edge.clauses) in
+    let side_read : (side : Side) → binds_of parse side vars lines ≡ said side =
+    λ side. binds_read parse side vars edge.clauses edge.weaks behind
+    ∙ ap (λ k. said side ++ k) (no_more es side) ∙ append-nil (said side) in
+    let weak_read : marks_of lines ≡ map said_mark edge.weaks =
+    marks_read edge.clauses edge.weaks behind
+    ∙ ap (λ k. map said_mark edge.weaks ++ k) (none_marked es)
+    ∙ append-nil (map said_mark edge.weaks) in
+    let given = binds_of parse Antecedent vars lines in
+    let asked = binds_of parse Consequent vars lines in
+    let marks = marks_of lines in
+    let early = vertex_number more edge.to in
+    let start = vertex_number all edge.from in
+    let end = vertex_number all edge.to in
+    let later = map (said_edge parse vars all) es in
     ap (edges_of parse vars vertices) (edge_apart edge es rest)
-    ∙ ap (λ k. record { line = edge.line; from = vertex_number more edge.from; to = vertex_number more edge.to; ant = binds_of parse Antecedent vars (map clause_entry edge.clauses ++ behind); con = binds_of parse Consequent vars (map clause_entry edge.clauses ++ behind) } ∷ k) (edges_past parse vars more edge.clauses behind ∙ edges_read parse vars more all es rest whole none no_bind)
-    ∙ ap (λ k. record { line = edge.line; from = k; to = vertex_number more edge.to; ant = binds_of parse Antecedent vars (map clause_entry edge.clauses ++ behind); con = binds_of parse Consequent vars (map clause_entry edge.clauses ++ behind) } ∷ map (said_edge parse vars all) es) from
-    ∙ ap (λ k. record { line = edge.line; from = vertex_number all edge.from; to = k; ant = binds_of parse Antecedent vars (map clause_entry edge.clauses ++ behind); con = binds_of parse Consequent vars (map clause_entry edge.clauses ++ behind) } ∷ map (said_edge parse vars all) es) to
-    ∙ ap (λ k. record { line = edge.line; from = vertex_number all edge.from; to = vertex_number all edge.to; ant = k; con = binds_of parse Consequent vars (map clause_entry edge.clauses ++ behind) } ∷ map (said_edge parse vars all) es) (side_read Antecedent)
-    ∙ ap (λ k. record { line = edge.line; from = vertex_number all edge.from; to = vertex_number all edge.to; ant = map (said_bind parse vars) (on_side Antecedent edge.clauses); con = k } ∷ map (said_edge parse vars all) es) (side_read Consequent)
+    ∙ ap (λ k. one_edge edge.line (vertex_number more edge.from) early given asked marks ∷ k)
+    (edges_past parse vars more edge.clauses edge.weaks behind
+    ∙ edges_read parse vars more all es rest whole none no_bind no_mark)
+    ∙ ap (λ k. one_edge edge.line k early given asked marks ∷ later) from
+    ∙ ap (λ k. one_edge edge.line start k given asked marks ∷ later) to
+    ∙ ap (λ k. one_edge edge.line start end k asked marks ∷ later) (side_read Antecedent)
+    ∙ ap (λ k. one_edge edge.line start end (said Antecedent) k marks ∷ later)
+    (side_read Consequent)
+    ∙ ap (λ k. one_edge edge.line start end (said Antecedent) (said Consequent) k ∷ later) weak_read
   where
-    no_more : (es : List SaidEdge) (side : Side) → binds_of parse side vars (flat_map edge_entries es ++ rest) ≡ []
+    no_more : (es : List SaidEdge) (side : Side) →
+        binds_of parse side vars (flat_map edge_entries es ++ rest) ≡ []
     no_more [] side = no_bind side
     no_more (e ∷ es) side = refl
+
+    none_marked : (es : List SaidEdge) → marks_of (flat_map edge_entries es ++ rest) ≡ []
+    none_marked [] = no_mark
+    none_marked (e ∷ es) = refl
 
 -- a task, and the later ones
 ended : (front : List Entry) (line : ℕ) (ts : List SaidTask) → (front ++ entry line form.ending ∷ []) ++ Later ts ≡ front ++ entry line form.ending ∷ Later ts
 ended front line ts = append_assoc front (entry line form.ending ∷ []) (Later ts)
 
-task_read : (parse : Parse) (vars : List (List ℕ)) (t : SaidTask) (ts : List SaidTask) → tasks_of parse vars (task_entries t ++ Later ts) ≡ said_task parse vars t ∷ tasks_of parse vars (Later ts)
-task_read parse vars (ste line name reset cs) ts =
+ended_inside : (cs : List SaidClause) (ws : List SaidWeak) (line : ℕ) (ts : List SaidTask) →
+    inside cs ws (entry line form.ending ∷ []) ++ Later ts
+    ≡ inside cs ws (entry line form.ending ∷ Later ts)
+ended_inside cs ws line ts =
+    append_assoc (map clause_entry cs) (map weak_entry ws ++ entry line form.ending ∷ []) (Later ts)
+    ∙ ap (λ k. map clause_entry cs ++ k) (ended (map weak_entry ws) line ts)
+
+task_read : (parse : Parse) (vars : List (List ℕ)) (t : SaidTask) (ts : List SaidTask) →
+    tasks_of parse vars (task_entries t ++ Later ts)
+    ≡ said_task parse vars t ∷ tasks_of parse vars (Later ts)
+task_read parse vars (ste line name reset cs ws) ts =
     let rest = entry line form.ending ∷ Later ts in
-    let side_read : (side : Side) → quints_of parse side vars (map clause_entry cs ++ rest) ≡ map (said_quint parse vars) (on_side side cs) = λ side. quints_read parse side vars cs rest ∙ ap (λ k. map (said_quint parse vars) (on_side side cs) ++ k) (no_quints parse side vars ts) ∙ append-nil (map (said_quint parse vars) (on_side side cs)) in
-    ap (λ k. tasks_of parse vars (entry line (form.ste name reset) ∷ k)) (ended (map clause_entry cs) line ts)
-    ∙ ap (λ k. assertion line name reset k (quints_of parse Consequent vars (map clause_entry cs ++ rest)) ∷ tasks_of parse vars (map clause_entry cs ++ rest)) (side_read Antecedent)
-    ∙ ap (λ k. assertion line name reset (map (said_quint parse vars) (on_side Antecedent cs)) k ∷ tasks_of parse vars (map clause_entry cs ++ rest)) (side_read Consequent)
-    ∙ ap (λ k. said_task parse vars (ste line name reset cs) ∷ k) (tasks_past parse vars cs rest)
+    let lines = inside cs ws rest in
+    let said : Side → List QuintTree = λ side. map (said_quint parse vars) (on_side side cs) in
+    let side_read : (side : Side) → quints_of parse side vars lines ≡ said side =
+    λ side. quints_read parse side vars cs ws rest
+    ∙ ap (λ k. said side ++ k) (no_quints parse side vars ts) ∙ append-nil (said side) in
+    let weak_read : weaks_of lines ≡ map said_weak ws =
+    weaks_read cs ws rest ∙ ap (λ k. map said_weak ws ++ k) (no_weaks ts)
+    ∙ append-nil (map said_weak ws) in
+    let asked = quints_of parse Consequent vars lines in
+    let later = tasks_of parse vars lines in
+    ap (λ k. tasks_of parse vars (entry line (form.ste name reset) ∷ k))
+    (ended_inside cs ws line ts)
+    ∙ ap (λ k. assertion line name reset k asked (weaks_of lines) ∷ later) (side_read Antecedent)
+    ∙ ap (λ k. assertion line name reset (said Antecedent) k (weaks_of lines) ∷ later)
+    (side_read Consequent)
+    ∙ ap (λ k. assertion line name reset (said Antecedent) (said Consequent) k ∷ later) weak_read
+    ∙ ap (λ k. said_task parse vars (ste line name reset cs ws) ∷ k)
+    (tasks_past parse vars cs ws rest)
 task_read parse vars (gste line name vertex reset es) ts =
     let rest = entry line form.ending ∷ Later ts in
     ap (λ k. tasks_of parse vars (entry line (form.gste name vertex reset) ∷ k)) (ended (flat_map edge_entries es) line ts)
     ∙ ap (λ k. graph line name reset k (edges_of parse vars (vertex ∷ []) (flat_map edge_entries es ++ rest)) ∷ tasks_of parse vars (flat_map edge_entries es ++ rest)) (vertices_read (vertex ∷ []) es rest (λ vs. no_vertices vs ts))
-    ∙ ap (λ k. graph line name reset (vertices_said vertex es) k ∷ tasks_of parse vars (flat_map edge_entries es ++ rest)) (edges_read parse vars (vertex ∷ []) (vertices_said vertex es) es rest refl (λ vs. no_edges parse vars vs ts) (λ side. no_binds parse side vars ts))
+    ∙ ap (λ k. graph line name reset (vertices_said vertex es) k ∷ tasks_of parse vars (flat_map edge_entries es ++ rest))
+    (edges_read parse vars (vertex ∷ []) (vertices_said vertex es) es rest refl
+    (λ vs. no_edges parse vars vs ts) (λ side. no_binds parse side vars ts) (no_marks ts))
     ∙ ap (λ k. said_task parse vars (gste line name vertex reset es) ∷ k) (tasks_past_edges parse vars es rest)
 
 tasks_read : (parse : Parse) (vars : List (List ℕ)) (ts : List SaidTask) → tasks_of parse vars (Later ts) ≡ map (said_task parse vars) ts
@@ -330,17 +520,25 @@ all_read parse [] ts = tasks_read parse [] ts
 all_read parse (name ∷ names) ts = tasks_read parse (name ∷ names) ts
 
 -- the variables
-vars_past : (vars : List (List ℕ)) (cs : List SaidClause) (rest : List Entry) → vars_with vars (map clause_entry cs ++ rest) ≡ vars_with vars rest
-vars_past vars [] rest = refl
-vars_past vars (c ∷ cs) rest = vars_past vars cs rest
+vars_past : (vars : List (List ℕ)) (cs : List SaidClause) (ws : List SaidWeak)
+    (rest : List Entry) → vars_with vars (inside cs ws rest) ≡ vars_with vars rest
+vars_past vars [] [] rest = refl
+vars_past vars [] (w ∷ ws) rest = vars_past vars [] ws rest
+vars_past vars (c ∷ cs) ws rest = vars_past vars cs ws rest
 
-vars_past_edges : (vars : List (List ℕ)) (es : List SaidEdge) (rest : List Entry) → vars_with vars (flat_map edge_entries es ++ rest) ≡ vars_with vars rest
+vars_past_edges : (vars : List (List ℕ)) (es : List SaidEdge) (rest : List Entry) →
+    vars_with vars (flat_map edge_entries es ++ rest) ≡ vars_with vars rest
 vars_past_edges vars [] rest = refl
-vars_past_edges vars (e ∷ es) rest = ap (vars_with vars) (edge_apart e es rest) ∙ vars_past vars e.clauses (flat_map edge_entries es ++ rest) ∙ vars_past_edges vars es rest
+vars_past_edges vars (e ∷ es) rest =
+    ap (vars_with vars) (edge_apart e es rest)
+    ∙ vars_past vars e.clauses e.weaks (flat_map edge_entries es ++ rest)
+    ∙ vars_past_edges vars es rest
 
 vars_stay : (vars : List (List ℕ)) (ts : List SaidTask) → vars_with vars (Later ts) ≡ vars
 vars_stay vars [] = refl
-vars_stay vars (ste line name reset cs ∷ ts) = ap (vars_with vars) (ended (map clause_entry cs) line ts) ∙ vars_past vars cs (entry line form.ending ∷ Later ts) ∙ vars_stay vars ts
+vars_stay vars (ste line name reset cs ws ∷ ts) =
+    ap (vars_with vars) (ended_inside cs ws line ts)
+    ∙ vars_past vars cs ws (entry line form.ending ∷ Later ts) ∙ vars_stay vars ts
 vars_stay vars (gste line name vertex reset es ∷ ts) = ap (vars_with vars) (ended (flat_map edge_entries es) line ts) ∙ vars_past_edges vars es (entry line form.ending ∷ Later ts) ∙ vars_stay vars ts
 
 vars_read : (vars : List (List ℕ)) (ts : List SaidTask) → vars_with [] (vars_entries vars ++ Later ts) ≡ vars
@@ -425,6 +623,36 @@ binds_clean parse c (clause ∷ cs) rest is at all =
     (fault_none c.vars (parse (spaced clause.value)) (parse (guard_text clause.guard)) (said_span clause.times) (value_fine parse c.vars clause.value is h.value) (guard_fine parse c.vars clause.guard is h.guard) (early clause.times))
     ∙ binds_clean parse c cs rest is at (All-tail (IsBindSaid c.vars) clause cs all)
 
+if_may : (b : Bool) (found : Option LineFault) → b ≡ true → found ≡ None → (if b then found else Some Bad) ≡ None
+if_may true found e n = n
+if_may false found e n = absurd (cc e)
+
+not_late : (times : Option SaidTimes) → span_fault (said_span times) ≡ None
+not_late None = refl
+not_late (Some times) = refl
+
+-- weakenings whose times fit the place
+abbrev WeaksFit : Place → List SaidWeak → Type 0
+WeaksFit at ws = All (λ w. span_fits (said_span w.times) at ≡ true) ws
+
+weaks_clean : (parse : Parse) (c : Context) (ws : List SaidWeak) (rest : List Entry) →
+    WeaksFit c.place ws →
+    fault_from parse c (map weak_entry ws ++ rest) ≡ fault_from parse c rest
+weaks_clean parse c [] rest all = refl
+weaks_clean parse c (w ∷ ws) rest all =
+    let fits = All-head (λ w. span_fits (said_span w.times) c.place ≡ true) w ws all in
+    ap (λ f. fault_or w.line f (fault_from parse c (map weak_entry ws ++ rest)))
+    (if_may (span_fits (said_span w.times) c.place) (span_fault (said_span w.times)) fits
+    (not_late w.times))
+    ∙ weaks_clean parse c ws rest
+    (All-tail (λ w. span_fits (said_span w.times) c.place ≡ true) w ws all)
+
+timed_fit : (ws : List SaidWeak) → All (λ w. IsTimed w.times) ws → WeaksFit place.Assertion ws
+timed_fit ws all = λ k d h. timed_fits (get_or ws k d).times (all k d h)
+
+bare_fit : (ws : List SaidWeak) → All (λ w. w.times ≡ None) ws → WeaksFit place.Edge ws
+bare_fit ws all = λ k d h. bare_fits (get_or ws k d).times (all k d h)
+
 -- vertices only grow
 key_grows : (b : Bool) (vertices : List (List ℕ)) (x : List ℕ) → length vertices ≤ length (if b then vertices else vertices ++ x ∷ [])
 key_grows true vertices x = omega arith
@@ -440,22 +668,24 @@ all_grow vertices (x ∷ xs) =
 graph_fine : (vertices : List (List ℕ)) (edges : ℕ) → length vertices ≤ 1000 → edges ≤ 10000 → graph_fault vertices edges ≡ None
 graph_fine vertices edges v e = rw (le_true (length vertices) 1000 v) (rw (le_true edges 10000 e) refl)
 
-if_may : (b : Bool) (found : Option LineFault) → b ≡ true → found ≡ None → (if b then found else Some Bad) ≡ None
-if_may true found e n = n
-if_may false found e n = absurd (cc e)
-
-edges_clean : (parse : Parse) (at : Place) (vars names vertices : List (List ℕ)) (edges : ℕ) (es : List SaidEdge) (rest : List Entry) → IsParse parse → holds_edges at ≡ true → length (insert_all bytes_eq vertices (flat_map ends_of es)) ≤ 1000 → edges + length es ≤ 10000 → All (EdgeSaid vars) es → ((next : Place) (vs : List (List ℕ)) (k : ℕ) → holds_edges next ≡ true → fault_from parse (context next vars names vs k) rest ≡ None) → fault_from parse (context at vars names vertices edges) (flat_map edge_entries es ++ rest) ≡ None
+edges_clean : (parse : Parse) (at : Place) (vars names vertices : List (List ℕ)) (edges : ℕ) (es : List SaidEdge) (rest : List Entry) → IsParse parse → holds_edges at ≡ true → length (insert_all bytes_eq vertices (flat_map ends_of es)) ≤ 1000 → edges + length es ≤ 10000 → All (IsEdgeSaid vars) es → ((next : Place) (vs : List (List ℕ)) (k : ℕ) → holds_edges next ≡ true → fault_from parse (context next vars names vs k) rest ≡ None) → fault_from parse (context at vars names vertices edges) (flat_map edge_entries es ++ rest) ≡ None
 edges_clean parse at vars names vertices edges [] rest is holds few most all later = later at vertices edges holds
 edges_clean parse at vars names vertices edges (e ∷ es) rest is holds few most all later =
     let more = insert_all bytes_eq vertices (ends_of e) in
     let whole : insert_all bytes_eq vertices (flat_map ends_of (e ∷ es)) ≡ insert_all bytes_eq more (flat_map ends_of es) = fold-append _ vertices (ends_of e) (flat_map ends_of es) in
     let few2 : length (insert_all bytes_eq more (flat_map ends_of es)) ≤ 1000 = subst (λ k. length k ≤ 1000) whole few in
     let grown = all_grow more (flat_map ends_of es) in
+    let said = All-head (IsEdgeSaid vars) e es all in
+    let now = context place.Edge vars names more (suc edges) in
+    let behind = flat_map edge_entries es ++ rest in
     let fine : graph_fault more (suc edges) ≡ None = graph_fine more (suc edges) (omega (arith, few2, grown)) (omega (arith, most)) in
     ap (fault_from parse (context at vars names vertices edges)) (edge_apart e es rest)
-    ∙ ap (λ f. fault_or e.line f (fault_from parse (context place.Edge vars names more (suc edges)) (map clause_entry e.clauses ++ (flat_map edge_entries es ++ rest)))) (if_may (holds_edges at) (graph_fault more (suc edges)) holds fine)
-    ∙ binds_clean parse (context place.Edge vars names more (suc edges)) e.clauses (flat_map edge_entries es ++ rest) is refl (All-head (EdgeSaid vars) e es all)
-    ∙ edges_clean parse place.Edge vars names more (suc edges) es rest is refl few2 (omega (arith, most)) (All-tail (EdgeSaid vars) e es all) later
+    ∙ ap (λ f. fault_or e.line f (fault_from parse now (inside e.clauses e.weaks behind)))
+    (if_may (holds_edges at) (graph_fault more (suc edges)) holds fine)
+    ∙ binds_clean parse now e.clauses (map weak_entry e.weaks ++ behind) is refl said.clauses
+    ∙ weaks_clean parse now e.weaks behind (bare_fit e.weaks said.weaks)
+    ∙ edges_clean parse place.Edge vars names more (suc edges) es rest is refl few2
+    (omega (arith, most)) (All-tail (IsEdgeSaid vars) e es all) later
 
 -- names
 first_new : (b : Bool) (name : List ℕ) (later : Option (List ℕ)) → (if b then Some name else later) ≡ None → (b ≡ false) × (later ≡ None)
@@ -475,15 +705,21 @@ behind_graph parse vars names line ts clean place.Ended vs k h = absurd (cc h)
 
 tasks_clean : (parse : Parse) (at : Place) (vars names vertices : List (List ℕ)) (edges : ℕ) (ts : List SaidTask) → IsParse parse → All (IsSayable vars) ts → first_double names (map said_name ts) ≡ None → length names + length ts ≤ 256 → fault_from parse (context at vars names vertices edges) (Later ts) ≡ None
 tasks_clean parse at vars names vertices edges [] is all new few = refl
-tasks_clean parse at vars names vertices edges (ste line name reset cs ∷ ts) is all new few =
-    let say = All-head (IsSayable vars) (ste line name reset cs) ts all in
+tasks_clean parse at vars names vertices edges (ste line name reset cs ws ∷ ts) is all new few =
+    let say = All-head (IsSayable vars) (ste line name reset cs ws) ts all in
     let fresh = first_new (list_any (bytes_eq name) names) name (first_double (names ++ name ∷ []) (map said_name ts)) new in
     let n = length-append names (name ∷ []) in
+    let now = context place.Assertion vars (names ++ name ∷ []) vertices edges in
     let behind = entry line form.ending ∷ Later ts in
-    ap (λ k. fault_from parse (context at vars names vertices edges) (entry line (form.ste name reset) ∷ k)) (ended (map clause_entry cs) line ts)
-    ∙ ap (λ f. fault_or line f (fault_from parse (context place.Assertion vars (names ++ name ∷ []) vertices edges) (map clause_entry cs ++ behind))) (names_fine names name fresh.0 (omega (arith, few)))
-    ∙ quints_clean parse (context place.Assertion vars (names ++ name ∷ []) vertices edges) cs behind is refl say
-    ∙ tasks_clean parse place.Ended vars (names ++ name ∷ []) vertices edges ts is (All-tail (IsSayable vars) (ste line name reset cs) ts all) fresh.1 (omega (arith, n, few))
+    let before = context at vars names vertices edges in
+    ap (λ k. fault_from parse before (entry line (form.ste name reset) ∷ k))
+    (ended_inside cs ws line ts)
+    ∙ ap (λ f. fault_or line f (fault_from parse now (inside cs ws behind)))
+    (names_fine names name fresh.0 (omega (arith, few)))
+    ∙ quints_clean parse now cs (map weak_entry ws ++ behind) is refl say.0
+    ∙ weaks_clean parse now ws behind (timed_fit ws say.1)
+    ∙ tasks_clean parse place.Ended vars (names ++ name ∷ []) vertices edges ts is
+    (All-tail (IsSayable vars) (ste line name reset cs ws) ts all) fresh.1 (omega (arith, n, few))
 tasks_clean parse at vars names vertices edges (gste line name vertex reset es ∷ ts) is all new few =
     let say = All-head (IsSayable vars) (gste line name vertex reset es) ts all in
     let fresh = first_new (list_any (bytes_eq name) names) name (first_double (names ++ name ∷ []) (map said_name ts)) new in

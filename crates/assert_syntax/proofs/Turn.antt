@@ -129,7 +129,7 @@ all_read lines i c draft tasks vertices n v told inv parse is =
 
 few_closed : (tasks : List RawTask) (task : OpenTask) (vertices : List (List ℕ)) → length (tasks_closed tasks task vertices) ≡ length tasks + open_count task
 few_closed tasks Closed vertices = omega arith
-few_closed tasks (Ste head name reset ant con) vertices = length-append tasks _
+few_closed tasks (Ste head name reset ant con weak) vertices = length-append tasks _
 few_closed tasks (Gste head name reset edges edge) vertices = length-append tasks _
 
 -- there are no more tasks than there may be

@@ -30,6 +30,8 @@ pub data Form : Type 0 where
   edge : List ℕ → List ℕ → Form
   -- it is a line of an antecedent or of a consequent
   clause : Clause → Form
+  -- it weakens a net, perhaps at these times
+  weak : List ℕ → Span → Form
   -- it ends a task
   ending : Form
   -- it may stand nowhere
@@ -113,6 +115,16 @@ clause_of side (node ∷ equals ∷ words) =
     if bytes_eq equals (codes "=") then valued side node (spaced (take size words)) (drop size words) else wrong
 clause_of side other = wrong
 
+-- a weakening, where its line ends in times that have their form
+abbrev pub weak_with : List ℕ → Option Span → Form
+weak_with node None = wrong
+weak_with node (Some span) = weak node span
+
+-- what the words behind `.weak` spell: a node, and perhaps times
+abbrev pub weak_of : List (List ℕ) → Form
+weak_of [] = wrong
+weak_of (node ∷ words) = weak_with node (span_of words)
+
 -- the form of a line by its words
 abbrev pub form_of : List (List ℕ) → Form
 form_of [] = wrong
@@ -123,5 +135,6 @@ form_of (first ∷ words) =
     else if bytes_eq first (codes ".edge") then edge_of words
     else if bytes_eq first (codes ".ant") then clause_of Antecedent words
     else if bytes_eq first (codes ".con") then clause_of Consequent words
+    else if bytes_eq first (codes ".weak") then weak_of words
     else if bytes_eq first (codes ".end") then end_of words
     else wrong

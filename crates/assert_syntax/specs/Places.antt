@@ -32,7 +32,7 @@ holds_edges Graph = true
 holds_edges Edge = true
 holds_edges other = false
 
--- a clause with these times may stand here: without times behind an edge, and with times in an assertion
+-- a clause or a weakening with these times may stand here: without times behind an edge, and with times in an assertion
 abbrev pub span_fits : Span → Place → Bool
 span_fits span.Absent Edge = true
 span_fits span.Absent other = false
@@ -46,6 +46,7 @@ may_stand (form.ste name reset) place = true
 may_stand (form.gste name vertex reset) place = true
 may_stand (form.edge from to) place = holds_edges place
 may_stand (form.clause clause) place = span_fits clause.span place
+may_stand (form.weak node times) place = span_fits times place
 may_stand form.ending place = is_inside place
 may_stand form.wrong place = false
 
@@ -152,6 +153,7 @@ form_fault parse context (form.gste name vertex reset) =
 form_fault parse context (form.edge from to) =
     graph_fault (vertices_behind (form.edge from to) context.vertices) (suc context.edges)
 form_fault parse context (form.clause clause) = clause_fault context.vars (parse clause.value) (parse clause.guard) clause.span
+form_fault parse context (form.weak node times) = span_fault times
 form_fault parse context other = None
 
 -- what is wrong with a line of this form

@@ -46,7 +46,7 @@ pub record IsBehind (lines : List Entry) (i : ℕ) (place : Place) : Type 0 wher
   pub opened : opens head ≡ Some place
   pub nearest : (k : ℕ) (form : Form) → start < k → k < i → HasForm lines k form → opens form ≡ None
 
--- a clause with these times may stand at place i: without times behind an edge, and with times in an assertion
+-- a clause or a weakening with these times may stand at place i: without times behind an edge, and with times in an assertion
 abbrev pub ClauseStands : List Entry → ℕ → Span → Type 0
 ClauseStands lines i span.Absent = IsBehind lines i Edge
 ClauseStands lines i times = IsBehind lines i Assertion
@@ -59,6 +59,7 @@ Stands lines i (form.ste name reset) = Unit {0}
 Stands lines i (form.gste name vertex reset) = Unit {0}
 Stands lines i (form.edge from to) = IsBehind lines i Graph ⊎ IsBehind lines i Edge
 Stands lines i (form.clause clause) = ClauseStands lines i clause.span
+Stands lines i (form.weak node times) = ClauseStands lines i times
 Stands lines i form.ending = IsBehind lines i Assertion ⊎ (IsBehind lines i Graph ⊎ IsBehind lines i Edge)
 Stands lines i form.wrong = ⊥
 
@@ -164,6 +165,7 @@ IsMany lines i (form.ste name reset) = 256 < length (tasks_named lines (suc i))
 IsMany lines i (form.gste name vertex reset) = 256 < length (tasks_named lines (suc i))
 IsMany lines i (form.edge from to) = IsLargeGraph lines i
 IsMany lines i (form.clause clause) = IsLate clause.span
+IsMany lines i (form.weak node times) = IsLate times
 IsMany lines i other = ⊥
 
 -- this is wrong with a line of this form at place i

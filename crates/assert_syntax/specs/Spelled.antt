@@ -8,8 +8,10 @@ use Rattle.assert_syntax.specs.declared.form.Span.{Span}
 use Rattle.assert_syntax.specs.declared.form.Span.TheVariants as span
 use Rattle.assert_syntax.specs.declared.tasks.RawBind.{RawBind}
 use Rattle.assert_syntax.specs.declared.tasks.RawEdge.{RawEdge}
+use Rattle.assert_syntax.specs.declared.tasks.RawMark.{RawMark}
 use Rattle.assert_syntax.specs.declared.tasks.RawQuint.{RawQuint}
 use Rattle.assert_syntax.specs.declared.tasks.RawTask.{RawTask}
+use Rattle.assert_syntax.specs.declared.tasks.RawWeak.{RawWeak}
 use Rattle.assert_syntax.specs.declared.tasks.RawTask.TheVariants.{Ste, Gste}
 use Rattle.assert_syntax.specs.Forms.{Clause, Entry, Form}
 use Rattle.assert_syntax.specs.Forms as form
@@ -32,6 +34,17 @@ pub record BindTree : Type 0 where
   pub node : List ℕ
   pub value : Tree
 
+-- a weakening of an assertion, and a weakened net of an edge
+pub record WeakTree : Type 0 where
+  pub line : ℕ
+  pub node : List ℕ
+  pub from : ℕ
+  pub to : ℕ
+
+pub record MarkTree : Type 0 where
+  pub line : ℕ
+  pub node : List ℕ
+
 -- an edge, with trees for its expressions
 pub record EdgeTree : Type 0 where
   pub line : ℕ
@@ -39,11 +52,12 @@ pub record EdgeTree : Type 0 where
   pub to : ℕ
   pub ant : List BindTree
   pub con : List BindTree
+  pub weak : List MarkTree
 
 -- a task, with trees for its expressions
 pub data TaskTree : Type 0 where
-  -- line, name, reset, antecedent and consequent
-  assertion : ℕ → List ℕ → Bool → List QuintTree → List QuintTree → TaskTree
+  -- line, name, reset, antecedent, consequent and weakenings
+  assertion : ℕ → List ℕ → Bool → List QuintTree → List QuintTree → List WeakTree → TaskTree
   -- line, name, reset, vertices and edges
   graph : ℕ → List ℕ → Bool → List (List ℕ) → List EdgeTree → TaskTree
 
@@ -54,14 +68,28 @@ quint_tree quint = record { line = quint.line; guard = tree_of quint.guard; node
 abbrev pub bind_tree : RawBind → BindTree
 bind_tree bind = record { line = bind.line; guard = tree_of bind.guard; node = bind.node; value = tree_of bind.value }
 
+abbrev pub weak_tree : RawWeak → WeakTree
+weak_tree weak = record { line = weak.line; node = weak.node; from = weak.from; to = weak.to }
+
+abbrev pub mark_tree : RawMark → MarkTree
+mark_tree mark = record { line = mark.line; node = mark.node }
+
 abbrev pub edge_tree : RawEdge → EdgeTree
-edge_tree edge = record { line = edge.line; from = edge.from; to = edge.to; ant = map bind_tree edge.ant; con = map bind_tree edge.con }
+edge_tree edge = record {
+  line = edge.line;
+  from = edge.from;
+  to = edge.to;
+  ant = map bind_tree edge.ant;
+  con = map bind_tree edge.con;
+  weak = map mark_tree edge.weak;
+}
 
 abbrev pub task_tree : RawTask → TaskTree
-task_tree (Ste line name reset ant con) = assertion line name reset (map quint_tree ant) (map quint_tree con)
+task_tree (Ste line name reset ant con weak) =
+    assertion line name reset (map quint_tree ant) (map quint_tree con) (map weak_tree weak)
 task_tree (Gste line name reset vertices edges) = graph line name reset vertices (map edge_tree edges)
 
--- the two times of a clause; without times both are 0
+-- the two times of a clause or of a weakening; without times both are 0
 abbrev pub from_of : Span → ℕ
 from_of (span.During from to) = from
 from_of other = 0
@@ -123,6 +151,30 @@ binds_of parse side vars [] = []
 binds_of parse side vars (line ∷ lines) =
     binds_with parse side vars line.line line.form (binds_of parse side (vars_behind line.form vars) lines)
 
+-- the weakenings up to the next line that starts a task
+abbrev pub weaks_with : ℕ → Form → List WeakTree → List WeakTree
+weaks_with line (form.weak node times) later =
+    record { line = line; node = node; from = from_of times; to = to_of times } ∷ later
+weaks_with line (form.ste name reset) later = []
+weaks_with line (form.gste name vertex reset) later = []
+weaks_with line other later = later
+
+abbrev pub weaks_of : List Entry → List WeakTree
+weaks_of [] = []
+weaks_of (line ∷ lines) = weaks_with line.line line.form (weaks_of lines)
+
+-- the weakened nets up to the next line that starts an edge or a task
+abbrev pub marks_with : ℕ → Form → List MarkTree → List MarkTree
+marks_with line (form.weak node times) later = record { line = line; node = node } ∷ later
+marks_with line (form.edge from to) later = []
+marks_with line (form.ste name reset) later = []
+marks_with line (form.gste name vertex reset) later = []
+marks_with line other later = later
+
+abbrev pub marks_of : List Entry → List MarkTree
+marks_of [] = []
+marks_of (line ∷ lines) = marks_with line.line line.form (marks_of lines)
+
 -- the number of a vertex: its place among the vertices
 abbrev pub vertex_number : List (List ℕ) → List ℕ → ℕ
 vertex_number vertices word = unwrap_or (position (bytes_eq word) vertices) (length vertices)
@@ -145,6 +197,7 @@ edge_said parse vars vertices line from to lines = record {
   to = vertex_number vertices to;
   ant = binds_of parse Antecedent vars lines;
   con = binds_of parse Consequent vars lines;
+  weak = marks_of lines;
 }
 
 -- the edges up to the next line that starts a task, behind these vertices
@@ -164,7 +217,7 @@ edges_of parse vars vertices (line ∷ lines) =
 -- a task for each line that starts one, behind lines that declare these variables
 abbrev pub tasks_with : Parse → List (List ℕ) → ℕ → Form → List Entry → List TaskTree → List TaskTree
 tasks_with parse vars line (form.ste name reset) lines later =
-    assertion line name reset (quints_of parse Antecedent vars lines) (quints_of parse Consequent vars lines) ∷ later
+    assertion line name reset (quints_of parse Antecedent vars lines) (quints_of parse Consequent vars lines) (weaks_of lines) ∷ later
 tasks_with parse vars line (form.gste name vertex reset) lines later =
     graph line name reset (vertices_of (vertex ∷ []) lines) (edges_of parse vars (vertex ∷ []) lines) ∷ later
 tasks_with parse vars line other lines later = later

@@ -13,7 +13,7 @@ use Rattle.assert_syntax.specs.Answer.{entries_of}
 use Rattle.assert_syntax.specs.Parses.{Parse, IsParse, tree_over}
 use Rattle.assert_syntax.specs.Places.{first_fault}
 use Rattle.assert_syntax.specs.Rules.{IsFirstDouble}
-use Rattle.assert_syntax.specs.Spelled.{QuintTree, BindTree, EdgeTree, TaskTree, assertion, graph, is_side, tasks_of, vars_with, vertex_number}
+use Rattle.assert_syntax.specs.Spelled.{QuintTree, BindTree, EdgeTree, MarkTree, TaskTree, WeakTree, assertion, graph, is_side, tasks_of, vars_with, vertex_number}
 use Rattle.assert_syntax.specs.Words.{ends_expression, is_variable, moment_of}
 
 -- the times of a clause: how they are written, and what they are
@@ -32,17 +32,24 @@ pub record SaidClause : Type 0 where
   pub guard : Option (List (List ℕ))
   pub times : Option SaidTimes
 
--- an edge between two vertices, with its clauses in order
+-- a weakening: its times where it has them
+pub record SaidWeak : Type 0 where
+  pub line : ℕ
+  pub node : List ℕ
+  pub times : Option SaidTimes
+
+-- an edge between two vertices, with its clauses and its weakenings, each in order
 pub record SaidEdge : Type 0 where
   pub line : ℕ
   pub from : List ℕ
   pub to : List ℕ
   pub clauses : List SaidClause
+  pub weaks : List SaidWeak
 
 -- a task
 pub data SaidTask : Type 0 where
-  -- line, name, reset and clauses in order
-  ste : ℕ → List ℕ → Bool → List SaidClause → SaidTask
+  -- line, name, reset, clauses in order and weakenings in order
+  ste : ℕ → List ℕ → Bool → List SaidClause → List SaidWeak → SaidTask
   -- line, name, initial vertex, reset and edges in order
   gste : ℕ → List ℕ → List ℕ → Bool → List SaidEdge → SaidTask
 
@@ -70,17 +77,24 @@ line_of number words = record { number = number; words = words }
 abbrev pub clause_line : SaidClause → Line
 clause_line clause = line_of clause.line (clause_words clause)
 
+-- the line of a weakening
+abbrev pub weak_line : SaidWeak → Line
+weak_line weak = line_of weak.line (codes ".weak" ∷ weak.node ∷ times_words weak.times)
+
 -- the lines of an edge
 abbrev pub edge_lines : SaidEdge → List Line
-edge_lines edge = line_of edge.line (codes ".edge" ∷ edge.from ∷ edge.to ∷ []) ∷ map clause_line edge.clauses
+edge_lines edge =
+    line_of edge.line (codes ".edge" ∷ edge.from ∷ edge.to ∷ [])
+    ∷ (map clause_line edge.clauses ++ map weak_line edge.weaks)
 
 -- the lines of a task
 abbrev pub reset_words : Bool → List (List ℕ)
 reset_words reset = if reset then codes "reset" ∷ [] else []
 
 abbrev pub task_lines : SaidTask → List Line
-task_lines (ste line name reset clauses) =
-    line_of line (codes ".ste" ∷ name ∷ reset_words reset) ∷ (map clause_line clauses ++ line_of line (codes ".end" ∷ []) ∷ [])
+task_lines (ste line name reset clauses weaks) =
+    line_of line (codes ".ste" ∷ name ∷ reset_words reset)
+    ∷ (map clause_line clauses ++ (map weak_line weaks ++ line_of line (codes ".end" ∷ []) ∷ []))
 task_lines (gste line name vertex reset edges) =
     line_of line (codes ".gste" ∷ name ∷ vertex ∷ reset_words reset) ∷ (flat_map edge_lines edges ++ line_of line (codes ".end" ∷ []) ∷ [])
 
@@ -126,6 +140,13 @@ said_bind parse vars clause = record {
   value = tree_over vars (parse (spaced clause.value));
 }
 
+-- what a weakening says, in an assertion and behind an edge
+abbrev pub said_weak : SaidWeak → WeakTree
+said_weak weak = record { line = weak.line; node = weak.node; from = said_from weak.times; to = said_to weak.times }
+
+abbrev pub said_mark : SaidWeak → MarkTree
+said_mark weak = record { line = weak.line; node = weak.node }
+
 -- the clauses of one side
 abbrev pub on_side : Side → List SaidClause → List SaidClause
 on_side side clauses = filter (λ clause. is_side side clause.side) clauses
@@ -145,12 +166,14 @@ said_edge parse vars vertices edge = record {
   to = vertex_number vertices edge.to;
   ant = map (said_bind parse vars) (on_side Antecedent edge.clauses);
   con = map (said_bind parse vars) (on_side Consequent edge.clauses);
+  weak = map said_mark edge.weaks;
 }
 
 -- what a task says
 abbrev pub said_task : Parse → List (List ℕ) → SaidTask → TaskTree
-said_task parse vars (ste line name reset clauses) =
+said_task parse vars (ste line name reset clauses weaks) =
     assertion line name reset (map (said_quint parse vars) (on_side Antecedent clauses)) (map (said_quint parse vars) (on_side Consequent clauses))
+    (map said_weak weaks)
 said_task parse vars (gste line name vertex reset edges) =
     graph line name reset (vertices_said vertex edges) (map (said_edge parse vars (vertices_said vertex edges)) edges)
 
@@ -188,15 +211,21 @@ pub record IsBindSaid (vars : List (List ℕ)) (clause : SaidClause) : Type 0 wh
   pub guard : IsGuard vars clause.guard
   pub times : clause.times ≡ None
 
+-- an edge that can be written: its weakenings have no times
+pub record IsEdgeSaid (vars : List (List ℕ)) (edge : SaidEdge) : Type 0 where
+  pub clauses : All (IsBindSaid vars) edge.clauses
+  pub weaks : All (λ weak. weak.times ≡ None) edge.weaks
+
 -- a task that can be written
 abbrev pub IsSayable : List (List ℕ) → SaidTask → Type 0
-IsSayable vars (ste line name reset clauses) = All (IsQuintSaid vars) clauses
+IsSayable vars (ste line name reset clauses weaks) =
+    All (IsQuintSaid vars) clauses × All (λ weak. IsTimed weak.times) weaks
 IsSayable vars (gste line name vertex reset edges) =
-    (length (vertices_said vertex edges) ≤ 1000) × (length edges ≤ 10000) × All (λ edge. All (IsBindSaid vars) edge.clauses) edges
+    (length (vertices_said vertex edges) ≤ 1000) × (length edges ≤ 10000) × All (IsEdgeSaid vars) edges
 
 -- the name of a task
 abbrev pub said_name : SaidTask → List ℕ
-said_name (ste line name reset clauses) = name
+said_name (ste line name reset clauses weaks) = name
 said_name (gste line name vertex reset edges) = name
 
 -- variables and tasks that can be written: no more than there may be, and no name twice

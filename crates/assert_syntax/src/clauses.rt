@@ -28,7 +28,7 @@ fn span_between(from: Moment, to: Moment) -> Option<Span>
 }
 
 /// The times that end a line.
-fn span_of(words: &[Name]) -> Option<Span>
+pub fn span_of(words: &[Name]) -> Option<Span>
     ensures { result ≡ span_of words.now }
 {
     match words {

@@ -3,10 +3,11 @@
 ghost use Rattle.std.specs.Prelude.{◌≡◌, IfOk, OnOk};
 ghost use Rattle.assert_syntax.specs.Spelled.{from_of, to_of};
 ghost use Rattle.assert_syntax.specs.private.Drafts.{side_added, edge_with, clause_added, edges_closed, edge_added, tasks_closed, quint_of, bind_of};
+ghost use Rattle.assert_syntax.specs.private.Drafts.{mark_added, weak_added};
 ghost use Rattle.assert_syntax.specs.private.Held.{clause_held};
 
 use crate::form::{Clause, Side, Span};
-use crate::tasks::{RawBind, RawEdge, RawQuint, RawTask};
+use crate::tasks::{RawBind, RawEdge, RawMark, RawQuint, RawTask, RawWeak};
 use bool_expr::Expr;
 use std::alloc::{AllocError, Global};
 use ste_base::{Items, Name, Time};
@@ -23,6 +24,7 @@ pub enum OpenTask {
         reset: bool,
         ant: Items<RawQuint>,
         con: Items<RawQuint>,
+        weak: Items<RawWeak>,
     },
     /// A graph: its edges, and the one that later lines may add to.
     Gste {
@@ -57,7 +59,7 @@ fn side_added<T: Drop>(
     Ok(())
 }
 
-/// The first time of a clause.
+/// The first time of a clause or of a weakening; without times it is 0.
 fn from_of(span: Span) -> Time
     ensures { result ≡ from_of span }
 {
@@ -67,7 +69,7 @@ fn from_of(span: Span) -> Time
     }
 }
 
-/// The time up to which a clause goes.
+/// The time up to which a clause or a weakening goes; without times it is 0.
 fn to_of(span: Span) -> Time
     ensures { result ≡ to_of span }
 {
@@ -136,6 +138,43 @@ pub fn clause_added(
     }
 }
 
+/// Adds a weakened node to the edge.
+fn mark_added(edge: &mut Option<RawEdge>, mark: RawMark) -> Result<(), AllocError>
+    ensures { OnOk result (edge.new ≡ mark_added edge.old mark) }
+{
+    if let Some(RawEdge { weak, .. }) = edge {
+        weak.push(mark)?;
+    }
+    Ok(())
+}
+
+/// Adds a weakening to the open task, in place.
+pub fn weak_added(
+    task: &mut OpenTask,
+    line: u32,
+    node: &Name,
+    times: Span,
+) -> Result<(), AllocError>
+    ensures { OnOk result (task.new ≡ weak_added task.old line node.now times) }
+{
+    match task {
+        OpenTask::Closed => Ok(()),
+        OpenTask::Ste { weak, .. } => weak.push(RawWeak {
+            line,
+            node: node.clone()?,
+            from: from_of(times),
+            to: to_of(times),
+        }),
+        OpenTask::Gste { edge, .. } => mark_added(
+            edge,
+            RawMark {
+                line,
+                node: node.clone()?,
+            },
+        ),
+    }
+}
+
 /// Adds the edge that was open to the others.
 fn edges_closed(edges: &mut Items<RawEdge>, edge: Option<RawEdge>) -> Result<(), AllocError>
     ensures { OnOk result (edges.new ≡ edges_closed edges.old edge) }
@@ -165,6 +204,7 @@ pub fn edge_added(
         to,
         ant: Items::new(alloc),
         con: Items::new(alloc),
+        weak: Items::new(alloc),
     };
     edges_closed(edges, edge.replace(next))
 }
@@ -186,12 +226,14 @@ pub fn tasks_closed(
             reset,
             ant,
             con,
+            weak,
         } => tasks.push(RawTask::Ste {
             line: head,
             name,
             reset,
             ant,
             con,
+            weak,
         }),
         OpenTask::Gste {
             head,

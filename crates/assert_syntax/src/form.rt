@@ -35,10 +35,10 @@ pub enum Moment {
     Never,
 }
 
-/// The times of a clause.
+/// The times of a clause or of a weakening.
 #[derive(Clone, Copy, PartialEq, Eq)]
 pub enum Span {
-    /// The clause has none.
+    /// The line has none.
     Absent,
     /// From the first up to, but not at, the second. The first is not above the second.
     During(Time, Time),
@@ -78,6 +78,8 @@ pub enum Form<'a> {
     Edge(&'a Name, &'a Name),
     /// A line of an antecedent or of a consequent.
     Clause(Clause<'a>),
+    /// A line that weakens this node, perhaps at these times.
+    Weak(&'a Name, Span),
     /// A line that ends a task.
     End,
     /// A line that may stand nowhere.

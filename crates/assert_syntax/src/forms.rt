@@ -2,10 +2,11 @@
 
 ghost use Rattle.std.specs.Prelude.{◌≡◌};
 ghost use Rattle.assert_syntax.specs.Forms.{vars_of, ste_of, gste_of, edge_of, end_of, form_of};
+ghost use Rattle.assert_syntax.specs.Forms.{weak_with, weak_of};
 ghost use Rattle.assert_syntax.specs.private.Held.{form_held};
 
-use crate::clauses::clause_of;
-use crate::form::{Form, Side};
+use crate::clauses::{clause_of, span_of};
+use crate::form::{Form, Side, Span};
 use crate::words::{are_variables, is};
 use ste_base::Name;
 
@@ -64,6 +65,26 @@ fn edge_of(words: &[Name]) -> Form<'_>
     }
 }
 
+/// A weakening, where its line ends in times that have their form.
+fn weak_with(node: &Name, times: Option<Span>) -> Form<'_>
+    ensures { form_held result ≡ weak_with node.now times }
+{
+    match times {
+        Some(times) => Form::Weak(node, times),
+        None => Form::Wrong,
+    }
+}
+
+/// What the words behind `.weak` spell: a node, and perhaps times.
+fn weak_of(words: &[Name]) -> Form<'_>
+    ensures { form_held result ≡ weak_of words.now }
+{
+    match words {
+        [node, rest @ ..] => weak_with(node, span_of(rest)),
+        [] => Form::Wrong,
+    }
+}
+
 /// What the words behind `.end` spell.
 fn end_of(words: &[Name]) -> Form<'_>
     ensures { form_held result ≡ end_of words.now }
@@ -95,6 +116,8 @@ pub fn form_of(words: &[Name]) -> Form<'_>
         clause_of(Side::Antecedent, rest)
     } else if is(word, ".con") {
         clause_of(Side::Consequent, rest)
+    } else if is(word, ".weak") {
+        weak_of(rest)
     } else if is(word, ".end") {
         end_of(rest)
     } else {

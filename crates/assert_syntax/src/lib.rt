@@ -17,4 +17,4 @@ mod words;
 
 pub use fault::TaskFault;
 pub use read::read_tasks;
-pub use tasks::{RawBind, RawEdge, RawQuint, RawTask, RawTasks};
+pub use tasks::{RawBind, RawEdge, RawMark, RawQuint, RawTask, RawTasks, RawWeak};

@@ -51,7 +51,8 @@ fn holds_edges(place: Place) -> bool
     }
 }
 
-/// Whether a clause with these times may stand here: without times behind an edge, and with times in an assertion.
+/// Whether a clause or a weakening with these times may stand here: without times behind an edge,
+/// and with times in an assertion.
 fn span_fits(span: Span, place: Place) -> bool
     ensures { result ≡ span_fits span place }
 {
@@ -72,6 +73,7 @@ pub(crate) fn may_stand(form: &Form, place: Place) -> bool
         Form::Ste(_, _) | Form::Gste(_, _, _) => true,
         Form::Edge(_, _) => holds_edges(place),
         Form::Clause(clause) => span_fits(clause.span, place),
+        Form::Weak(_, times) => span_fits(*times, place),
         Form::End => is_inside(place),
         Form::Wrong => false,
     }

@@ -4,16 +4,16 @@ ghost use Rattle.std.specs.Prelude.{◌≡◌, []};
 ghost use Rattle.assert_syntax.specs.Forms as form;
 ghost use Rattle.assert_syntax.specs.Answer.{IsAnswer, entries_of};
 ghost use Rattle.assert_syntax.specs.Parses.{Parse, IsParse};
-ghost use Rattle.assert_syntax.specs.Places.{context_of};
+ghost use Rattle.assert_syntax.specs.Places.{Context, context_of};
 ghost use Rattle.assert_syntax.specs.declared.draft.OpenTask.TheVariants as task;
 ghost use Rattle.assert_syntax.specs.private.Drafts.{context_held, HasRoom};
 ghost use Rattle.assert_syntax.specs.private.Held.{clause_held, form_held};
 ghost use Rattle.assert_syntax.specs.private.Steps.{IsStep};
 
-use crate::draft::{Draft, OpenTask, clause_added, edge_added, tasks_closed};
+use crate::draft::{Draft, OpenTask, clause_added, edge_added, tasks_closed, weak_added};
 use crate::exprs::exprs_of;
 use crate::fault::TaskFault;
-use crate::form::{Clause, Form};
+use crate::form::{Clause, Form, Span};
 use crate::forms::form_of;
 use crate::known::Known;
 use crate::place::{Place, may_stand};
@@ -43,6 +43,7 @@ fn assertion_read(
         reset,
         ant: Items::new(alloc),
         con: Items::new(alloc),
+        weak: Items::new(alloc),
     };
     let task = replace(&mut draft.task, next);
     tasks_closed(alloc, &mut draft.tasks, task, known.vertices.as_slice())?;
@@ -113,6 +114,20 @@ fn clause_read(
     Ok(())
 }
 
+/// Reads a weakening.
+fn weak_read(draft: &mut Draft, line: u32, node: &Name, times: Span) -> Result<(), TaskFault>
+    ensures { (parse : Parse) (context : Context) → IsStep parse context context
+        draft.old draft.new (record { line = line; form = form.weak node.now times }) result }
+{
+    match times {
+        Span::Late => Err(TaskFault::TooMany { line }),
+        _ => {
+            weak_added(&mut draft.task, line, node, times)?;
+            Ok(())
+        }
+    }
+}
+
 /// Reads a line that may stand where it does.
 fn line_read(
     alloc: Global,
@@ -137,6 +152,7 @@ fn line_read(
         }
         Form::Edge(from, to) => edge_read(alloc, known, draft, line, from, to),
         Form::Clause(clause) => clause_read(alloc, known, draft, line, clause),
+        Form::Weak(node, times) => weak_read(draft, line, node, *times),
         Form::End => {
             known.place = Place::Ended;
             Ok(())

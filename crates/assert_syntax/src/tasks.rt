@@ -26,8 +26,25 @@ pub struct RawBind {
     pub value: Expr,
 }
 
+/// What drives the node is not looked at, at each time step from `from` up to, but not at, `to`.
+/// `line` is the number of its line.
+#[derive(Drop)]
+pub struct RawWeak {
+    pub line: u32,
+    pub node: Name,
+    pub from: Time,
+    pub to: Time,
+}
+
+/// What drives the node is not looked at, at the edge's time step. `line` is the number of its line.
+#[derive(Drop)]
+pub struct RawMark {
+    pub line: u32,
+    pub node: Name,
+}
+
 /// An edge of a graph: the number of its line, the places of its two ends among the vertices, and what it gives and
-/// asks, in order.
+/// asks and which nodes it weakens, each in order.
 #[derive(Drop)]
 pub struct RawEdge {
     pub line: u32,
@@ -35,18 +52,20 @@ pub struct RawEdge {
     pub to: u32,
     pub ant: Items<RawBind>,
     pub con: Items<RawBind>,
+    pub weak: Items<RawMark>,
 }
 
 /// A task: the number of its first line, its name, and whether latches begin with their initial values.
 #[derive(Drop)]
 pub enum RawTask {
-    /// What is given and what has to follow, each in the order of the lines.
+    /// What is given, what has to follow, and the weakenings, each in the order of the lines.
     Ste {
         line: u32,
         name: Name,
         reset: bool,
         ant: Items<RawQuint>,
         con: Items<RawQuint>,
+        weak: Items<RawWeak>,
     },
     /// The vertices in the order of first mention, of which the first is the initial one, and the edges in order.
     Gste {

@@ -66,7 +66,14 @@ left_agreed cuts id other bit agree (inl asked) k d l on at =
     All-contains (λ cut. IsTrue (get_or cuts k d).on → IsTrue cut.on → (get_or cuts k d).node ≡ cut.node → (get_or cuts k d).value ≡ cut.value) cuts asked.1 (agree k d l) (asked.0, asked.2, asked.3) on asked.4.0 (at ∙ sym asked.4.1) ∙ asked.4.2
 left_agreed cuts id other bit agree (inr none) k d l on at = left_open cuts id bit none.0 k d l on at
 
+-- a bit is asked for only where something is asked
+pub asked_not_open : (cuts : List Cut) (id : ℕ) (bit : Bool)
+    → IsAskedFor cuts id bit → ¬ IsOpen cuts id
+asked_not_open cuts id bit asked none =
+    All-contains (λ cut. IsTrue cut.on → cut.node ≢ id) cuts asked.1 none
+    (asked.0, asked.2, asked.3) asked.4.0 asked.4.1
+
 -- where nothing is asked of the net the bit is the other one
 pub open_by : (cuts : List Cut) (id : ℕ) (other bit : Bool) → IsOpen cuts id → IsAskedOr cuts id other bit → bit ≡ other
-open_by cuts id other bit none (inl asked) = absurd (All-contains (λ cut. IsTrue cut.on → cut.node ≢ id) cuts asked.1 none (asked.0, asked.2, asked.3) asked.4.0 asked.4.1)
+open_by cuts id other bit none (inl asked) = absurd (asked_not_open cuts id bit asked none)
 open_by cuts id other bit none (inr all) = all.1

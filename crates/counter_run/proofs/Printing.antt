@@ -1,6 +1,6 @@
 -- The run with what a bindable antecedent asks is the printed run.
 use Rattle.std.proofs.Common.{◌≡◌, ◌≢◌, ℕ, zero, suc, ◌<◌, ◌≤◌, Bool, true, false, List, [], ◌∷◌, map, length, get_or, arith, sym, refl, subst, inl, inr, ◌∙◌}
-use Rattle.std.specs.Prelude.{All, IsTrue}
+use Rattle.std.specs.Prelude.{All, IsTrue, ◌⊎◌}
 use Rattle.std.specs.List.{AllZip}
 use Rattle.net_core.specs.declared.bit_set.BitSet.{BitSet}
 use Rattle.net_core.specs.declared.raw.Init.{Init}
@@ -8,21 +8,24 @@ use Rattle.net_core.specs.declared.raw.Init.TheVariants.{Zero, One, Free}
 use Rattle.net_core.specs.declared.raw.Latch.{Latch}
 use Rattle.net_core.specs.declared.raw.RawNet.{RawNet}
 use Rattle.net_core.specs.Flat.{IsInRange}
-use Rattle.net_core.specs.Run.{IsInitial, IsSettled, MayStart}
+use Rattle.net_core.specs.Run.{IsInitial, IsSettled, IsUndriven, MayStart}
 use Rattle.net_core.specs.OneRun.{IsGivenRun}
-use Rattle.net_core.specs.Possible.{IsLeft, MayHave}
+use Rattle.net_core.specs.Possible.{IsLeft, MayHave, is_weakened}
 use Rattle.net_core.specs.Sets.{IsIn, first_set, neither}
 use Rattle.net_core.proofs.Possible.{same_fields}
 use Rattle.net_core.proofs.Starts.{first_values}
 use Rattle.ste_model.specs.declared.task.Assertion.{Assertion}
-use Rattle.ste_model.specs.Asked.{asked_at, cuts_at, depth}
+use Rattle.ste_model.specs.declared.task.Quint.{Quint}
+use Rattle.ste_model.specs.declared.task.Weakening.{Weakening}
+use Rattle.ste_model.specs.Asked.{asked_at, cuts_at, depth, weakened_at}
 use Rattle.ste_model.specs.Found.{IsContradictory, IsTableOf}
-use Rattle.ste_model.specs.Shown.{IsPrinted}
+use Rattle.ste_model.specs.Shown.{IsOpen, IsPrinted, IsQuintBindable}
 use Rattle.ste_model.specs.Table.{latch_sets}
 use Rattle.ste_model.proofs.Passes.{each_to}
 use Rattle.ste_model.proofs.Tables.{one_table}
+use Rattle.counter_run.specs.Starts.{AsksNoWeakStart}
 use Rattle.counter_run.specs.private.Asking.{IsAskedOr, start_bit}
-use Rattle.counter_run.proofs.Askings.{asked_left, left_by, open_by}
+use Rattle.counter_run.proofs.Askings.{asked_left, asked_not_open, left_by, open_by}
 use Rattle.counter_run.specs.private.Matrix.{IsMatrix, cell}
 
 pub some_in : (set : BitSet) → set ≢ neither → (bit : Bool) × IsIn bit set
@@ -64,7 +67,38 @@ starts_at bit first [] h k d l = absurd (omega arith)
 starts_at bit first (latch ∷ latches) h zero d l = h.0
 starts_at bit first (latch ∷ latches) h (suc k) d l = starts_at bit first latches h.1 k d (omega arith)
 
+-- a bindable antecedent asks nothing, at time 0, of a latch output that is weakened then
+weak_open : (net : RawNet) (bits : List Bool) (weak : List Weakening) (id : ℕ) (quints : List Quint)
+    → ¬ IsUndriven net id → is_weakened (weakened_at weak 0) id ≡ true
+    → All (IsQuintBindable net weak) quints → IsOpen (cuts_at quints bits 0) id
+weak_open net bits weak id [] driven e all k d l = absurd (omega arith)
+weak_open net bits weak id (quint ∷ quints) driven e all zero d l = λ on at.
+    elim (all 0 quint (omega arith)) [
+      | inl free ↦ driven (subst (IsUndriven net) at free)
+      | inr latch ↦
+          let off : is_weakened (weakened_at weak 0) id ≡ false =
+          subst (λ (i : ℕ). is_weakened (weakened_at weak 0) i ≡ false) at latch.2 in
+          cc (e, off)
+    ]
+weak_open net bits weak id (quint ∷ quints) driven e all (suc k) d l =
+    weak_open net bits weak id quints driven e (λ i a m. all (suc i) a (omega arith))
+    k d (omega arith)
+
+pub asks_no_weak_start : (net : RawNet) (task : Assertion) (bits : List Bool)
+    → All (IsQuintBindable net task.weak) task.ant → AsksNoWeakStart net task bits
+asks_no_weak_start net task bits all k d l = by (is_weakened (weakened_at task.weak 0) id) refl
+  where
+    id : ℕ
+    id = (get_or net.latches k d).output.0
+
+    by : (b : Bool) → is_weakened (weakened_at task.weak 0) id ≡ b
+        → (is_weakened (weakened_at task.weak 0) id ≡ false) ⊎ IsOpen (cuts_at task.ant bits 0) id
+    by false e = inl e
+    by true e =
+        inr (weak_open net bits task.weak id task.ant (λ free. free.by_latch k d l refl) e all)
+
 module _ (net : RawNet) (task : Assertion) (bits : List Bool) (settled : IsSettled net) (range : IsInRange net) (possible : ¬ IsContradictory net task bits)
+    (begins : AsksNoWeakStart net task bits)
     (before given : List (List Bool))
     (starts : 0 < depth task → All (λ latch. cell before 0 latch.output.0 ≡ start_bit task.reset latch.init) net.latches)
     (others : (t id : ℕ) → All (λ latch. latch.output.0 ≢ id) net.latches → cell before t id ≡ false)
@@ -87,12 +121,18 @@ module _ (net : RawNet) (task : Assertion) (bits : List Bool) (settled : IsSettl
   may_start l k d m =
       let latch = get_or net.latches k d in
       let id = latch.output.0 in
+      let cuts = cuts_at task.ant bits 0 in
       let some = one_bit 0 id l (range.latch_outputs k d m) in
       elim (each 0 id) [
-        | inl asked ↦
-            let is = asked_left (cuts_at task.ant bits 0) id (cell given 0 id) some.0 asked some.1.left in
-            let within = latch_in id some.0 task.reset net.latches some.1.source.by_latch k d m refl in
-            subst (MayStart task.reset latch) (sym is) ((first_values task.reset latch some.0).0 within)
+        | inl asked ↦ elim (begins k d m) [
+          | inl strong ↦
+              let is = asked_left cuts id (cell given 0 id) some.0 asked some.1.left in
+              let source = some.1.source strong in
+              let within = latch_in id some.0 task.reset net.latches source.by_latch k d m refl in
+              let may = (first_values task.reset latch some.0).0 within in
+              subst (MayStart task.reset latch) (sym is) may
+          | inr none ↦ absurd (asked_not_open cuts id (cell given 0 id) asked none)
+        ]
         | inr none ↦ subst (MayStart task.reset latch) (sym (none.1 ∙ starts l k d m)) (start_may task.reset latch)
       ]
 
@@ -118,14 +158,18 @@ module _ (net : RawNet) (task : Assertion) (bits : List Bool) (settled : IsSettl
       }
 
 -- the same of what the code holds: the rows behind the quintuples, and what the run is made from
-pub printed_as : (net : RawNet) (task : Assertion) (bits : List Bool) → IsSettled net → IsInRange net → ¬ IsContradictory net task bits
+pub printed_as : (net : RawNet) (task : Assertion) (bits : List Bool)
+    → IsSettled net → IsInRange net
+    → ¬ IsContradictory net task bits → AsksNoWeakStart net task bits
     → (before asked given : List (List Bool)) (times : ℕ) (run : ℕ → ℕ → Bool) → times ≡ depth task → given ≡ asked
     → (0 < times → All (λ latch. cell before 0 latch.output.0 ≡ start_bit task.reset latch.init) net.latches)
     → ((t id : ℕ) → All (λ latch. latch.output.0 ≢ id) net.latches → cell before t id ≡ false)
     → ((t id : ℕ) → IsAskedOr (cuts_at task.ant bits t) id (cell before t id) (cell asked t id))
     → IsGivenRun net (cell given) (map (λ latch. cell given 0 latch.output.0) net.latches) times run → IsPrinted net task bits run
-printed_as net task bits settled range possible before asked given times run deep is starts others each h =
-    printed net task bits settled range possible before given (λ l. starts (subst (λ (n : ℕ). 0 < n) (sym deep) l)) others
+printed_as net task bits settled range possible begins before asked given times run deep is starts
+    others each h =
+    printed net task bits settled range possible begins before given
+    (λ l. starts (subst (λ (n : ℕ). 0 < n) (sym deep) l)) others
     (λ t id. subst (λ (a : List (List Bool)). IsAskedOr (cuts_at task.ant bits t) id (cell before t id) (cell a t id)) (sym is) (each t id)) run
     (subst (λ (n : ℕ). IsGivenRun net (cell given) (map (λ latch. cell given 0 latch.output.0) net.latches) n run) deep h)
 

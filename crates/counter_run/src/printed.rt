@@ -7,6 +7,7 @@ ghost use Rattle.ste_model.specs.Found.{IsContradictory};
 ghost use Rattle.ste_model.specs.Holds.{RunMeets};
 ghost use Rattle.ste_model.specs.Shown.{AsksOfNets, IsBindable, IsPrinted};
 ghost use Rattle.ste_model.specs.declared.task.Task.TheVariants.{Ste};
+ghost use Rattle.counter_run.specs.Starts.{AsksNoWeakStart};
 
 use crate::asked::{put_quints, start_rows};
 use crate::completion::run_from;
@@ -15,7 +16,8 @@ use std::alloc::{AllocError, Global};
 use ste_model::{Assertion, Run, depth};
 
 /// The run in which what the antecedent asks is there, and 0 where it asks nothing: the printed run where the assignment is
-/// not contradictory.
+/// not contradictory, and no latch output of which the antecedent asks something at time 0 is
+/// weakened then.
 pub fn run_as_asked(
     alloc: Global,
     net: &Net,
@@ -25,6 +27,7 @@ pub fn run_as_asked(
     requires nets { AsksOfNets net.now.raw (Ste task.now) }
     ensures rows { IfOk result (λ run. HasRows net.now.raw.nets (depth task.now) run) }
     ensures printed { IfOk result (λ run. ¬ IsContradictory net.now.raw task.now bits.now
+        → AsksNoWeakStart net.now.raw task.now bits.now
         → IsPrinted net.now.raw task.now bits.now (run_of run)) }
 {
     let times = depth(task);

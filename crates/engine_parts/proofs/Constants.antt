@@ -24,7 +24,8 @@ use Rattle.net_core.specs.declared.source.Source.{Source}
 use Rattle.net_core.specs.declared.source.Source.TheVariants.{Input, Free, Gate as OfGate, Latch as OfLatch}
 use Rattle.net_core.specs.Cases.{on_rows, off_rows}
 use Rattle.net_core.specs.Source.{source_of}
-use Rattle.net_core.specs.Work.{Function, SymbolicAsked, SymbolicCut, SymbolicSet, after_cut, by_gate, by_source, chain, conjunction, cover_set, cover_work, cut_set, cut_work, cuts_work, disjunction, everything, factor, factors, first_sets, gates_work, input_sets, negation, no_bit, row_products, rows_chains, rows_work, some_bit, time_work, uncut, whole}
+use Rattle.net_core.specs.Work.{Function, SymbolicAsked, SymbolicCut, SymbolicSet, after_cut, by_gate, by_source, chain, conjunction, cover_set, cover_work, cut_set, cut_work, cuts_work, disjunction, everything, factor, factors, first_sets, gates_work, input_sets, negation, no_bit, one_gate_work, row_products, rows_chains, rows_work, some_bit, time_work, uncut, unless_weakened, whole}
+use Rattle.net_core.specs.Possible.{is_weakened}
 use Rattle.ste_base.specs.declared.id.NodeId.{NodeId}
 use Rattle.engine_parts.specs.Failing.{MakesNothing, constant_ref}
 
@@ -162,9 +163,13 @@ module _ (sets : ℕ → SymbolicSet) (are : IsConstantFamily sets) where
       put AreConstantSets.none = AreConstantSets.more (are n) AreConstantSets.none
       put (AreConstantSets.more p ps) = AreConstantSets.more p (put ps)
 
-  of_gates : (net : RawNet) (gates : List Gate) → AreConstant (gates_work net sets gates)
-  of_gates net [] = AreConstant.none
-  of_gates net (gate ∷ gates) = append (cover_works (slice_get net.covers gate.cover) (of_inputs gate)) (of_gates net gates)
+  of_one_gate : (is_weak : Bool) (net : RawNet) (gate : Gate) → AreConstant (one_gate_work is_weak net sets gate)
+  of_one_gate true net gate = AreConstant.none
+  of_one_gate false net gate = cover_works (slice_get net.covers gate.cover) (of_inputs gate)
+
+  of_gates : (net : RawNet) (weak : List ℕ) (gates : List Gate) → AreConstant (gates_work net weak sets gates)
+  of_gates net weak [] = AreConstant.none
+  of_gates net weak (gate ∷ gates) = append (of_one_gate (is_weakened weak gate.output.0) net gate) (of_gates net weak gates)
 
   of_gate : (net : RawNet) (gate : Option Gate) → IsConstantSet (by_gate net sets gate)
   of_gate net None = set_of_bits true true
@@ -180,6 +185,10 @@ of_source net sets p are Input = set_of_bits true true
 of_source net sets p are Free = set_of_bits true true
 of_source net sets p are (OfGate g) = of_gate sets are net (slice_get net.gates g)
 of_source net sets p are (OfLatch l) = indexed l p
+
+of_unless : {w : SymbolicSet} (is_weak : Bool) → IsConstantSet w → IsConstantSet (unless_weakened is_weak w)
+of_unless true p = set_of_bits true true
+of_unless false p = p
 
 of_cut : {w : SymbolicSet} (d : SymbolicCut) → IsConstantCut d → IsConstantSet w → IsConstantSet (cut_set w d.guard d.value)
 of_cut d c p = record { zero = of_and p.zero (of_not (of_and c.guard c.value)); one = of_and p.one (of_not (of_and c.guard (of_not c.value))) }
@@ -208,8 +217,8 @@ of_cuts sets (AreConstantCuts.more {d = d} c cs) are = append (cut_works d c (ar
 pub of_time : {ls : List SymbolicSet} (net : RawNet) (asked : SymbolicAsked) (sets : ℕ → SymbolicSet) → AreConstantSets ls → AreConstantCuts asked.cuts → IsConstantFamily sets → AreConstant (time_work net ls asked sets)
 of_time {ls} net asked sets p cs are =
     let all = of_firsts sets are net.nets in
-    append (of_cuts (uncut net ls sets) cs (λ id. of_source net sets p are (source_of net id)))
-    (append (of_gates sets are net net.gates)
+    append (of_cuts (uncut net asked.weak ls sets) cs (λ id. of_unless (is_weakened asked.weak id) (of_source net sets p are (source_of net id))))
+    (append (of_gates sets are net asked.weak net.gates)
     (append (for_each some_bit of_some all) (append (for_each no_bit of_none all) (chains disjunction or_joins (of_bit false) (for_each no_bit of_none all)))))
 
 -- ---- references

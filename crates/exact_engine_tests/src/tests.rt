@@ -222,6 +222,7 @@ fn task_of(
         reset,
         ant: quints_of(alloc, &ready.names, ready.net.nets(), ant)?,
         con: quints_of(alloc, &ready.names, ready.net.nets(), con)?,
+        weak: Items::new(alloc),
     })
 }
 

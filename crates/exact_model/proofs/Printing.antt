@@ -13,8 +13,8 @@ use Rattle.net_core.specs.declared.raw.RawNet.{RawNet}
 use Rattle.net_core.specs.declared.source.Source.{Source}
 use Rattle.net_core.specs.declared.source.Source.TheVariants as source
 use Rattle.net_core.specs.OneRun.{IsGivenRun}
-use Rattle.net_core.specs.Possible.{IsLeft}
-use Rattle.net_core.specs.Run.{Cut, IsInitial, MayStart}
+use Rattle.net_core.specs.Possible.{IsLeft, is_weakened}
+use Rattle.net_core.specs.Run.{Cut, IsInitial, IsUndriven, MayStart}
 use Rattle.net_core.specs.Sets.{IsIn, first_set, neither}
 use Rattle.net_core.specs.Source.{source_of}
 use Rattle.net_core.proofs.OneTime.{Facts, facts}
@@ -22,11 +22,13 @@ use Rattle.net_core.proofs.Possible.{same_fields}
 use Rattle.net_core.proofs.Runs.{one_run}
 use Rattle.net_core.proofs.Starts.{first_values}
 use Rattle.ste_model.specs.declared.task.Assertion.{Assertion}
-use Rattle.ste_model.specs.Asked.{asked_at, cuts_at, depth}
+use Rattle.ste_model.specs.declared.task.Quint.{Quint}
+use Rattle.ste_model.specs.declared.task.Weakening.{Weakening}
+use Rattle.ste_model.specs.Asked.{asked_at, cuts_at, depth, weakened_at}
 use Rattle.ste_model.specs.Assignments.{IsBefore}
 use Rattle.ste_model.specs.Found.{IsContradictory, IsEmptySomewhere, IsStrong, IsTableOf, IsWeak}
 use Rattle.ste_model.specs.Runs.{run_of}
-use Rattle.ste_model.specs.Shown.{IsFilled, IsFirst, IsOpen, IsPrinted}
+use Rattle.ste_model.specs.Shown.{IsFilled, IsFirst, IsOpen, IsPrinted, IsQuintBindable}
 use Rattle.ste_model.proofs.Due.{due_breaks}
 use Rattle.ste_model.proofs.Tables.{some_table}
 use Rattle.ste_model.proofs.Verdicts.{findings_are_told}
@@ -109,6 +111,25 @@ begun reset latch cuts bit left may = by (asked_or cuts latch.output.0)
       subst (MayStart reset latch) (sym (one bit left)) may,
     )
 
+-- ---- latch outputs that are weakened at time 0
+
+-- a bindable antecedent asks nothing, at time 0, of a latch output that is weakened then
+weak_open : (net : RawNet) (bits : List Bool) (weak : List Weakening) (id : ℕ) (quints : List Quint)
+    → ¬ IsUndriven net id → is_weakened (weakened_at weak 0) id ≡ true
+    → All (IsQuintBindable net weak) quints → IsOpen (cuts_at quints bits 0) id
+weak_open net bits weak id [] driven e all k d l = absurd (omega arith)
+weak_open net bits weak id (quint ∷ quints) driven e all zero d l = λ on at.
+    elim (all 0 quint (omega arith)) [
+      | inl free ↦ driven (subst (IsUndriven net) at free)
+      | inr latch ↦
+          let off : is_weakened (weakened_at weak 0) id ≡ false =
+          subst (λ (i : ℕ). is_weakened (weakened_at weak 0) i ≡ false) at latch.2 in
+          cc (e, off)
+    ]
+weak_open net bits weak id (quint ∷ quints) driven e all (suc k) d l =
+    weak_open net bits weak id quints driven e (λ i a m. all (suc i) a (omega arith))
+    k d (omega arith)
+
 -- ---- the printed run
 
 some_in : (set : BitSet) → set ≢ neither → (bit : Bool) × IsIn bit set
@@ -131,14 +152,35 @@ module _ (net : RawNet) (task : Assertion) (bits : List Bool) (bound : IsBoundOv
       let at = some_bit t id l m in
       filled (cuts t) id at.0 (((is t l).each id at.0).0 at.1).left
 
-  begins : 0 < depth task → All (λ latch. IsFirst task.reset latch (cuts 0) (begin task.reset latch (cuts 0)) × MayStart task.reset latch (begin task.reset latch (cuts 0))) net.latches
-  begins l k d m =
+  -- a bit with which a latch may begin as the antecedent asks, its output weakened or not
+  beginning : 0 < depth task → (k : ℕ) (d : Latch) → k < length net.latches
+      → (weak : Bool)
+      → is_weakened (weakened_at task.weak 0) (get_or net.latches k d).output.0 ≡ weak
+      → (bit : Bool) × IsLeft (cuts 0) (get_or net.latches k d).output.0 bit
+      × MayStart task.reset (get_or net.latches k d) bit
+  beginning l k d m false off =
       let latch = get_or net.latches k d in
       let id = latch.output.0 in
       let at = some_bit 0 id l (bound.range.latch_outputs k d m) in
       let may = ((is 0 l).each id at.0).0 at.1 in
-      let held = latched id at.0 (first_set task.reset) net.latches may.source.by_latch k d m refl in
-      begun task.reset latch (cuts 0) at.0 may.left ((first_values task.reset latch at.0).0 held)
+      let source = may.source off in
+      let held = latched id at.0 (first_set task.reset) net.latches source.by_latch k d m refl in
+      (at.0, may.left, (first_values task.reset latch at.0).0 held)
+  beginning l k d m true on =
+      let latch = get_or net.latches k d in
+      let id = latch.output.0 in
+      let bit = first_bit task.reset latch.init false in
+      let none =
+      weak_open net bits task.weak id task.ant (λ free. free.by_latch k d m refl) on bound.bindable in
+      (bit, open_left (cuts 0) id bit none, may_start task.reset latch.init false)
+
+  begins : 0 < depth task
+      → All (λ latch. IsFirst task.reset latch (cuts 0) (begin task.reset latch (cuts 0))
+      × MayStart task.reset latch (begin task.reset latch (cuts 0))) net.latches
+  begins l k d m =
+      let latch = get_or net.latches k d in
+      let at = beginning l k d m (is_weakened (weakened_at task.weak 0) latch.output.0) refl in
+      begun task.reset latch (cuts 0) at.0 at.1 at.2
 
   abbrev first : Latch → Bool
   first latch = begin task.reset latch (cuts 0)

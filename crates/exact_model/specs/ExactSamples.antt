@@ -82,9 +82,9 @@ one_latch = record {
 
 -- ---- assertions, and the bits of their runs
 
--- an assertion without a name
+-- an assertion without a name and without weakenings
 abbrev pub assertion : Bool → List Quint → List Quint → Assertion
-assertion reset ant con = record { name = []; reset = reset; ant = ant; con = con }
+assertion reset ant con = record { name = []; reset = reset; ant = ant; con = con; weak = [] }
 
 -- a is p at time 0; then y is the expression
 abbrev pub bound_task : Expr → Assertion

@@ -90,7 +90,7 @@ begun_at_refs net reset vertex t gt = state_refs t net (summed_at net reset (λ 
 -- ---- edges that lead elsewhere
 
 abbrev pub no_edge : Edge
-no_edge = record { from = 0; to = 0; ant = []; con = [] }
+no_edge = record { from = 0; to = 0; ant = []; con = []; weak = [] }
 
 skip : (net : RawNet) (reset : Bool) (given : Edge → SymbolicState) (edges : List Edge) (vertex m n : ℕ) → m + n ≤ length edges → ((i : ℕ) (d : Edge) → m ≤ i → i < m + n → (get_or edges i d).to ≢ vertex)
     → coming net reset given (take (m + n) edges) vertex ≡ coming net reset given (take m edges) vertex

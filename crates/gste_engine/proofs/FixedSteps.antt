@@ -19,11 +19,12 @@ use Rattle.net_core.specs.Work.{ArePossibleEach, SymbolicAsked, SymbolicCut, Sym
 use Rattle.net_core.proofs.Possible.{one_possible}
 use Rattle.ste_model.specs.declared.task.Bind.{Bind}
 use Rattle.ste_model.specs.declared.task.Edge.{Edge}
-use Rattle.ste_model.specs.Edges.{asked_on, bind_cuts}
+use Rattle.ste_model.specs.Edges.{asked_on, bind_cuts, weakened_on}
 use Rattle.ste_model.specs.Work.{constant_set}
 use Rattle.sym_step.specs.declared.cut.Cut.{Cut}
 use Rattle.sym_step.specs.declared.made.Step.{Step}
-use Rattle.sym_step.specs.Step.{IsCutBy, IsCutOf, IsStep}
+use Rattle.ste_base.specs.declared.id.NodeId.{NodeId}
+use Rattle.sym_step.specs.Step.{IsCutBy, IsCutOf, IsStep, ids_of}
 use Rattle.engine_parts.specs.Failing.{MakesNothing}
 use Rattle.engine_parts.proofs.Constants.{AreConstantCuts, AreConstantSets, IsConstantFamily, bit_means, never_out, nothing_made, of_bit, of_time, set_of_bits}
 use Rattle.engine_parts.proofs.Nothing.{nothing_done, nothing_more}
@@ -36,8 +37,8 @@ use Rattle.gste_engine.specs.private.Taken.{IsStepOn, fixed_bind, fixed_rails}
 abbrev pub constant_cut : List Bool → Bind → SymbolicCut
 constant_cut bits bind = record { node = bind.node.0; guard = λ other. value_of bind.guard bits; value = λ other. value_of bind.value bits }
 
-abbrev pub constant_asked : List Bool → List Bind → SymbolicAsked
-constant_asked bits binds = record { cuts = map (constant_cut bits) binds }
+abbrev pub constant_asked : List Bool → Edge → SymbolicAsked
+constant_asked bits edge = record { cuts = map (constant_cut bits) edge.ant; weak = weakened_on edge }
 
 pub fixed_zip : (s t : Store) (bits : List Bool) (rs : List Rails) → IsGood t → AllZip (AreRails t) (map constant_set (map (set_of s bits) rs)) (map (fixed_rails s bits) rs)
 fixed_zip s t bits [] d = tt
@@ -72,22 +73,22 @@ cuts_back other bits [] = refl
 cuts_back other bits (b ∷ bs) = ap (λ xs. record { node = b.node.0; on = value_of b.guard bits; value = value_of b.value bits } ∷ xs) (cuts_back other bits bs)
 
 pub constant_each : (net : RawNet) (vars : ℕ) (bits : List Bool) (ls : List BitSet) (edge : Edge) (sets : ℕ → BitSet) → ArePossible net ls (asked_on edge bits) sets
-    → ArePossibleEach vars net (map constant_set ls) (constant_asked bits edge.ant) (constant_sets sets)
+    → ArePossibleEach vars net (map constant_set ls) (constant_asked bits edge) (constant_sets sets)
 constant_each net vars bits ls edge sets is other l =
-    subst (λ (xs : List BitSet). ArePossible net xs (record { cuts = map (cut_at other) (map (constant_cut bits) edge.ant) }) sets) (sym (latches_back other ls))
-    (subst (λ (cs : List AskedCut). ArePossible net ls (record { cuts = cs }) sets) (sym (cuts_back other bits edge.ant)) is)
+    subst (λ (xs : List BitSet). ArePossible net xs (record { cuts = map (cut_at other) (map (constant_cut bits) edge.ant); weak = weakened_on edge }) sets) (sym (latches_back other ls))
+    (subst (λ (cs : List AskedCut). ArePossible net ls (record { cuts = cs; weak = weakened_on edge }) sets) (sym (cuts_back other bits edge.ant)) is)
 
 -- ---- the call
 
-abbrev pub StepCall : RawNet → Store → Store → List Cut → List Rails → Result Step OpFault → Type 0
-StepCall net s t cuts held result = (ls : List SymbolicSet) (asked : SymbolicAsked) (sets : ℕ → SymbolicSet) → AllZip (AreRails s) ls held → AllZip (IsCutBy s) asked.cuts cuts → ArePossibleEach s.vars net ls asked sets
+abbrev pub StepCall : RawNet → Store → Store → List NodeId → List Cut → List Rails → Result Step OpFault → Type 0
+StepCall net s t weak cuts held result = (ls : List SymbolicSet) (asked : SymbolicAsked) (sets : ℕ → SymbolicSet) → AllZip (AreRails s) ls held → AllZip (IsCutBy s) asked.cuts cuts → asked.weak ≡ ids_of weak → ArePossibleEach s.vars net ls asked sets
     → Built (time_work net ls asked sets) (IsStep net sets) s t result
 
-module _ (net : RawNet) (settled : IsSettled net) (bits : List Bool) (edge : Edge) (ls : List BitSet) (s t : Store) (held : List Rails) (cuts : List Cut) (result : Result Step OpFault)
-    (fit : AllZip (AreRails s) (map constant_set ls) held) (fits : AllZip (IsCutBy s) (map (constant_cut bits) edge.ant) cuts) (call : StepCall net s t cuts held result) where
+module _ (net : RawNet) (settled : IsSettled net) (bits : List Bool) (edge : Edge) (ls : List BitSet) (s t : Store) (held : List Rails) (weak : List NodeId) (cuts : List Cut) (result : Result Step OpFault)
+    (weak_is : weakened_on edge ≡ ids_of weak) (fit : AllZip (AreRails s) (map constant_set ls) held) (fits : AllZip (IsCutBy s) (map (constant_cut bits) edge.ant) cuts) (call : StepCall net s t weak cuts held result) where
   pub step_built : (sets : ℕ → BitSet) → ArePossible net ls (asked_on edge bits) sets
-      → Built (time_work net (map constant_set ls) (constant_asked bits edge.ant) (constant_sets sets)) (IsStep net (constant_sets sets)) s t result
-  step_built sets is = call (map constant_set ls) (constant_asked bits edge.ant) (constant_sets sets) fit fits (constant_each net s.vars bits ls edge sets is)
+      → Built (time_work net (map constant_set ls) (constant_asked bits edge) (constant_sets sets)) (IsStep net (constant_sets sets)) s t result
+  step_built sets is = call (map constant_set ls) (constant_asked bits edge) (constant_sets sets) fit fits weak_is (constant_each net s.vars bits ls edge sets is)
 
   module _ (long : length ls ≡ length net.latches) (gt : IsGood t) (made : All (λ r. IsSome (t.held r)) t.made) where
     some_sets : (sets : ℕ → BitSet) × ArePossible net ls (asked_on edge bits) sets
@@ -97,13 +98,13 @@ module _ (net : RawNet) (settled : IsSettled net) (bits : List Bool) (edge : Edg
     pub step_makes : MakesNothing s t
     step_makes =
         let sets = some_sets.0 in
-        nothing_made _ s t (result ≡ Err StepsOut) (of_time net (constant_asked bits edge.ant) (constant_sets sets) (sets_constant ls) (cuts_constant bits edge.ant) (family_constant sets)) gt made (step_built sets some_sets.1).spends
+        nothing_made _ s t (result ≡ Err StepsOut) (of_time net (constant_asked bits edge) (constant_sets sets) (sets_constant ls) (cuts_constant bits edge.ant) (family_constant sets)) gt made (step_built sets some_sets.1).spends
 
     -- and is not out of steps
     pub step_goes : result ≢ Err StepsOut
     step_goes =
         let sets = some_sets.0 in
-        never_out _ s t (result ≡ Err StepsOut) (of_time net (constant_asked bits edge.ant) (constant_sets sets) (sets_constant ls) (cuts_constant bits edge.ant) (family_constant sets)) gt made (step_built sets some_sets.1).spends
+        never_out _ s t (result ≡ Err StepsOut) (of_time net (constant_asked bits edge) (constant_sets sets) (sets_constant ls) (cuts_constant bits edge.ant) (family_constant sets)) gt made (step_built sets some_sets.1).spends
 
 -- ---- what the step is given
 
@@ -120,7 +121,7 @@ pub nodes_inside : (n : ℕ) (bits : List Bool) (binds : List Bind) → All (λ 
 nodes_inside n bits [] inside = All-nil (λ (c : Cut). c.node.0 < n)
 nodes_inside n bits (b ∷ bs) inside = All-cons (λ (c : Cut). c.node.0 < n) (fixed_bind bits b) (map (fixed_bind bits) bs) (All-head (λ (bind : Bind). bind.node.0 < n) b bs inside) (nodes_inside n bits bs (All-tail (λ (bind : Bind). bind.node.0 < n) b bs inside))
 
-module _ (net : RawNet) (settled : IsSettled net) (bits : List Bool) (edge : Edge) (s t u : Store) (rs held : List Rails) (cuts : List Cut) (result : Result Step OpFault) (gt : IsGood t) (same : t ≡ s) (held_is : held ≡ map (fixed_rails s bits) rs) (cuts_are : cuts ≡ map (fixed_bind bits) edge.ant) where
+module _ (net : RawNet) (settled : IsSettled net) (bits : List Bool) (edge : Edge) (s t u : Store) (rs held : List Rails) (weak : List NodeId) (cuts : List Cut) (result : Result Step OpFault) (weak_is : weakened_on edge ≡ ids_of weak) (gt : IsGood t) (same : t ≡ s) (held_is : held ≡ map (fixed_rails s bits) rs) (cuts_are : cuts ≡ map (fixed_bind bits) edge.ant) where
   pub held_refs : All (AreRefs t) held
   held_refs = subst (λ (xs : List Rails). All (AreRefs t) xs) (sym held_is) (fixed_refs s t bits rs gt)
 
@@ -133,19 +134,19 @@ module _ (net : RawNet) (settled : IsSettled net) (bits : List Bool) (edge : Edg
   fits : AllZip (IsCutBy t) (map (constant_cut bits) edge.ant) cuts
   fits = subst (λ (cs : List Cut). AllZip (IsCutBy t) (map (constant_cut bits) edge.ant) cs) (sym cuts_are) (fixed_cuts t bits edge.ant gt)
 
-  module _ (call : StepCall net t u cuts held result) where
+  module _ (call : StepCall net t u weak cuts held result) where
     pub on_edge : (made : Step) → result ≡ Ok made → IsStepOn net bits (map (set_of s bits) rs) edge u made
     on_edge made is sets possible =
-        let b : Built (time_work net (map constant_set (map (set_of s bits) rs)) (constant_asked bits edge.ant) (constant_sets sets)) (IsStep net (constant_sets sets)) t u (Ok made) =
-        subst (λ (r : Result Step OpFault). Built (time_work net (map constant_set (map (set_of s bits) rs)) (constant_asked bits edge.ant) (constant_sets sets)) (IsStep net (constant_sets sets)) t u r) is (step_built net settled bits edge (map (set_of s bits) rs) t u held cuts result fit fits call sets possible) in
+        let b : Built (time_work net (map constant_set (map (set_of s bits) rs)) (constant_asked bits edge) (constant_sets sets)) (IsStep net (constant_sets sets)) t u (Ok made) =
+        subst (λ (r : Result Step OpFault). Built (time_work net (map constant_set (map (set_of s bits) rs)) (constant_asked bits edge) (constant_sets sets)) (IsStep net (constant_sets sets)) t u r) is (step_built net settled bits edge (map (set_of s bits) rs) t u held weak cuts result weak_is fit fits call sets possible) in
         b.ok
 
     module _ (long : length rs ≡ length net.latches) (gu : IsGood u) (made : All (λ r. IsSome (u.held r)) u.made) where
       pub all_makes : MakesNothing s u
-      all_makes = nothing_more s t u (nothing_done s t same) (step_makes net settled bits edge (map (set_of s bits) rs) t u held cuts result fit fits call (length-map rs (set_of s bits) ∙ long) gu made)
+      all_makes = nothing_more s t u (nothing_done s t same) (step_makes net settled bits edge (map (set_of s bits) rs) t u held weak cuts result weak_is fit fits call (length-map rs (set_of s bits) ∙ long) gu made)
 
       pub all_goes : result ≢ Err StepsOut
-      all_goes = step_goes net settled bits edge (map (set_of s bits) rs) t u held cuts result fit fits call (length-map rs (set_of s bits) ∙ long) gu made
+      all_goes = step_goes net settled bits edge (map (set_of s bits) rs) t u held weak cuts result weak_is fit fits call (length-map rs (set_of s bits) ∙ long) gu made
 
 -- ---- through slices
 

@@ -16,7 +16,7 @@ use Rattle.net_core.specs.Work.{SymbolicSet, cut_at, set_at}
 use Rattle.ste_model.specs.declared.task.Bind.{Bind}
 use Rattle.ste_model.specs.declared.task.Edge.{Edge}
 use Rattle.ste_model.specs.declared.task.Graph.{Graph}
-use Rattle.ste_model.specs.Edges.{IsGraph, bind_at, bind_cuts}
+use Rattle.ste_model.specs.Edges.{IsGraph, bind_at, bind_cuts, weakened_on}
 use Rattle.ste_model.specs.GraphNeed.{AreWholeRounds}
 use Rattle.ste_model.specs.GraphTable.{IsLeastClosed, IsReachedWith, VertexState, enough}
 use Rattle.ste_model.specs.GraphWork.{SymbolicState, state_at, symbolic_binds}
@@ -98,7 +98,7 @@ module _ (net : RawNet) (vars : ℕ) (graph : Graph) (tables : ℕ → ℕ → S
   pub possible_each : (n : ℕ) → ArePossibleOn vars net (tables n) (sets n) graph.edges
   possible_each n = λ k d l bits m.
       let edge = get_or graph.edges k d in
-      subst (λ (cuts : List Cut). ArePossible net (state_at bits (tables n edge.from)).latches (record { cuts = cuts }) (λ id. set_at bits (sets n edge id))) (sym (asked_same bits edge.ant)) (whole.possible bits m n k d l)
+      subst (λ (cuts : List Cut). ArePossible net (state_at bits (tables n edge.from)).latches (record { cuts = cuts; weak = weakened_on edge }) (λ id. set_at bits (sets n edge id))) (sym (asked_same bits edge.ant)) (whole.possible bits m n k d l)
 
   module _ (settled : IsSettled net) where
     next_at : (bits : List Bool) → length bits ≡ vars → (n v : ℕ) → state_at bits (summed_at net graph.reset (given_of net (tables n) (sets n)) graph.edges v) ≡ state_at bits (tables (suc n) v)

@@ -42,10 +42,12 @@ pub record HasStates (table : ℕ → SymbolicState) (vertices : ℕ) (t : Store
   pub long : length r ≡ vertices
   pub each : (vertex : ℕ) (d : State) → vertex < length r → IsState t (table vertex) (get_or r vertex d)
 
--- an edge begins at one of so many vertices, its antecedent names nets of the net, and reads variables below this number
+-- an edge begins at one of so many vertices, its antecedent and its weakenings name nets of the net, and its antecedent
+-- reads variables below this number
 pub record IsEdgeOver (net : RawNet) (vars vertices : ℕ) (edge : Edge) : Type 0 where
   pub start : edge.from < vertices
   pub nets : All (λ bind. bind.node.0 < net.nets) edge.ant
+  pub weak : All (λ node. node.0 < net.nets) edge.weak
   pub reads : BindsReadBelow vars edge.ant
 
 abbrev pub AreEdgesOver : RawNet → ℕ → ℕ → List Edge → Type 0

@@ -78,7 +78,7 @@ fn given<N: Nodes>(
 }
 
 /// What one edge gives, for all assignments at once, on a table that says this of its source, from a frame of any time: what
-/// has the same sets there is not evaluated again. `rows` are those of the net, the bindings name nets of it, and their
+/// has the same sets there is not evaluated again. `rows` are those of the net, the bindings and the weakenings name nets of it, and their
 /// variables are below the store's. Where the edge is not feasible the sets are built all the same. The consequents are not
 /// looked at.
 ///
@@ -95,6 +95,7 @@ pub fn edge_found<N: Nodes>(
 ) -> Result<EdgeFound, OpFault>
     requires rows { rows.now.covers ≡ map rows_of net.now.raw.covers }
     requires nets { All (λ bind. bind.node.0 < net.now.raw.nets) edge.now.ant }
+    requires weak { All (λ node. node.0 < net.now.raw.nets) edge.now.weak }
     requires reads { BindsReadBelow (N.store nodes.old).vars edge.now.ant }
     requires source { AreStateRefs (N.store nodes.old) net.now.raw source.now }
     requires frame { IsFrame (N.store nodes.old) net.now.raw frame }
@@ -114,7 +115,16 @@ pub fn edge_found<N: Nodes>(
     let ops = Ops::new(alloc);
     let cuts = cuts_of(alloc, &ops, nodes, edge.ant.as_slice())?;
     let mut begun = frame_at(alloc, source, frame)?;
-    let empty = renew(alloc, &ops, nodes, net, rows, cuts.as_slice(), &mut begun)?;
+    let empty = renew(
+        alloc,
+        &ops,
+        nodes,
+        net,
+        rows,
+        edge.weak.as_slice(),
+        cuts.as_slice(),
+        &mut begun,
+    )?;
     let found = given(alloc, &ops, nodes, net, source.reached, empty, begun)?;
     Ok(found)
 }

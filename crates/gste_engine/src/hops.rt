@@ -33,6 +33,7 @@ fn hop_of<N: Nodes>(
 ) -> Result<Hop, AllocError>
     requires rows { rows.now.covers ≡ map rows_of net.now.raw.covers }
     requires ant { All (λ bind. bind.node.0 < net.now.raw.nets) edge.now.ant }
+    requires weak { All (λ node. node.0 < net.now.raw.nets) edge.now.weak }
     requires con { All (λ bind. bind.node.0 < net.now.raw.nets) edge.now.con }
     requires source { AreStateRefs (N.store nodes.old) net.now.raw source.now }
     requires long { length bits.now ≡ (N.store nodes.old).vars }

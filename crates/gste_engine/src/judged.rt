@@ -72,6 +72,7 @@ fn with_edge<N: Nodes>(
 ) -> Result<Findings, OpFault>
     requires rows { rows.now.covers ≡ map rows_of net.now.raw.covers }
     requires nets { All (λ bind. bind.node.0 < net.now.raw.nets) edge.now.ant }
+    requires weak { All (λ node. node.0 < net.now.raw.nets) edge.now.weak }
     requires reads { BindsReadBelow (N.store nodes.old).vars edge.now.ant }
     requires wanted { All (λ bind. bind.node.0 < net.now.raw.nets) edge.now.con }
     requires reads_wanted { BindsReadBelow (N.store nodes.old).vars edge.now.con }

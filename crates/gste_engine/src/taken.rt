@@ -98,6 +98,7 @@ fn stepped<N: Nodes>(
 ) -> Result<Step, AllocError>
     requires rows { rows.now.covers ≡ map rows_of net.now.raw.covers }
     requires nets { All (λ bind. bind.node.0 < net.now.raw.nets) edge.now.ant }
+    requires weak { All (λ node. node.0 < net.now.raw.nets) edge.now.weak }
     requires source { AreStateRefs (N.store nodes.old) net.now.raw source.now }
     requires long { length bits.now ≡ (N.store nodes.old).vars }
     requires frame { IsFrame (N.store nodes.old) net.now.raw frame.old }
@@ -117,6 +118,7 @@ fn stepped<N: Nodes>(
         net,
         rows,
         latches.as_slice(),
+        edge.weak.as_slice(),
         cuts.as_slice(),
         frame,
     ) {
@@ -143,6 +145,7 @@ pub fn taken_on<N: Nodes>(
 ) -> Result<Taken, AllocError>
     requires rows { rows.now.covers ≡ map rows_of net.now.raw.covers }
     requires ant { All (λ bind. bind.node.0 < net.now.raw.nets) edge.now.ant }
+    requires weak { All (λ node. node.0 < net.now.raw.nets) edge.now.weak }
     requires con { All (λ bind. bind.node.0 < net.now.raw.nets) edge.now.con }
     requires source { AreStateRefs (N.store nodes.old) net.now.raw source.now }
     requires long { length bits.now ≡ (N.store nodes.old).vars }

@@ -15,7 +15,12 @@ a_case net graph two some edges =
       graph_over = record {
         sound = record { some = some; ends = All-weaker (IsCaseEdge V) (λ edge. edge.to < V) (λ edge h. h.to) graph.edges edges };
         edges = All-weaker (IsCaseEdge V) (IsEdgeOver net 1 V)
-            (λ edge h. record { start = h.from; nets = subst (λ n. All (λ bind. bind.node.0 < n) edge.ant) (sym two) h.nets; reads = h.reads }) graph.edges edges;
+            (λ edge h. record {
+              start = h.from;
+              nets = subst (λ n. All (λ bind. bind.node.0 < n) edge.ant) (sym two) h.nets;
+              weak = subst (λ n. All (λ node. node.0 < n) edge.weak) (sym two) h.weak;
+              reads = h.reads;
+            }) graph.edges edges;
       };
       claims_over = All-weaker (IsCaseEdge V) (λ edge. All (λ bind. bind.node.0 < net.nets) edge.con × BindsReadBelow 1 edge.con)
           (λ edge h. (subst (λ n. All (λ bind. bind.node.0 < n) edge.con) (sym two) h.claim_nets, h.claim_reads)) graph.edges edges;

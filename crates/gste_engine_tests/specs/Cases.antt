@@ -7,7 +7,7 @@ use Rattle.ste_model.specs.GraphNeed.{BindsReadBelow}
 use Rattle.plain_check.specs.private.States.{IsGraphOver as IsPlainGraphOver}
 use Rattle.gste_engine.specs.Tables.{AreConsequentsOver, IsGraphOver}
 
--- an edge between so many vertices, whose bindings name the nets 0 and 1, and read the variable 0
+-- an edge between so many vertices, whose bindings and weakenings name the nets 0 and 1, and which reads the variable 0
 pub record IsCaseEdge (vertices : ℕ) (edge : Edge) : Type 0 where
   pub from : edge.from < vertices
   pub to : edge.to < vertices
@@ -15,6 +15,7 @@ pub record IsCaseEdge (vertices : ℕ) (edge : Edge) : Type 0 where
   pub reads : BindsReadBelow 1 edge.ant
   pub claim_nets : All (λ bind. bind.node.0 < 2) edge.con
   pub claim_reads : BindsReadBelow 1 edge.con
+  pub weak : All (λ node. node.0 < 2) edge.weak
 
 -- a graph that both programs take
 pub record IsCase (net : RawNet) (graph : Graph) : Type 0 where

@@ -146,6 +146,7 @@ pub fn edge_of(alloc: Global, vertices: u32, case: &EdgeCase) -> Result<Edge, Fa
         to: *to,
         ant,
         con,
+        weak: Items::new(alloc),
     })
 }
 

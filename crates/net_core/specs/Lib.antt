@@ -2,6 +2,7 @@ pub mod Cover
 pub mod Run
 pub mod Sets
 pub mod Possible
+pub mod Weakened
 pub mod OneRun
 pub mod Flat
 pub mod Source

@@ -11,7 +11,7 @@ use Rattle.net_core.specs.declared.raw.RawNet.{RawNet}
 use Rattle.net_core.specs.declared.source.Source.{Source}
 use Rattle.net_core.specs.declared.source.Source.TheVariants.{Input, Free, Gate as OfGate, Latch as OfLatch}
 use Rattle.net_core.specs.Cases.{on_rows, off_rows}
-use Rattle.net_core.specs.Possible.{Asked, ArePossible}
+use Rattle.net_core.specs.Possible.{Asked, ArePossible, is_weakened}
 use Rattle.net_core.specs.Run.{Cut}
 use Rattle.net_core.specs.Source.{source_of}
 
@@ -114,13 +114,14 @@ pub record SymbolicCut : Type 0 where
 abbrev pub cut_at : List Bool → SymbolicCut → Cut
 cut_at bits d = record { node = d.node; on = d.guard bits; value = d.value bits }
 
--- what is asked at one time under all assignments: cuts of nets
+-- what is asked at one time under all assignments: cuts of nets, and which nets are weakened
 pub record SymbolicAsked : Type 0 where
   pub cuts : List SymbolicCut
+  pub weak : List ℕ
 
 -- what is asked under one assignment
 abbrev pub asked_at : List Bool → SymbolicAsked → Asked
-asked_at bits asked = record { cuts = map (cut_at bits) asked.cuts }
+asked_at bits asked = record { cuts = map (cut_at bits) asked.cuts; weak = asked.weak }
 
 -- a set without the opposite of the value x where the guard g is 1
 abbrev pub cut_set : SymbolicSet → Function → Function → SymbolicSet
@@ -208,9 +209,14 @@ by_source net latches sets Free = everything
 by_source net latches sets (OfGate g) = by_gate net sets (slice_get net.gates g)
 by_source net latches sets (OfLatch l) = slice_index_or latches l everything
 
+-- the set of a net before its cuts: both bits where it is weakened, and else by what drives it
+abbrev pub unless_weakened : Bool → SymbolicSet → SymbolicSet
+unless_weakened true w = everything
+unless_weakened false w = w
+
 -- the set of each net before its cuts, where the nets have these sets after their cuts
-abbrev pub uncut : RawNet → List SymbolicSet → (ℕ → SymbolicSet) → ℕ → SymbolicSet
-uncut net latches sets id = by_source net latches sets (source_of net id)
+abbrev pub uncut : RawNet → List ℕ → List SymbolicSet → (ℕ → SymbolicSet) → ℕ → SymbolicSet
+uncut net weak latches sets id = unless_weakened (is_weakened weak id) (by_source net latches sets (source_of net id))
 
 -- sets after one more cut
 abbrev pub after_cut : SymbolicCut → (ℕ → SymbolicSet) → ℕ → SymbolicSet
@@ -226,11 +232,16 @@ abbrev pub cuts_work : List SymbolicCut → (ℕ → SymbolicSet) → List Funct
 cuts_work [] sets = []
 cuts_work (d ∷ cuts) sets = cut_work (sets d.node) d.guard d.value ++ cuts_work cuts (after_cut d sets)
 
--- the functions for all gates
-abbrev pub gates_work : RawNet → (ℕ → SymbolicSet) → List Gate → List Function
-gates_work net sets [] = []
-gates_work net sets (gate ∷ gates) =
-    cover_work (slice_get net.covers gate.cover) (input_sets sets gate) ++ gates_work net sets gates
+-- the functions for a gate, which are none where its output is weakened
+abbrev pub one_gate_work : Bool → RawNet → (ℕ → SymbolicSet) → Gate → List Function
+one_gate_work true net sets gate = []
+one_gate_work false net sets gate = cover_work (slice_get net.covers gate.cover) (input_sets sets gate)
+
+-- the functions for all gates whose outputs are not weakened
+abbrev pub gates_work : RawNet → List ℕ → (ℕ → SymbolicSet) → List Gate → List Function
+gates_work net weak sets [] = []
+gates_work net weak sets (gate ∷ gates) =
+    one_gate_work (is_weakened weak gate.output.0) net sets gate ++ gates_work net weak sets gates
 
 -- the sets of the first n nets
 abbrev pub first_sets : (ℕ → SymbolicSet) → ℕ → List SymbolicSet
@@ -246,8 +257,8 @@ some_empty net sets = sum (map no_bit (first_sets sets net.nets))
 abbrev pub time_work : RawNet → List SymbolicSet → SymbolicAsked → (ℕ → SymbolicSet) → List Function
 time_work net latches asked sets =
     let all = first_sets sets net.nets in
-    cuts_work asked.cuts (uncut net latches sets)
-    ++ (gates_work net sets net.gates
+    cuts_work asked.cuts (uncut net asked.weak latches sets)
+    ++ (gates_work net asked.weak sets net.gates
     ++ (map some_bit all ++ (map no_bit all ++ sums (map no_bit all))))
 
 -- the sets are the possible ones of one time, under each assignment of so many variables

@@ -4,6 +4,7 @@ ghost use Rattle.net_core.specs.Cases.{OthersComplement, RowsTellTheBit};
 ghost use Rattle.net_core.specs.OneRun.{OneRun};
 ghost use Rattle.net_core.specs.Possible.{OnePossible};
 ghost use Rattle.net_core.specs.Sets.{FirstSetsAreStarts};
+ghost use Rattle.net_core.specs.Weakened.{WeakenedSetsGrow};
 
 /// The first values of a latch are the bits that it may start with.
 pub fn first_values()
@@ -18,6 +19,11 @@ pub fn one_run()
 /// In a net without loops there is exactly one family of possible sets of one time.
 pub fn one_possible()
     ensures { OnePossible }
+{}
+
+/// In a net without loops, weakening more nets takes no bit out of the possible sets of one time.
+pub fn weakened_sets_grow()
+    ensures { WeakenedSetsGrow }
 {}
 
 /// The on-rows of a cover match exactly where its bit is 1, and the off-rows exactly where it is 0.

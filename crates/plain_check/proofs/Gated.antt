@@ -1,21 +1,19 @@
 -- Gate outputs have their sets, one after another.
-use Rattle.std.proofs.Common.{◌≡◌, ◌≢◌, ℕ, ◌<◌, ◌+◌, suc, Bool, List, [], ◌∷◌, map, length, get_or, set, arith, sym, ap, refl, subst, ◌∙◌, inl, inr}
-use Rattle.std.specs.Prelude.{All, AllPairs, ◌↔◌, slice_get, Option, Some}
+use Rattle.std.proofs.Common.{◌≡◌, ◌≢◌, ℕ, ◌<◌, ◌+◌, suc, Bool, false, List, [], ◌∷◌, map, length, get_or, set, arith, sym, ap, refl, subst, ◌∙◌, inl, inr}
+use Rattle.std.specs.Prelude.{All, AllPairs, ◌↔◌}
 use Rattle.std.proofs.lemmas.List.{get_or-set_same, get_or-set_other, get_or_default}
 use Rattle.std.proofs.lemmas.Bool.{cases_eq, cases_lt}
 use Rattle.ste_base.specs.declared.id.NodeId.{NodeId}
 use Rattle.net_core.specs.declared.bit_set.BitSet.{BitSet}
-use Rattle.net_core.specs.declared.cover.Cover.{Cover}
 use Rattle.net_core.specs.declared.raw.Gate.{Gate}
 use Rattle.net_core.specs.declared.raw.RawNet.{RawNet}
-use Rattle.net_core.specs.Cover.{cover_bit}
-use Rattle.net_core.specs.Run.{gate_bit, bit_of}
+use Rattle.net_core.specs.Run.{gate_bit}
 use Rattle.net_core.specs.Flat.{IsInRange, HasOneDriver, IsSettledOrder}
 use Rattle.net_core.specs.Sets.{IsIn, both}
 use Rattle.net_core.specs.Possible.{Asked, MayGive, ArePossible}
 use Rattle.net_core.proofs.Possible.{same_set}
 use Rattle.net_core.proofs.Ordered.{place_of}
-use Rattle.plain_check.specs.private.Sets.{set_at, Allows, AreLatched, AreSets}
+use Rattle.plain_check.specs.private.Sets.{set_at, Allows, AreFlags, AreLatched, AreSets}
 use Rattle.plain_check.proofs.Latched.{by_index}
 
 -- the inputs' sets, where each is known
@@ -38,28 +36,61 @@ one_gate gates apart j k d e l m same =
       ]
     ]
 
-module _ (net : RawNet) (order : List ℕ) (held : List BitSet) (asked : Asked) (allowed : List BitSet) (family : ℕ → BitSet) (range : IsInRange net) (one : HasOneDriver net) (is_order : IsSettledOrder net order) (long : length held ≡ length net.latches) (wide : length allowed ≡ net.nets) (allows : Allows asked.cuts allowed) (possible : ArePossible net held asked family) where
-  -- a gate's output has the gate's set, as far as that is allowed
-  gated : (n : ℕ) (gate : Gate) (found left : BitSet) → n < length net.gates → gate ≡ get_or net.gates n gate → ((bit : Bool) → IsIn bit found ↔ MayGive (gate_bit net gate) (map (λ input. family input.0) gate.inputs) bit) → ((bit : Bool) → IsIn bit left ↔ (IsIn bit found × IsIn bit (set_at allowed gate.output.0))) → left ≡ family gate.output.0
+-- the bit is in the set just where the gate may give it on these sets, or its output is weakened
+abbrev pub GivesUnless : Bool → RawNet → List BitSet → Gate → BitSet → Bool → Type 0
+GivesUnless weak net sets gate found bit =
+    IsIn bit found
+    ↔ (weak ≡ false →
+    MayGive (gate_bit net gate) (map (λ input. set_at sets input.0) gate.inputs) bit)
+
+module _ (net : RawNet) (order : List ℕ) (held : List BitSet) (asked : Asked) (weak : List Bool)
+    (allowed : List BitSet) (family : ℕ → BitSet) (range : IsInRange net) (one : HasOneDriver net)
+    (is_order : IsSettledOrder net order) (long : length held ≡ length net.latches)
+    (wide : length allowed ≡ net.nets) (allows : Allows asked.cuts allowed)
+    (flags : AreFlags net.nets asked.weak weak) (possible : ArePossible net held asked family) where
+  abbrev may_give : Bool → Gate → Type 0
+  may_give bit gate = MayGive (gate_bit net gate) (map (λ input. family input.0) gate.inputs) bit
+
+  -- a gate's output has the gate's set, unless it is weakened, as far as that is allowed
+  gated : (n : ℕ) (gate : Gate) (found left : BitSet)
+      → n < length net.gates → gate ≡ get_or net.gates n gate
+      → ((bit : Bool) → IsIn bit found
+      ↔ (get_or weak gate.output.0 false ≡ false →
+      MayGive (gate_bit net gate) (map (λ input. family input.0) gate.inputs) bit))
+      → ((bit : Bool) → IsIn bit left ↔ (IsIn bit found × IsIn bit (set_at allowed gate.output.0)))
+      → left ≡ family gate.output.0
   gated n gate found left l is gives meets =
       let id = gate.output.0 in
       let inside : id < net.nets = subst (λ (x : Gate). x.output.0 < net.nets) (sym is) (range.gate_outputs n gate l) in
+      let flag = flags id inside in
       same_set left (family id)
       (λ bit h. let parts = (meets bit).0 h in (possible.each id bit).1 (record {
-        source = record {
-          by_gate = λ k d m e. subst (λ (x : Gate). MayGive (gate_bit net x) (map (λ input. family input.0) x.inputs) bit) (is ∙ sym (one_gate net.gates one.gates k n d gate m l (e ∙ ap (λ (x : Gate). x.output.0) is))) ((gives bit).0 parts.0);
+        source = λ off. record {
+          by_gate = λ k d m e.
+              let output = e ∙ ap (λ (x : Gate). x.output.0) is in
+              subst (may_give bit) (is ∙ sym (one_gate net.gates one.gates k n d gate m l output))
+              ((gives bit).0 parts.0 (flag ∙ off));
           by_latch = by_index id bit net.latches held long (λ k m d e. absurd (one.apart k d m n gate l (sym (ap (λ (x : Gate). x.output.0) is) ∙ sym e)));
         };
         left = (allows id bit (omega arith)).0 parts.1;
       }))
       (λ bit h. let may = (possible.each id bit).0 h in (meets bit).1 (
-        (gives bit).1 (subst (λ (x : Gate). MayGive (gate_bit net x) (map (λ input. family input.0) x.inputs) bit) (sym is) (may.source.by_gate n gate l (sym (ap (λ (x : Gate). x.output.0) is)))),
+        (gives bit).1 (λ off.
+            let output = sym (ap (λ (x : Gate). x.output.0) is) in
+            subst (may_give bit) (sym is) ((may.source (sym flag ∙ off)).by_gate n gate l output)),
         (allows id bit (omega arith)).1 may.left,
       ))
 
   -- one gate more has its set
-  pub gate_done : (n number : ℕ) (gate : Gate) (cover : Cover) (inputs : List BitSet) (b found left : BitSet) (sets : List BitSet) → length sets ≡ net.nets → n < length order → number ≡ get_or order n 0 → gate ≡ get_or net.gates number gate → slice_get net.covers gate.cover ≡ Some cover → inputs ≡ map (λ input. set_at sets input.0) gate.inputs → ((bit : Bool) → IsIn bit found ↔ MayGive (cover_bit cover) inputs bit) → ((bit : Bool) → IsIn bit left ↔ (IsIn bit found × IsIn bit (get_or allowed gate.output.0 b))) → AreSets net order n family sets → AreSets net order (n + 1) family (set sets gate.output.0 left)
-  gate_done n number gate cover inputs b found left sets size l at is covers are gives meets before id m none =
+  pub gate_done : (n number : ℕ) (gate : Gate) (b found left : BitSet) (sets : List BitSet)
+      → length sets ≡ net.nets → n < length order → number ≡ get_or order n 0
+      → gate ≡ get_or net.gates number gate
+      → ((bit : Bool) → GivesUnless (get_or weak gate.output.0 false) net sets gate found bit)
+      → ((bit : Bool) → IsIn bit left
+      ↔ (IsIn bit found × IsIn bit (get_or allowed gate.output.0 b)))
+      → AreSets net order n family sets
+      → AreSets net order (n + 1) family (set sets gate.output.0 left)
+  gate_done n number gate b found left sets size l at is gives meets before id m none =
       let known : number < length net.gates = rw at (is_order.gates n 0 l) in
       let inside : gate.output.0 < net.nets = subst (λ (x : Gate). x.output.0 < net.nets) (sym is) (range.gate_outputs number gate known) in
       let ready : All (λ input. set_at sets input.0 ≡ family input.0) gate.inputs = λ i d li.
@@ -67,9 +98,10 @@ module _ (net : RawNet) (order : List ℕ) (held : List BitSet) (asked : Asked) 
       (λ k e le lt same.
       let same_gate : get_or net.gates (get_or order n 0) e ≡ gate = ap (λ (j : ℕ). get_or net.gates j e) (sym at) ∙ get_or_default net.gates number e gate known ∙ sym is in
       subst (λ (x : Gate). All (λ input. input.0 ≢ (get_or net.gates (get_or order k 0) e).output.0) x.inputs) same_gate (is_order.behind n k e le lt) i d li (sym same)) in
-      let gathered : inputs ≡ map (λ input. family input.0) gate.inputs = are ∙ inputs_known sets family gate.inputs ready in
-      let gives_bits : (bit : Bool) → IsIn bit found ↔ MayGive (gate_bit net gate) (map (λ input. family input.0) gate.inputs) bit = λ bit.
-      subst (λ (o : Option Cover). IsIn bit found ↔ MayGive (bit_of o) (map (λ input. family input.0) gate.inputs) bit) (sym covers) (subst (λ (xs : List BitSet). IsIn bit found ↔ MayGive (cover_bit cover) xs bit) gathered (gives bit)) in
+      let flag = get_or weak gate.output.0 false in
+      let gives_bits : (bit : Bool) → IsIn bit found ↔ (flag ≡ false → may_give bit gate) = λ bit.
+      subst (λ (xs : List BitSet). IsIn bit found ↔ (flag ≡ false → MayGive (gate_bit net gate) xs bit))
+      (inputs_known sets family gate.inputs ready) (gives bit) in
       let meets_at : (bit : Bool) → IsIn bit left ↔ (IsIn bit found × IsIn bit (set_at allowed gate.output.0)) = λ bit.
       subst (λ (s : BitSet). IsIn bit left ↔ (IsIn bit found × IsIn bit s)) (get_or_default allowed gate.output.0 b both (omega arith)) (meets bit) in
       elim (cases_eq id gate.output.0) [

@@ -1,5 +1,6 @@
 pub mod Allowed
 pub mod Chosen
+pub mod Flagged
 pub mod Gated
 pub mod Latched
 pub mod Outcomes

@@ -23,7 +23,7 @@ beyond (set ∷ row) (suc id) l = beyond row id (omega arith)
 -- what is no net may have both bits
 outside : (net : RawNet) (held : List BitSet) (asked : Asked) (family : ℕ → BitSet) (id : ℕ) → IsInRange net → length held ≡ length net.latches → All (λ cut. cut.node < net.nets) asked.cuts → ArePossible net held asked family → net.nets ≤ id → family id ≡ both
 outside net held asked family id range long below possible l = same_set (family id) both (λ bit h. in_both bit) (λ bit h. (possible.each id bit).1 (record {
-  source = record {
+  source = λ off. record {
     by_gate = λ k d m e. let low = range.gate_outputs k d m in absurd (omega (arith, low, e, l));
     by_latch = by_index id bit net.latches held long (λ k m d e. let low = range.latch_outputs k d m in absurd (omega (arith, low, e, l)));
   };

@@ -1,15 +1,16 @@
 //! The sets of gates, over all choices of bits; begin with `place_gates`.
 
-ghost use Rattle.std.specs.Prelude.{◌≡◌, ◌<◌, ◌≤◌, ◌+◌, ◌↔◌, [], Bool, ℕ, List, length, map, All, IfOk, OnOk, slice_index_or};
+ghost use Rattle.std.specs.Prelude.{◌≡◌, ◌<◌, ◌≤◌, ◌+◌, ◌↔◌, [], Bool, ℕ, List, false, length, map, All, IfOk, OnOk, slice_index_or};
 ghost use Rattle.net_core.specs.declared.bit_set.BitSet.{BitSet as Set};
 ghost use Rattle.net_core.specs.Cover.{cover_bit};
-ghost use Rattle.net_core.specs.Run.{Cut};
+ghost use Rattle.net_core.specs.Run.{gate_bit};
 ghost use Rattle.net_core.specs.Sets.{IsIn};
 ghost use Rattle.net_core.specs.Possible.{Asked, ArePossible, MayGive};
 ghost use Rattle.plain_check.specs.private.Choices.{AreChoices, lists_of};
-ghost use Rattle.plain_check.specs.private.Sets.{Allows, AreSets, fits, may_give_one, may_give_zero, set_at};
+ghost use Rattle.plain_check.specs.private.Sets.{Allows, AreFlags, AreSets, fits, may_give_one, may_give_zero, set_at};
 
-use net_core::{BitSet, Cover, Net, eval};
+use crate::sources::is_weak;
+use net_core::{BitSet, Cover, Gate, Net, eval};
 use std::alloc::{AllocError, Global};
 use ste_base::{Items, NodeId};
 
@@ -57,12 +58,44 @@ fn sets_of(alloc: Global, nets: &[NodeId], sets: &[BitSet]) -> Result<Vec<BitSet
     Ok(found)
 }
 
-/// Gives each gate output, one after another, the gate's set and what is allowed of it. For each number of inputs
-/// `choices` has all lists of so many bits.
+/// The set of a gate's output before what is asked of it: both bits where it is weakened, and else
+/// the gate's set. For each number of inputs `choices` has all lists of so many bits.
+fn source_set(
+    alloc: Global,
+    net: &Net,
+    choices: &[Items<Items<bool>>],
+    weak: &[bool],
+    gate: &Gate,
+    sets: &[BitSet],
+) -> Result<BitSet, AllocError>
+    requires choices { AreChoices choices.now }
+    requires width { length gate.now.inputs < length choices.now }
+    requires cover { gate.now.cover < length net.now.raw.covers }
+    requires inputs { All (λ input. input.0 < length sets.now) gate.now.inputs }
+    ensures { IfOk result (λ set. (bit : Bool) → IsIn bit set
+        ↔ (slice_index_or weak.now gate.now.output.0 false ≡ false →
+        MayGive (gate_bit net.now.raw gate.now)
+        (map (λ input. set_at sets.now input.0) gate.now.inputs) bit)) }
+{
+    if is_weak(weak, gate.output) {
+        return Ok(BitSet::both());
+    }
+    let inputs = sets_of(alloc, gate.inputs.as_slice(), sets)?;
+    let found = gate_set(
+        net.cover(gate.cover),
+        &inputs,
+        choices[inputs.len()].as_slice(),
+    );
+    Ok(found)
+}
+
+/// Gives each gate output, one after another, the gate's set, or both bits where it is weakened, as
+/// far as it is allowed. For each number of inputs `choices` has all lists of so many bits.
 pub fn place_gates(
     alloc: Global,
     net: &Net,
     choices: &[Items<Items<bool>>],
+    weak: &[bool],
     allowed: &[BitSet],
     sets: &mut Vec<BitSet>,
 ) -> Result<(), AllocError>
@@ -73,18 +106,14 @@ pub fn place_gates(
     ensures long { OnOk result (length sets.new.items ≡ net.now.raw.nets) }
     ensures sets { OnOk result ((held : List Set) (asked : Asked) (family : ℕ → Set) →
         length held ≡ length net.now.raw.latches → Allows asked.cuts allowed.now →
+        AreFlags net.now.raw.nets asked.weak weak.now →
         ArePossible net.now.raw held asked family →
         AreSets net.now.raw net.now.settled 0 family sets.old.items →
         AreSets net.now.raw net.now.settled (length net.now.settled) family sets.new.items) }
 {
     for (n, number) in net.settled().iter().enumerate() {
         let gate = &net.gates()[*number as usize];
-        let inputs = sets_of(alloc, gate.inputs.as_slice(), sets)?;
-        let found = gate_set(
-            net.cover(gate.cover),
-            &inputs,
-            choices[inputs.len()].as_slice(),
-        );
+        let found = source_set(alloc, net, choices, weak, gate, sets)?;
         let output = gate.output.0 as usize;
         let set = found.meet(allowed[output]);
         sets[output] = set;

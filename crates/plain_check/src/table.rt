@@ -8,10 +8,10 @@ ghost use Rattle.net_core.specs.Sets.{first_set, first_sets, next_sets};
 ghost use Rattle.ste_model.specs.Table.{IsPossible};
 ghost use Rattle.plain_check.specs.private.Choices.{AreChoices, lists_of};
 ghost use Rattle.plain_check.specs.private.Outcome.{table_of};
-ghost use Rattle.plain_check.specs.private.Sets.{Allows, set_at};
+ghost use Rattle.plain_check.specs.private.Sets.{Allows, AreFlags, set_at};
 
 use crate::gates::place_gates;
-use crate::sources::{allowed_at, allowed_on, place_latches};
+use crate::sources::{allowed_at, allowed_on, flags_at, flags_of, place_latches};
 use net_core::{BitSet, Init, Latch, Net};
 use std::alloc::{AllocError, Global};
 use ste_base::{Items, Time};
@@ -59,12 +59,14 @@ pub fn next_sets(alloc: Global, net: &Net, row: &[BitSet]) -> Result<Vec<BitSet>
         .collect(alloc)
 }
 
-/// The possible sets of one time, from what the latches hold and what is allowed of each net.
+/// The possible sets of one time, from what the latches hold, which nets are weakened, and what is
+/// allowed of each net.
 pub fn possible_sets(
     alloc: Global,
     net: &Net,
     choices: &[Items<Items<bool>>],
     held: &[BitSet],
+    weak: &[bool],
     allowed: &[BitSet],
 ) -> Result<Items<BitSet>, AllocError>
     requires choices { AreChoices choices.now }
@@ -75,11 +77,12 @@ pub fn possible_sets(
     ensures long { IfOk result (λ row. length row ≡ net.now.raw.nets) }
     ensures possible { IfOk result (λ row. (asked : Asked) →
         All (λ cut. cut.node < net.now.raw.nets) asked.cuts → Allows asked.cuts allowed.now →
+        AreFlags net.now.raw.nets asked.weak weak.now →
         ArePossible net.now.raw held.now asked (set_at row)) }
 {
     let mut sets = allowed.to_vec(alloc)?;
-    place_latches(net, held, allowed, &mut sets);
-    place_gates(alloc, net, choices, allowed, &mut sets)?;
+    place_latches(net, held, weak, allowed, &mut sets);
+    place_gates(alloc, net, choices, weak, allowed, &mut sets)?;
     Ok(Items::from(sets))
 }
 
@@ -102,7 +105,8 @@ fn sets_at(
         ArePossible net.now.raw held.now (asked_at task.now bits.now t) (set_at row)) }
 {
     let allowed = allowed_at(alloc, net.nets(), task.ant.as_slice(), bits, t)?;
-    possible_sets(alloc, net, choices, held, &allowed)
+    let weak = flags_at(alloc, net.nets(), task.weak.as_slice(), t)?;
+    possible_sets(alloc, net, choices, held, &weak, &allowed)
 }
 
 /// The possible sets of an edge's time step, from what the latches hold at its source.
@@ -123,7 +127,8 @@ pub fn sets_on(
         ArePossible net.now.raw held.now (asked_on edge.now bits.now) (set_at row)) }
 {
     let allowed = allowed_on(alloc, net.nets(), edge.ant.as_slice(), bits)?;
-    possible_sets(alloc, net, choices, held, &allowed)
+    let weak = flags_of(alloc, net.nets(), edge.weak.as_slice())?;
+    possible_sets(alloc, net, choices, held, &weak, &allowed)
 }
 
 /// The possible table of an assertion under an assignment: a row for each time below the depth, with a set for each net.

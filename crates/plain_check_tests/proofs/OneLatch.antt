@@ -1,45 +1,118 @@
--- The net of the tests, two inputs and a latch of the one, is sound.
-use Rattle.std.proofs.Common.{◌≡◌, ◌≢◌, ◌<◌, List, [], ◌∷◌, length, arith, sym, ap, subst}
+-- The net of the tests, two inputs, a latch of the one, and a gate, is sound.
+use Rattle.std.proofs.Common.{◌≡◌, ◌≢◌, ◌<◌, ◌≤◌, ◌∙◌, ℕ, List, [], ◌∷◌, length, arith, sym, ap, subst}
 use Rattle.std.specs.Prelude.{All, AllPairs, Some, slice_get}
 use Rattle.std.proofs.lemmas.List.Elements.{All-nil, All-cons}
 use Rattle.ste_base.specs.declared.id.NodeId.{NodeId}
 use Rattle.net_core.specs.declared.cover.Cover.{Cover}
+use Rattle.net_core.specs.declared.raw.Gate.{Gate}
 use Rattle.net_core.specs.declared.raw.Latch.{Latch}
 use Rattle.net_core.specs.declared.raw.RawNet.{RawNet}
 use Rattle.net_core.specs.Cover.{IsCover}
 use Rattle.net_core.specs.Flat.{IsInRange, HasOneDriver}
 
-one : {X : Type 0} (P : X → Type 0) (xs : List X) (x : X) → xs ≡ x ∷ [] → P x → All P xs
+pub one : {X : Type 0} (P : X → Type 0) (xs : List X) (x : X) → xs ≡ x ∷ [] → P x → All P xs
 one P xs x e h = subst (All P) (sym e) (All-cons P x [] h (All-nil P))
 
 two : {X : Type 0} (P : X → Type 0) (xs : List X) (x y : X) → xs ≡ x ∷ y ∷ [] → P x → P y → All P xs
 two P xs x y e h g = subst (All P) (sym e) (All-cons P x (y ∷ []) h (All-cons P y [] g (All-nil P)))
 
-none : {X : Type 0} (P : X → Type 0) (xs : List X) → xs ≡ [] → All P xs
-none P xs e = subst (All P) (sym e) (All-nil P)
-
 pairs : {X : Type 0} (R : X → X → Type 0) (xs : List X) → length xs < 2 → AllPairs R xs
 pairs R xs few i j d l m = absurd (omega arith)
 
-module _ (net : RawNet) (input other output : NodeId) (latch : Latch) (nets : net.nets ≡ 3) (inputs : net.inputs ≡ input ∷ other ∷ []) (outputs : net.outputs ≡ output ∷ []) (gates : net.gates ≡ []) (latches : net.latches ≡ latch ∷ []) (covers : net.covers ≡ []) (first : input.0 ≡ 0) (third : other.0 ≡ 2) (second : output.0 ≡ 1) (from : latch.input.0 ≡ 0) (to : latch.output.0 ≡ 1) where
+the_first : {X : Type 0} (xs : List X) (x y : X) → xs ≡ x ∷ [] → slice_get xs 0 ≡ Some y → x ≡ y
+the_first xs x y e h =
+    let at : slice_get (x ∷ []) 0 ≡ Some y = subst (λ ys. slice_get ys 0 ≡ Some y) e h in
+    cc at
+
+-- two inputs, one output, a gate of two inputs with its cover, and a latch
+pub record IsSmall (net : RawNet) (input other output left right : NodeId) (gate : Gate) (cover : Cover)
+    (latch : Latch) : Type 0 where
+  pub nets : net.nets ≡ 4
+  pub inputs : net.inputs ≡ input ∷ other ∷ []
+  pub outputs : net.outputs ≡ output ∷ []
+  pub gates : net.gates ≡ gate ∷ []
+  pub latches : net.latches ≡ latch ∷ []
+  pub covers : net.covers ≡ cover ∷ []
+  pub first : input.0 ≡ 0
+  pub third : other.0 ≡ 2
+  pub second : output.0 ≡ 1
+  pub from : latch.input.0 ≡ 0
+  pub to : latch.output.0 ≡ 1
+  pub gate_inputs : gate.inputs ≡ left ∷ right ∷ []
+  pub gate_left : left.0 ≡ 1
+  pub gate_right : right.0 ≡ 2
+  pub gate_output : gate.output.0 ≡ 3
+  pub gate_cover : gate.cover ≡ 0
+  pub width : cover.inputs ≡ 2
+  pub sound : IsCover cover
+
+module _ (net : RawNet) (input other output left right : NodeId) (gate : Gate) (cover : Cover)
+    (latch : Latch) (is : IsSmall net input other output left right gate cover latch) where
+  below : (k n : ℕ) → k ≡ n → n < 4 → k < net.nets
+  below k n e l = let nets = is.nets in omega arith
+
+  -- what holds of both inputs, of the gate, and of the latch, holds of all
+  of_inputs : (P : NodeId → Type 0) → P input → P other → All P net.inputs
+  of_inputs P = two P net.inputs input other is.inputs
+
+  of_gates : (P : Gate → Type 0) → P gate → All P net.gates
+  of_gates P = one P net.gates gate is.gates
+
+  of_latches : (P : Latch → Type 0) → P latch → All P net.latches
+  of_latches P = one P net.latches latch is.latches
+
   pub latch_in_range : IsInRange net
   latch_in_range = record {
-    inputs = two (λ i. i.0 < net.nets) net.inputs input other inputs (omega arith) (omega arith);
-    outputs = one (λ i. i.0 < net.nets) net.outputs output outputs (omega arith);
-    gate_inputs = none (λ gate. All (λ i. i.0 < net.nets) gate.inputs) net.gates gates;
-    gate_outputs = none (λ gate. gate.output.0 < net.nets) net.gates gates;
-    latch_inputs = one (λ l. l.input.0 < net.nets) net.latches latch latches (omega arith);
-    latch_outputs = one (λ l. l.output.0 < net.nets) net.latches latch latches (omega arith);
-    covers = none (λ gate. gate.cover < length net.covers) net.gates gates;
-    sound = none IsCover net.covers covers;
-    widths = none (λ gate. (cover : Cover) → slice_get net.covers gate.cover ≡ Some cover → cover.inputs ≡ length gate.inputs) net.gates gates;
+    inputs = of_inputs (λ i. i.0 < net.nets) (below input.0 0 is.first (omega arith))
+        (below other.0 2 is.third (omega arith));
+    outputs = one (λ i. i.0 < net.nets) net.outputs output is.outputs
+        (below output.0 1 is.second (omega arith));
+    gate_inputs = of_gates (λ g. All (λ i. i.0 < net.nets) g.inputs)
+        (two (λ i. i.0 < net.nets) gate.inputs left right is.gate_inputs
+        (below left.0 1 is.gate_left (omega arith)) (below right.0 2 is.gate_right (omega arith)));
+    gate_outputs = of_gates (λ g. g.output.0 < net.nets)
+        (below gate.output.0 3 is.gate_output (omega arith));
+    latch_inputs = of_latches (λ l. l.input.0 < net.nets)
+        (below latch.input.0 0 is.from (omega arith));
+    latch_outputs = of_latches (λ l. l.output.0 < net.nets)
+        (below latch.output.0 1 is.to (omega arith));
+    covers = of_gates (λ g. g.cover < length net.covers)
+        (let long = ap length is.covers in let zeroth = is.gate_cover in omega arith);
+    sound = one IsCover net.covers cover is.covers is.sound;
+    widths =
+        of_gates (λ g. (c : Cover) → slice_get net.covers g.cover ≡ Some c → c.inputs ≡ length g.inputs)
+        (λ c at.
+        let first = subst (λ k. slice_get net.covers k ≡ Some c) is.gate_cover at in
+        let same = the_first net.covers cover c is.covers first in
+        ap (λ (x : Cover). x.inputs) (sym same) ∙ is.width ∙ sym (ap length is.gate_inputs));
   }
 
+  drives : (k n : ℕ) → k ≡ n → n < 3 → gate.output.0 ≢ k
+  drives k n e l same = let at = is.gate_output in absurd (omega arith)
+
+  no_gate : (k n : ℕ) → k ≡ n → n < 3 → All (λ g. g.output.0 ≢ k) net.gates
+  no_gate k n e l = of_gates (λ g. g.output.0 ≢ k) (drives k n e l)
+
+  holds : (k n : ℕ) → k ≡ n → n ≢ 1 → latch.output.0 ≢ k
+  holds k n e other same = other (sym e ∙ sym same ∙ is.to)
+
+  no_latch : (k n : ℕ) → k ≡ n → n ≢ 1 → All (λ l. l.output.0 ≢ k) net.latches
+  no_latch k n e other = of_latches (λ l. l.output.0 ≢ k) (holds k n e other)
+
   pub latch_one_driver : HasOneDriver net
-  latch_one_driver = record {
-    gates = pairs (λ a b. a.output.0 ≢ b.output.0) net.gates (let long = ap length gates in omega arith);
-    latches = pairs (λ a b. a.output.0 ≢ b.output.0) net.latches (let long = ap length latches in omega arith);
-    apart = one (λ l. All (λ gate. gate.output.0 ≢ l.output.0) net.gates) net.latches latch latches (none (λ gate. gate.output.0 ≢ latch.output.0) net.gates gates);
-    no_gate = two (λ i. All (λ gate. gate.output.0 ≢ i.0) net.gates) net.inputs input other inputs (none (λ gate. gate.output.0 ≢ input.0) net.gates gates) (none (λ gate. gate.output.0 ≢ other.0) net.gates gates);
-    no_latch = two (λ i. All (λ l. l.output.0 ≢ i.0) net.latches) net.inputs input other inputs (one (λ l. l.output.0 ≢ input.0) net.latches latch latches (λ e. absurd (omega arith))) (one (λ l. l.output.0 ≢ other.0) net.latches latch latches (λ e. absurd (omega arith)));
-  }
+  latch_one_driver =
+      let gates = ap length is.gates in
+      let latches = ap length is.latches in
+      record {
+        gates = pairs (λ a b. a.output.0 ≢ b.output.0) net.gates (omega arith);
+        latches = pairs (λ a b. a.output.0 ≢ b.output.0) net.latches (omega arith);
+        apart = of_latches (λ l. All (λ g. g.output.0 ≢ l.output.0) net.gates)
+            (no_gate latch.output.0 1 is.to (omega arith));
+        no_gate = of_inputs (λ i. All (λ g. g.output.0 ≢ i.0) net.gates)
+            (no_gate input.0 0 is.first (omega arith)) (no_gate other.0 2 is.third (omega arith));
+        no_latch = of_inputs (λ i. All (λ l. l.output.0 ≢ i.0) net.latches)
+            (no_latch input.0 0 is.first (λ e. cc e)) (no_latch other.0 2 is.third (λ e. cc e));
+      }
+
+  pub few_inputs : All (λ g. length g.inputs ≤ 8) net.gates
+  few_inputs = of_gates (λ g. length g.inputs ≤ 8) (let long = ap length is.gate_inputs in omega arith)

@@ -11,7 +11,7 @@ use net_core::Resolve;
 use std::alloc::{AllocError, Global};
 use std::test::Fail;
 use ste_base::{Name, NodeId};
-use ste_model::{Bind, Edge, Quint, Task, Tasks};
+use ste_model::{Bind, Edge, Quint, Task, Tasks, Weakening};
 use task_binding::{BindFault, bind_tasks};
 
 /// Names of three nets: `a`, `n/b` and `=`.
@@ -39,8 +39,9 @@ impl Resolve for Three {
     }
 }
 
-/// Texts, numbers of nets, and what the tasks are bound to: for each clause its node, the bits of its guard and of its value
-/// under the assignments 00, 01, 10 and 11, and its times.
+/// Texts, numbers of nets, and what the tasks are bound to: for each clause its node, the bits of
+/// its guard and of its value under the assignments 00, 01, 10 and 11, and its times; for each
+/// weakening its node and its times.
 const TABLE: &[(&[u8], u32, &[u8])] = &[
     (
         b".vars p q\n.ste t reset\n.ant a = p & q when !p from 0 to 1\n.con n/b = q from 2 to 5\n.ant = = 0 from 0 to 0",
@@ -51,6 +52,17 @@ const TABLE: &[(&[u8], u32, &[u8])] = &[
         b".vars p\n.gste g v\n.edge v w\n.ant a = p\n.con n/b = 1 when p\n.edge w v\n.con a = 0\n.ste u",
         10,
         b"p; g; v w; edge 0 1; ant 3 1111 0011; con 7 0011 1111; edge 1 0; con 3 1111 0000; u;",
+    ),
+    // Weakenings.
+    (
+        b".ste t\n.weak a from 1 to 3\n.con n/b = 1 from 0 to 1\n.weak = from 0 to 0",
+        10,
+        b"; t; con 7 1111 1111 0 1; weak 3 1 3; weak 9 0 0;",
+    ),
+    (
+        b".gste g v\n.edge v v\n.weak n/b\n.ant a = 1\n.weak =\n.edge v v\n.weak a",
+        10,
+        b"; g; v; edge 0 0; ant 3 1111 1111; weak 7; weak 9; edge 0 0; weak 3;",
     ),
     // A node that names no net: the least line decides, whichever side it is on.
     (
@@ -78,6 +90,32 @@ const TABLE: &[(&[u8], u32, &[u8])] = &[
         b".gste g v\n.edge v v\n.ant a = 1\n.ste t\n.ant = = 1 from 0 to 0\n.con x = 1 from 0 to 0",
         10,
         b"6: unknown x",
+    ),
+    // So it does where one of them weakens a net.
+    (
+        b".ste t\n.weak x from 0 to 1\n.ant y = 1 from 0 to 1",
+        10,
+        b"2: unknown x",
+    ),
+    (
+        b".ste t\n.ant x = 1 from 0 to 1\n.weak y from 0 to 1",
+        10,
+        b"2: unknown x",
+    ),
+    (
+        b".ste t\n.con a = 1 from 0 to 1\n.weak x from 1 to 1",
+        10,
+        b"3: unknown x",
+    ),
+    (
+        b".gste g v\n.edge v v\n.ant a = 1\n.weak x\n.con y = 1",
+        10,
+        b"4: unknown x",
+    ),
+    (
+        b".gste g v\n.edge v v\n.con x = 1\n.edge v v\n.weak y",
+        10,
+        b"3: unknown x",
     ),
     // Too many cells: nets times depth, or nets times vertices and edges together.
     (
@@ -113,6 +151,12 @@ const TABLE: &[(&[u8], u32, &[u8])] = &[
         b"1: too large",
     ),
     (b".ste t\n.gste g v", 4294967295, b"2: too large"),
+    // The times of a weakening do not count.
+    (
+        b".ste t\n.weak a from 0 to 10000\n.con a = 1 from 0 to 1",
+        10001,
+        b"; t; con 3 1111 1111 0 1; weak 3 0 10000;",
+    ),
     // A node that names no net goes before.
     (
         b".ste t\n.con a = 1 from 0 to 10000\n.ste u\n.con x = 1 from 0 to 1",
@@ -180,6 +224,28 @@ fn add_binds(
     Ok(())
 }
 
+/// Adds weakenings.
+fn add_weaks(alloc: Global, out: &mut Vec<u8>, weaks: &[Weakening]) -> Result<(), AllocError> {
+    for weak in weaks {
+        add_word(out, b"weak")?;
+        add_number(alloc, out, weak.node.0)?;
+        add_number(alloc, out, weak.from)?;
+        add_number(alloc, out, weak.to)?;
+        out.push(b';')?;
+    }
+    Ok(())
+}
+
+/// Adds the nets that an edge weakens.
+fn add_marks(alloc: Global, out: &mut Vec<u8>, nets: &[NodeId]) -> Result<(), AllocError> {
+    for net in nets {
+        add_word(out, b"weak")?;
+        add_number(alloc, out, net.0)?;
+        out.push(b';')?;
+    }
+    Ok(())
+}
+
 /// Adds an edge.
 fn add_edge(alloc: Global, out: &mut Vec<u8>, edge: &Edge) -> Result<(), AllocError> {
     add_word(out, b"edge")?;
@@ -187,7 +253,8 @@ fn add_edge(alloc: Global, out: &mut Vec<u8>, edge: &Edge) -> Result<(), AllocEr
     add_number(alloc, out, edge.to)?;
     out.push(b';')?;
     add_binds(alloc, out, b"ant", edge.ant.as_slice())?;
-    add_binds(alloc, out, b"con", edge.con.as_slice())
+    add_binds(alloc, out, b"con", edge.con.as_slice())?;
+    add_marks(alloc, out, edge.weak.as_slice())
 }
 
 /// Adds words, and a mark behind the last.
@@ -213,7 +280,8 @@ fn add_task(alloc: Global, out: &mut Vec<u8>, task: &Task) -> Result<(), AllocEr
         Task::Ste(task) => {
             add_head(out, &task.name, task.reset)?;
             add_quints(alloc, out, b"ant", task.ant.as_slice())?;
-            add_quints(alloc, out, b"con", task.con.as_slice())
+            add_quints(alloc, out, b"con", task.con.as_slice())?;
+            add_weaks(alloc, out, task.weak.as_slice())
         }
         Task::Gste(task) => {
             add_head(out, &task.name, task.reset)?;

@@ -3,7 +3,9 @@
 ghost use Rattle.std.specs.Prelude.{◌≤◌, length};
 
 use crate::words::add_word;
-use assert_syntax::{RawBind, RawEdge, RawQuint, RawTask, RawTasks, TaskFault, read_tasks};
+use assert_syntax::{
+    RawBind, RawEdge, RawMark, RawQuint, RawTask, RawTasks, RawWeak, TaskFault, read_tasks,
+};
 use blif_lines::logical_lines;
 use bool_expr::{Expr, value};
 use std::alloc::{AllocError, Global};
@@ -179,6 +181,59 @@ const TASKS: &[(&[u8], &[u8])] = &[
     ),
 ];
 
+/// Texts that weaken nets, and the tasks of each, or its fault.
+const WEAKENINGS: &[(&[u8], &[u8])] = &[
+    // In assertions.
+    (
+        b".ste t\n.weak n from 0 to 1",
+        b"1: ste t\n2: weak n 0..1\n",
+    ),
+    (
+        b".ste t\n.weak a from 0 to 2\n.ant a = 1 from 0 to 1\n.weak b from 1 to 10000",
+        b"1: ste t\n3: ant a 1111 if 1111 0..1\n2: weak a 0..2\n4: weak b 1..10000\n",
+    ),
+    (
+        b".ste t\n.weak a from 0 to 2\n.end\n.ste u\n.weak b from 1 to 1",
+        b"1: ste t\n2: weak a 0..2\n4: ste u\n5: weak b 1..1\n",
+    ),
+    (
+        b".ste t\n.weak from from 0 to 1\n.weak to \\\nfrom 0002 to 3\n.weak = from 0 to 0",
+        b"1: ste t\n2: weak from 0..1\n3: weak to 2..3\n5: weak = 0..0\n",
+    ),
+    (b".ste t\n.weak", b"2: bad"),
+    (b".ste t\n.weak n", b"2: bad"),
+    (b".ste t\n.weak from 0 to 1", b"2: bad"),
+    (b".ste t\n.weak n from 0", b"2: bad"),
+    (b".ste t\n.weak n from 0 to 1 2", b"2: bad"),
+    (b".ste t\n.weak n m from 0 to 1", b"2: bad"),
+    (b".ste t\n.weak n from 0 too 1", b"2: bad"),
+    (b".ste t\n.weak n from x to 1", b"2: bad"),
+    (b".ste t\n.weak n from 2 to 1", b"2: bad"),
+    (b".ste t\n.weak n = 1 from 0 to 1", b"2: bad"),
+    (b".ste t\n.weak n when 1 from 0 to 1", b"2: bad"),
+    (b".ste t\n.weak n from 0 to 10001\n.foo", b"2: many"),
+    (b".ste t\n.weak n from 10001 to 0\n.foo", b"2: many"),
+    // Behind edges.
+    (
+        b".gste g v\n.edge v v\n.weak n\n.con a = 1\n.weak m",
+        b"1: gste g | v\n2: edge 0 0\n4: con a 1111 if 1111\n3: weak n\n5: weak m\n",
+    ),
+    (
+        b".gste g v\n.edge v v\n.weak n\n.edge v v\n.weak from",
+        b"1: gste g | v\n2: edge 0 0\n3: weak n\n4: edge 0 0\n5: weak from\n",
+    ),
+    (b".gste g v\n.weak n\n.edge v v", b"2: bad"),
+    (b".gste g v\n.edge v v\n.weak", b"3: bad"),
+    (b".gste g v\n.edge v v\n.weak n m", b"3: bad"),
+    (b".gste g v\n.edge v v\n.weak n from 0 to 1", b"3: bad"),
+    (b".gste g v\n.edge v v\n.weak n from 0 to 10001", b"3: bad"),
+    // Outside tasks.
+    (b".weak n", b"1: bad"),
+    (b".vars p\n.weak n from 0 to 1", b"2: bad"),
+    (b".ste t\n.end\n.weak n from 0 to 1", b"3: bad"),
+    (b".gste g v\n.edge v v\n.end\n.weak n", b"4: bad"),
+];
+
 /// The assignments to two variables.
 const ASSIGNMENTS: &[[bool; 2]] = &[[false, false], [true, false], [false, true], [true, true]];
 
@@ -252,14 +307,35 @@ fn add_binds(
     Ok(())
 }
 
-/// Adds an edge with its bindings.
+/// Adds weakenings.
+fn add_weaks(alloc: Global, out: &mut Vec<u8>, weaks: &[RawWeak]) -> Result<(), AllocError> {
+    for weak in weaks {
+        out.extend_from_slice(format!(in alloc; "{}: weak", weak.line)?.as_bytes())?;
+        add_word(out, weak.node.bytes())?;
+        out.extend_from_slice(format!(in alloc; " {}..{}\n", weak.from, weak.to)?.as_bytes())?;
+    }
+    Ok(())
+}
+
+/// Adds the nodes that an edge weakens.
+fn add_marks(alloc: Global, out: &mut Vec<u8>, marks: &[RawMark]) -> Result<(), AllocError> {
+    for mark in marks {
+        out.extend_from_slice(format!(in alloc; "{}: weak", mark.line)?.as_bytes())?;
+        add_word(out, mark.node.bytes())?;
+        out.push(b'\n')?;
+    }
+    Ok(())
+}
+
+/// Adds an edge with its bindings and with the nodes that it weakens.
 fn add_edge(alloc: Global, out: &mut Vec<u8>, edge: &RawEdge) -> Result<(), AllocError> {
     out.extend_from_slice(format!(in alloc;
         "{}: edge {} {}\n",
         edge.line, edge.from, edge.to
     )?.as_bytes())?;
     add_binds(alloc, out, "ant", edge.ant.as_slice())?;
-    add_binds(alloc, out, "con", edge.con.as_slice())
+    add_binds(alloc, out, "con", edge.con.as_slice())?;
+    add_marks(alloc, out, edge.weak.as_slice())
 }
 
 /// Adds the head of a task.
@@ -288,11 +364,13 @@ fn add_task(alloc: Global, out: &mut Vec<u8>, task: &RawTask) -> Result<(), Allo
             reset,
             ant,
             con,
+            weak,
         } => {
             add_head(alloc, out, *line, "ste", name, *reset)?;
             out.push(b'\n')?;
             add_quints(alloc, out, "ant", ant.as_slice())?;
-            add_quints(alloc, out, "con", con.as_slice())
+            add_quints(alloc, out, "con", con.as_slice())?;
+            add_weaks(alloc, out, weak.as_slice())
         }
         RawTask::Gste {
             line,
@@ -453,6 +531,12 @@ fn faults_of_expressions(rt: HostRuntime) -> Result<(), Fail> {
 #[test]
 fn tasks_of_texts(rt: HostRuntime) -> Result<(), Fail> {
     compare(&rt, rt.alloc(), TASKS)?;
+    Ok(())
+}
+
+#[test]
+fn weakenings(rt: HostRuntime) -> Result<(), Fail> {
+    compare(&rt, rt.alloc(), WEAKENINGS)?;
     Ok(())
 }
 

@@ -18,7 +18,7 @@ use Rattle.ste_model.specs.declared.task.Bind.{Bind}
 use Rattle.ste_model.specs.declared.task.Edge.{Edge}
 use Rattle.ste_model.specs.declared.task.Graph.{Graph}
 use Rattle.ste_model.specs.declared.task.Task.TheVariants.{Gste}
-use Rattle.ste_model.specs.Edges.{AreNumbers, IsPathFrom, asked_on, bind_at, bind_cuts}
+use Rattle.ste_model.specs.Edges.{AreNumbers, IsPathFrom, asked_on, bind_at, bind_cuts, weakened_on}
 use Rattle.ste_model.specs.Found.{FailsStrongly, FailsWeakly}
 use Rattle.ste_model.specs.GraphFound.{FailsOn, IsGraphContradictory, IsGraphFound, IsGraphStrong, IsGraphWeak}
 use Rattle.ste_model.specs.GraphReport.{GraphPrints, GraphShows, IsGraphPlace, IsGraphReportOf, IsGraphShown, IsPrintedOnPath}
@@ -64,6 +64,7 @@ pub record AreEdgesSame (one twin : Edge) : Type 0 where
   pub cons : map bind_tree one.con ≡ map bind_tree twin.con
   pub given : (bits : List Bool) → bind_cuts one.ant bits ≡ bind_cuts twin.ant bits
   pub asked : (bits : List Bool) → bind_cuts one.con bits ≡ bind_cuts twin.con bits
+  pub weak : weakened_on one ≡ weakened_on twin
 
 edge_same : (one twin : Edge) → edge_tree one ≡ edge_tree twin → AreEdgesSame one twin
 edge_same one twin e =
@@ -76,6 +77,7 @@ edge_same one twin e =
       cons = cons;
       given = λ bits. binds_same one.ant twin.ant bits ants;
       asked = λ bits. binds_same one.con twin.con bits cons;
+      weak = ap (λ (t : EdgeTree). t.weak) e;
     }
 
 edge_back : (one twin : Edge) → AreEdgesSame one twin → AreEdgesSame twin one
@@ -86,6 +88,7 @@ edge_back one twin h = record {
   cons = sym h.cons;
   given = λ bits. sym (h.given bits);
   asked = λ bits. sym (h.asked bits);
+  weak = sym h.weak;
 }
 
 edges_same : (ones twins : List Edge) → map edge_tree ones ≡ map edge_tree twins → AllZip AreEdgesSame ones twins
@@ -153,8 +156,9 @@ module _ (net other : RawNet) (same : AreSame net other) (back : AreSame other n
   feasible_moved : (table : ℕ → VertexState) (sets : ℕ → BitSet) (one twin : Edge) → AreEdgesSame one twin → IsFeasible net bits table one sets → IsFeasible other bits table twin sets
   feasible_moved table sets one twin edge h = record {
     reached = subst (λ (v : ℕ). IsTrue (table v).reached) edge.from h.reached;
-    possible = subst (λ (cuts : List Cut). ArePossible other (table twin.from).latches (record { cuts = cuts }) sets) (edge.given bits)
-        (subst (λ (v : ℕ). ArePossible other (table v).latches (asked_on one bits) sets) edge.from (possible_moved net other (table one.from).latches (asked_on one bits) sets same back h.possible));
+    possible = subst (λ (weak : List ℕ). ArePossible other (table twin.from).latches (record { cuts = bind_cuts twin.ant bits; weak = weak }) sets) edge.weak
+        (subst (λ (cuts : List Cut). ArePossible other (table twin.from).latches (record { cuts = cuts; weak = weakened_on one }) sets) (edge.given bits)
+        (subst (λ (v : ℕ). ArePossible other (table v).latches (asked_on one bits) sets) edge.from (possible_moved net other (table one.from).latches (asked_on one bits) sets same back h.possible)));
     full = λ empty. h.full (empty.0, subst (λ n. empty.0 < n) (sym same.nets) empty.1, empty.2);
   }
 

@@ -1,6 +1,6 @@
 -- Flat nets of one hierarchy have the same work functions, so a task needs as many steps over the one as over the other, and what is
 -- told of it over the one is so over the other, budgets too.
-use Rattle.std.proofs.Common.{◌≡◌, ℕ, zero, suc, Bool, List, [], ◌∷◌, ◌++◌, length, map, get_or, Option, refl, ap, sym, ◌∙◌, inl, inr}
+use Rattle.std.proofs.Common.{◌≡◌, ℕ, zero, suc, Bool, true, false, List, [], ◌∷◌, ◌++◌, length, map, get_or, Option, refl, ap, sym, ◌∙◌, inl, inr}
 use Rattle.std.specs.Prelude.{slice_get}
 use Rattle.std.specs.List.{AllZip, flat_map}
 use Rattle.ste_base.specs.declared.id.NodeId.{NodeId}
@@ -16,7 +16,8 @@ use Rattle.net_core.specs.declared.raw.RawNet.{RawNet}
 use Rattle.net_core.specs.declared.source.Source.{Source}
 use Rattle.net_core.specs.declared.source.Source.TheVariants.{Input, Free, Gate as OfGate, Latch as OfLatch}
 use Rattle.net_core.specs.Source.{source_of}
-use Rattle.net_core.specs.Work.{Function, SymbolicAsked, SymbolicSet, by_gate, by_source, cover_set, cover_work, cuts_work, first_sets, gates_work, input_sets, negation, no_bit, set_at, some_bit, some_empty, sums, time_work, uncut}
+use Rattle.net_core.specs.Work.{Function, SymbolicAsked, SymbolicSet, by_gate, by_source, cover_set, cover_work, cuts_work, first_sets, gates_work, input_sets, negation, no_bit, one_gate_work, set_at, some_bit, some_empty, sums, time_work, uncut, unless_weakened}
+use Rattle.net_core.specs.Possible.{is_weakened}
 use Rattle.ste_model.specs.declared.report.Report.{Report}
 use Rattle.ste_model.specs.declared.task.Assertion.{Assertion}
 use Rattle.ste_model.specs.declared.task.Edge.{Edge}
@@ -45,9 +46,10 @@ by_numbers : (sets : ℕ → SymbolicSet) (ids : List NodeId) → map (λ (input
 by_numbers sets [] = refl
 by_numbers sets (id ∷ ids) = ap (λ (l : List SymbolicSet). sets id.0 ∷ l) (by_numbers sets ids)
 
--- two gates have inputs of the same numbers, and the same cover
+-- two gates have inputs and outputs of the same numbers, and the same cover
 pub record AreCoveredAlike (net other : RawNet) (one twin : Gate) : Type 0 where
   pub inputs : map number one.inputs ≡ map number twin.inputs
+  pub output : one.output.0 ≡ twin.output.0
   pub cover : slice_get net.covers one.cover ≡ slice_get other.covers twin.cover
 
 covers_alike : (models : List Model) (net other : RawNet) (ones others : List Gate) (lines : List (List ℕ × GateLine)) → AllZip (IsGateOf models net) ones lines → AllZip (IsGateOf models other) others lines → AllZip (AreCoveredAlike net other) ones others
@@ -57,7 +59,7 @@ covers_alike models net other (a ∷ ones) others [] f g = absurd f
 covers_alike models net other [] others (line ∷ lines) f g = absurd f
 covers_alike models net other (a ∷ ones) [] (line ∷ lines) f g = absurd g
 covers_alike models net other (a ∷ ones) (b ∷ others) (line ∷ lines) f g = (
-  record { inputs = f.0.inputs ∙ sym g.0.inputs; cover = f.0.cover ∙ sym g.0.cover },
+  record { inputs = f.0.inputs ∙ sym g.0.inputs; output = f.0.output ∙ sym g.0.output; cover = f.0.cover ∙ sym g.0.cover },
   covers_alike models net other ones others lines f.1 g.1,
 )
 
@@ -79,14 +81,18 @@ twins_of models net other f g = record {
 inputs_same : (net other : RawNet) (sets : ℕ → SymbolicSet) (one twin : Gate) → AreCoveredAlike net other one twin → input_sets sets one ≡ input_sets sets twin
 inputs_same net other sets one twin h = by_numbers sets one.inputs ∙ (ap (map sets) h.inputs ∙ sym (by_numbers sets twin.inputs))
 
-gates_work_same : (net other : RawNet) (sets : ℕ → SymbolicSet) (ones others : List Gate) → AllZip (AreCoveredAlike net other) ones others → gates_work net sets ones ≡ gates_work other sets others
-gates_work_same net other sets [] [] h = refl
-gates_work_same net other sets [] (b ∷ others) h = absurd h
-gates_work_same net other sets (a ∷ ones) [] h = absurd h
-gates_work_same net other sets (a ∷ ones) (b ∷ others) h =
-    ap (λ (c : Option Cover). cover_work c (input_sets sets a) ++ gates_work net sets ones) h.0.cover
-    ∙ (ap (λ (ws : List SymbolicSet). cover_work (slice_get other.covers b.cover) ws ++ gates_work net sets ones) (inputs_same net other sets a b h.0)
-    ∙ ap (λ (fs : List Function). cover_work (slice_get other.covers b.cover) (input_sets sets b) ++ fs) (gates_work_same net other sets ones others h.1))
+one_gate_same : (is_weak : Bool) (net other : RawNet) (sets : ℕ → SymbolicSet) (one twin : Gate) → AreCoveredAlike net other one twin → one_gate_work is_weak net sets one ≡ one_gate_work is_weak other sets twin
+one_gate_same true net other sets one twin h = refl
+one_gate_same false net other sets one twin h = ap (λ (c : Option Cover). cover_work c (input_sets sets one)) h.cover ∙ ap (cover_work (slice_get other.covers twin.cover)) (inputs_same net other sets one twin h)
+
+gates_work_same : (net other : RawNet) (weak : List ℕ) (sets : ℕ → SymbolicSet) (ones others : List Gate) → AllZip (AreCoveredAlike net other) ones others → gates_work net weak sets ones ≡ gates_work other weak sets others
+gates_work_same net other weak sets [] [] h = refl
+gates_work_same net other weak sets [] (b ∷ others) h = absurd h
+gates_work_same net other weak sets (a ∷ ones) [] h = absurd h
+gates_work_same net other weak sets (a ∷ ones) (b ∷ others) h =
+    ap (λ (id : ℕ). one_gate_work (is_weakened weak id) net sets a ++ gates_work net weak sets ones) h.0.output
+    ∙ (ap (λ (fs : List Function). fs ++ gates_work net weak sets ones) (one_gate_same (is_weakened weak b.output.0) net other sets a b h.0)
+    ∙ ap (λ (fs : List Function). one_gate_work (is_weakened weak b.output.0) other sets b ++ fs) (gates_work_same net other weak sets ones others h.1))
 
 by_gate_same : (net other : RawNet) (sets : ℕ → SymbolicSet) (ones others : List Gate) (g : ℕ) → AllZip (AreCoveredAlike net other) ones others → by_gate net sets (slice_get ones g) ≡ by_gate other sets (slice_get others g)
 by_gate_same net other sets [] [] g h = refl
@@ -104,8 +110,8 @@ module _ (net other : RawNet) (twins : AreTwins net other) where
   by_source_same latches sets (OfGate g) = by_gate_same net other sets net.gates other.gates g twins.covers
   by_source_same latches sets (OfLatch l) = refl
 
-  uncut_same : (latches : List SymbolicSet) (sets : ℕ → SymbolicSet) (id : ℕ) → uncut net latches sets id ≡ uncut other latches sets id
-  uncut_same latches sets id = ap (by_source net latches sets) (sources_same net other twins.same id) ∙ by_source_same latches sets (source_of other id)
+  uncut_same : (weak : List ℕ) (latches : List SymbolicSet) (sets : ℕ → SymbolicSet) (id : ℕ) → uncut net weak latches sets id ≡ uncut other weak latches sets id
+  uncut_same weak latches sets id = ap (unless_weakened (is_weakened weak id)) (ap (by_source net latches sets) (sources_same net other twins.same id) ∙ by_source_same latches sets (source_of other id))
 
 -- the functions of one time, by the number of nets, their sets before the cuts, and the functions for the gates
 abbrev time_by : ℕ → (ℕ → SymbolicSet) → List Function → SymbolicAsked → (ℕ → SymbolicSet) → List Function
@@ -121,9 +127,9 @@ Time = List SymbolicSet → SymbolicAsked → (ℕ → SymbolicSet) → List Fun
 
 time_same : (net other : RawNet) → AreTwins net other → time_work net ≡ time_work other
 time_same net other twins = λ i latches asked sets. (
-    ap (λ (n : ℕ). time_by n (uncut net latches sets) (gates_work net sets net.gates) asked sets) twins.same.nets
-    ∙ (ap (λ (before : ℕ → SymbolicSet). time_by other.nets before (gates_work net sets net.gates) asked sets) (λ j id. uncut_same net other twins latches sets id j)
-    ∙ ap (λ (fs : List Function). time_by other.nets (uncut other latches sets) fs asked sets) (gates_work_same net other sets net.gates other.gates twins.covers))) i
+    ap (λ (n : ℕ). time_by n (uncut net asked.weak latches sets) (gates_work net asked.weak sets net.gates) asked sets) twins.same.nets
+    ∙ (ap (λ (before : ℕ → SymbolicSet). time_by other.nets before (gates_work net asked.weak sets net.gates) asked sets) (λ j id. uncut_same net other twins asked.weak latches sets id j)
+    ∙ ap (λ (fs : List Function). time_by other.nets (uncut other asked.weak latches sets) fs asked sets) (gates_work_same net other asked.weak sets net.gates other.gates twins.covers))) i
 
 -- the net with these nets and latches
 abbrev with_parts : RawNet → ℕ → List Latch → RawNet

@@ -1,5 +1,5 @@
 -- Flat nets of one hierarchy and tasks that say the same have the same reports.
-use Rattle.std.proofs.Common.{◌≡◌, ◌<◌, ◌≤◌, ℕ, suc, Bool, List, [], ◌∷◌, ◌++◌, length, map, Option, None, refl, ap, sym, ◌∙◌, subst, inl, inr, arith}
+use Rattle.std.proofs.Common.{◌≡◌, ◌<◌, ◌≤◌, ℕ, suc, Bool, false, List, [], ◌∷◌, ◌++◌, length, map, Option, None, refl, ap, sym, ◌∙◌, subst, inl, inr, arith}
 use Rattle.std.specs.Prelude.{◌||◌, All, Any, if◌then◌else◌, codes, nat_eq, slice_get, zip, Some}
 use Rattle.std.specs.List.{AllZip, enumerate_from, flat_map, list_all, list_any}
 use Rattle.std.proofs.lemmas.List.Elements.{All-cons}
@@ -21,7 +21,9 @@ use Rattle.ste_model.specs.declared.task.Task.TheVariants.{Ste, Gste}
 use Rattle.ste_model.specs.declared.task.Tasks.{Tasks}
 use Rattle.ste_model.specs.declared.verdict.Verdict.{Verdict}
 use Rattle.ste_model.specs.declared.verdict.Verdict.TheVariants.{Budget}
-use Rattle.ste_model.specs.Asked.{cuts_at, depth}
+use Rattle.net_core.specs.Possible.{is_weakened}
+use Rattle.ste_model.specs.declared.task.Weakening.{Weakening}
+use Rattle.ste_model.specs.Asked.{cuts_at, depth, weakened_at}
 use Rattle.ste_model.specs.Found.{FailsStrongly, FailsWeakly, IsContradictory, IsStrong, IsVerdictOf, IsWeak}
 use Rattle.ste_model.specs.GraphFound.{IsGraphVerdict}
 use Rattle.ste_model.specs.Holds.{IsTaskRun}
@@ -43,22 +45,24 @@ use Rattle.report_laws.proofs.SameVerdicts.{SaysSame, back_says, of_contradictor
 
 -- ---- what is told, moved to a net that is the same and an assertion that says the same
 
-bindable_moved : (net other : RawNet) → AreSame net other → (ones twins : List Quint) → map quint_tree ones ≡ map quint_tree twins → All (IsQuintBindable net) ones → All (IsQuintBindable other) twins
-bindable_moved net other same [] [] e all = λ k d l. absurd (omega (arith, l))
-bindable_moved net other same [] (q ∷ twins) e all = absurd (cc e)
-bindable_moved net other same (p ∷ ones) [] e all = absurd (cc e)
-bindable_moved net other same (p ∷ ones) (q ∷ twins) e all =
+bindable_moved : (net other : RawNet) → AreSame net other → (weak again : List Weakening) → weakened_at weak 0 ≡ weakened_at again 0 → (ones twins : List Quint) → map quint_tree ones ≡ map quint_tree twins
+    → All (IsQuintBindable net weak) ones → All (IsQuintBindable other again) twins
+bindable_moved net other same weak again start [] [] e all = λ k d l. absurd (omega (arith, l))
+bindable_moved net other same weak again start [] (q ∷ twins) e all = absurd (cc e)
+bindable_moved net other same weak again start (p ∷ ones) [] e all = absurd (cc e)
+bindable_moved net other same weak again start (p ∷ ones) (q ∷ twins) e all =
     let first : quint_tree p ≡ quint_tree q = cc e in
     let rest : map quint_tree ones ≡ map quint_tree twins = cc e in
-    All-cons (IsQuintBindable other) q twins
+    All-cons (IsQuintBindable other again) q twins
     (one (ap (λ (t : QuintTree). t.node) first) (ap (λ (t : QuintTree). t.to) first) (all 0 p (omega arith)))
-    (bindable_moved net other same ones twins rest (λ j d m. all (suc j) d (omega (arith, m))))
+    (bindable_moved net other same weak again start ones twins rest (λ j d m. all (suc j) d (omega (arith, m))))
   where
-    one : p.node.0 ≡ q.node.0 → p.to ≡ q.to → IsQuintBindable net p → IsQuintBindable other q
+    one : p.node.0 ≡ q.node.0 → p.to ≡ q.to → IsQuintBindable net weak p → IsQuintBindable other again q
     one node to (inl free) = inl (undriven_moved net other q.node.0 same (subst (λ (id : ℕ). IsUndriven net id) node free))
     one node to (inr latch) = inr (
       subst (λ (latches : List Latch). Any (λ (l : Latch). l.output.0 ≡ q.node.0) latches) same.latches (subst (λ (id : ℕ). IsLatchOutput net id) node latch.0),
       subst (λ (n : ℕ). n ≤ 1) to latch.1,
+      subst (λ (ids : List ℕ). is_weakened ids q.node.0 ≡ false) start (subst (λ (id : ℕ). is_weakened (weakened_at weak 0) id ≡ false) node latch.2),
     )
 
 module _ (net other : RawNet) (one twin : Assertion) (same : AreSame net other) (back : AreSame other net) (says : SaysSame one twin) where
@@ -90,7 +94,7 @@ module _ (net other : RawNet) (one twin : Assertion) (same : AreSame net other) 
   }
 
   due_moved : (verdict : Verdict) → IsDue net one verdict → IsDue other twin verdict
-  due_moved verdict h = (h.0, bindable_moved net other same one.ant twin.ant says.ants h.1)
+  due_moved verdict h = (h.0, bindable_moved net other same one.weak twin.weak (says.weak 0) one.ant twin.ant says.ants h.1)
 
   under_moved : (report : Report) → IsPrintedUnder net one report.least report.run → IsPrintedUnder other twin report.least report.run
   under_moved report h = record {

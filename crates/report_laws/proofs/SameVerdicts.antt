@@ -1,6 +1,6 @@
 -- Flat nets of one hierarchy have the same possible sets, and tasks that say the same ask the same: so the same is found of them.
-use Rattle.std.proofs.Common.{◌≡◌, ◌<◌, ℕ, zero, suc, Bool, List, [], ◌∷◌, length, map, get_or, refl, ap, sym, ◌∙◌, subst, max, fold}
-use Rattle.std.specs.Prelude.{Any, ◌&&◌, nat_le, nat_lt}
+use Rattle.std.proofs.Common.{◌≡◌, ◌<◌, ℕ, zero, suc, Bool, true, false, List, [], ◌∷◌, length, map, filter, get_or, refl, ap, sym, ◌∙◌, subst, max, fold}
+use Rattle.std.specs.Prelude.{Any, ◌&&◌, nat_le, nat_lt, if◌then◌else◌}
 use Rattle.std.specs.List.{AllZip}
 use Rattle.ste_base.specs.declared.id.NodeId.{NodeId}
 use Rattle.bool_expr.specs.Value.{value_of}
@@ -16,10 +16,11 @@ use Rattle.ste_model.specs.declared.task.Quint.{Quint}
 use Rattle.ste_model.specs.declared.task.Task.TheVariants.{Ste}
 use Rattle.ste_model.specs.declared.verdict.Verdict.{Verdict}
 use Rattle.ste_model.specs.declared.verdict.Verdict.TheVariants.{Pass, Weak, Strong, Vacuous, Budget}
-use Rattle.ste_model.specs.Asked.{asked_at, cuts_at, depth, latest, quint_at}
+use Rattle.ste_model.specs.declared.task.Weakening.{Weakening}
+use Rattle.ste_model.specs.Asked.{asked_at, cuts_at, depth, latest, quint_at, weakened_at, weakens}
 use Rattle.ste_model.specs.Found.{FailsStrongly, FailsWeakly, IsContradictory, IsEmptySomewhere, IsFound, IsStrong, IsTableOf, IsVerdict, IsVerdictOf, IsWeak}
 use Rattle.ste_model.specs.Table.{IsPossible, latch_sets}
-use Rattle.ste_model.specs.Trees.{QuintTree, quint_tree, task_tree}
+use Rattle.ste_model.specs.Trees.{QuintTree, WeakTree, quint_tree, task_tree, weak_tree}
 use Rattle.ste_program.proofs.SameNets.{AreSame, gate_at}
 
 -- the sets of inputs by their numbers
@@ -44,8 +45,8 @@ pub possible_moved : (net other : RawNet) (held : List BitSet) (asked : Asked) (
 possible_moved net other held asked sets same back h = record {
   long = h.long ∙ ap length same.latches;
   each = λ id bit. (
-    (λ inside. let may = (h.each id bit).0 inside in record { source = source_moved net other held sets id bit same may.source; left = may.left }),
-    (λ may. (h.each id bit).1 (record { source = source_moved other net held sets id bit back may.source; left = may.left })),
+    (λ inside. let may = (h.each id bit).0 inside in record { source = λ strong. source_moved net other held sets id bit same (may.source strong); left = may.left }),
+    (λ may. (h.each id bit).1 (record { source = λ strong. source_moved other net held sets id bit back (may.source strong); left = may.left })),
   );
 }
 
@@ -67,6 +68,7 @@ pub record SaysSame (one twin : Assertion) : Type 0 where
   pub deep : depth one ≡ depth twin
   pub given : (bits : List Bool) (t : ℕ) → cuts_at one.ant bits t ≡ cuts_at twin.ant bits t
   pub asked : (bits : List Bool) (t : ℕ) → cuts_at one.con bits t ≡ cuts_at twin.con bits t
+  pub weak : (t : ℕ) → weakened_at one.weak t ≡ weakened_at twin.weak t
 
 quint_same : (one twin : Quint) (bits : List Bool) (t : ℕ) → quint_tree one ≡ quint_tree twin → quint_at bits t one ≡ quint_at bits t twin
 quint_same one twin bits t e =
@@ -100,12 +102,35 @@ tos_are (quint ∷ quints) = ap (λ l. quint.to ∷ l) (tos_are quints)
 latest_same : (ones twins : List Quint) → map quint_tree ones ≡ map quint_tree twins → latest ones ≡ latest twins
 latest_same ones twins e = ap (fold max 0) (tos_are ones ∙ (ap (map (λ (tree : QuintTree). tree.to)) e ∙ sym (tos_are twins)))
 
+weak_same : (ones twins : List Weakening) (t : ℕ) → map weak_tree ones ≡ map weak_tree twins → weakened_at ones t ≡ weakened_at twins t
+weak_same [] [] t e = refl
+weak_same [] (q ∷ twins) t e = absurd (cc e)
+weak_same (p ∷ ones) [] t e = absurd (cc e)
+weak_same (p ∷ ones) (q ∷ twins) t e = by (weakens t p) (weakens t q) same (ap (λ (w : WeakTree). w.node) first) (weak_same ones twins t rest)
+  where
+    first : weak_tree p ≡ weak_tree q
+    first = cc e
+
+    rest : map weak_tree ones ≡ map weak_tree twins
+    rest = cc e
+
+    same : weakens t p ≡ weakens t q
+    same = ap (λ (n : ℕ). nat_le n t && nat_lt t p.to) (ap (λ (w : WeakTree). w.from) first) ∙ ap (λ (n : ℕ). nat_le q.from t && nat_lt t n) (ap (λ (w : WeakTree). w.to) first)
+
+    by : (a b : Bool) → a ≡ b → p.node.0 ≡ q.node.0 → map (λ (w : Weakening). w.node.0) (filter (weakens t) ones) ≡ map (λ (w : Weakening). w.node.0) (filter (weakens t) twins)
+        → map (λ (w : Weakening). w.node.0) (if a then p ∷ filter (weakens t) ones else filter (weakens t) ones) ≡ map (λ (w : Weakening). w.node.0) (if b then q ∷ filter (weakens t) twins else filter (weakens t) twins)
+    by true true s node h = ap (λ (id : ℕ). id ∷ map (λ (w : Weakening). w.node.0) (filter (weakens t) ones)) node ∙ ap (λ (ids : List ℕ). q.node.0 ∷ ids) h
+    by false false s node h = h
+    by true false s node h = absurd (cc s)
+    by false true s node h = absurd (cc s)
+
 pub says_same : (one twin : Assertion) → task_tree (Ste one) ≡ task_tree (Ste twin) → SaysSame one twin
 says_same one twin e =
     let name : one.name ≡ twin.name = cc e in
     let reset : one.reset ≡ twin.reset = cc e in
     let ants : map quint_tree one.ant ≡ map quint_tree twin.ant = cc e in
-    let cons : map quint_tree one.con ≡ map quint_tree twin.con = cc e in record {
+    let cons : map quint_tree one.con ≡ map quint_tree twin.con = cc e in
+    let weaks : map weak_tree one.weak ≡ map weak_tree twin.weak = cc e in record {
       ants = ants;
       cons = cons;
       name = name;
@@ -113,13 +138,14 @@ says_same one twin e =
       deep = ap (λ n. max n (latest one.con)) (latest_same one.ant twin.ant ants) ∙ ap (max (latest twin.ant)) (latest_same one.con twin.con cons);
       given = λ bits t. cuts_same one.ant twin.ant bits t ants;
       asked = λ bits t. cuts_same one.con twin.con bits t cons;
+      weak = λ t. weak_same one.weak twin.weak t weaks;
     }
 
 asked_same : (one twin : Assertion) (bits : List Bool) → SaysSame one twin → asked_at one bits ≡ asked_at twin bits
 asked_same one twin bits same = λ i t. at_time t i
   where
     at_time : (t : ℕ) → asked_at one bits t ≡ asked_at twin bits t
-    at_time t = ap (λ (cuts : List Cut). record { cuts = cuts }) (same.given bits t)
+    at_time t = ap (λ (cuts : List Cut). record { cuts = cuts; weak = weakened_at one.weak t }) (same.given bits t) ∙ ap (λ (weak : List ℕ). record { cuts = cuts_at twin.ant bits t; weak = weak }) (same.weak t)
 
 -- what is found of an assertion on a net is found of one that says the same, on a net that is the same
 module _ (net other : RawNet) (one twin : Assertion) (same : AreSame net other) (back : AreSame other net) (says : SaysSame one twin) where
@@ -153,6 +179,7 @@ back_says one twin h = record {
   deep = sym h.deep;
   given = λ bits t. sym (h.given bits t);
   asked = λ bits t. sym (h.asked bits t);
+  weak = λ t. sym (h.weak t);
 }
 
 -- a verdict from facts that are the same

@@ -51,6 +51,7 @@ fn edges_of(
             to: 0,
             ant: binds_of(alloc, *ant)?,
             con: binds_of(alloc, *con)?,
+            weak: Items::new(alloc),
         })?;
     }
     Ok(edges)
@@ -65,6 +66,7 @@ fn task_of(alloc: Global, told: &Told) -> Result<Task, AllocError> {
             reset: false,
             ant: quints_of(alloc, ant)?,
             con: quints_of(alloc, con)?,
+            weak: Items::new(alloc),
         })),
         Named::Gste(sides) => Ok(Task::Gste(Graph {
             name,

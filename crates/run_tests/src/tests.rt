@@ -227,6 +227,7 @@ fn task(alloc: Global, reset: bool, latch: bool) -> Result<Assertion, AllocError
         reset,
         ant,
         con,
+        weak: Items::new(alloc),
     })
 }
 
@@ -285,6 +286,7 @@ fn edge(alloc: Global, from: u32, guard: bool, value: bool) -> Result<Edge, Allo
         to: 1,
         ant,
         con: Items::new(alloc),
+        weak: Items::new(alloc),
     })
 }
 

@@ -13,7 +13,7 @@ use Rattle.net_core.specs.Sets.{first_set}
 use Rattle.net_core.specs.Work.{ArePossibleEach, SymbolicSet, cut_at, set_at}
 use Rattle.ste_model.specs.declared.task.Assertion.{Assertion}
 use Rattle.ste_model.specs.declared.task.Quint.{Quint}
-use Rattle.ste_model.specs.Asked.{cuts_at, depth, quint_at}
+use Rattle.ste_model.specs.Asked.{cuts_at, depth, quint_at, weakened_at}
 use Rattle.ste_model.specs.Need.{IsWholeTable}
 use Rattle.ste_model.specs.Table.{latch_sets}
 use Rattle.ste_model.specs.Work.{constant_set, has_time, latches_at, symbolic_asked_at, symbolic_cut, symbolic_cuts_at}
@@ -62,7 +62,7 @@ pub family_at : (net : RawNet) (vars : ℕ) (task : Assertion) (table : ℕ → 
 family_at net vars task table t whole lt bits l =
     let p = whole bits l t lt in
     let same = latches_same net task table bits t in
-    subst (λ (held : List BitSet). ArePossible net held (record { cuts = map (cut_at bits) (symbolic_cuts_at task.ant t) }) (λ id. set_at bits (table t id))) (sym same) (record {
+    subst (λ (held : List BitSet). ArePossible net held (record { cuts = map (cut_at bits) (symbolic_cuts_at task.ant t); weak = weakened_at task.weak t }) (λ id. set_at bits (table t id))) (sym same) (record {
       long = p.long;
       each = λ id bit. (
         λ h. let m = (p.each id bit).0 h in record { source = m.source; left = allowed_by_some task.ant bits t id bit m.left },

@@ -15,7 +15,7 @@ use Rattle.net_core.specs.Sets.{first_set}
 use Rattle.net_core.specs.Work.{SymbolicSet}
 use Rattle.ste_model.specs.declared.task.Assertion.{Assertion}
 use Rattle.ste_model.specs.declared.task.Quint.{Quint}
-use Rattle.ste_model.specs.Asked.{cuts_at, depth, latest, quint_at}
+use Rattle.ste_model.specs.Asked.{cuts_at, depth, latest, quint_at, weakened_at}
 use Rattle.ste_model.specs.Found.{IsTableOf}
 use Rattle.ste_model.specs.Need.{IsWholeTable}
 use Rattle.ste_model.specs.Table.{latch_sets}
@@ -104,5 +104,5 @@ constant_latches net task table (suc t) = go net.latches
 -- the possible table under the assignment is that of the fixed assertion under each
 pub fixed_whole : (net : RawNet) (vars : ℕ) (task : Assertion) (bits : List Bool) (table : ℕ → ℕ → BitSet) → IsTableOf net task bits table → IsWholeTable net vars (fixed_task bits task) (constant_table table)
 fixed_whole net vars task bits table is other l t lt =
-    subst (λ (cuts : List Cut). ArePossible net (latch_sets net task.reset table t) (record { cuts = cuts }) (table t)) (sym (fixed_cuts bits other t task.ant))
+    subst (λ (cuts : List Cut). ArePossible net (latch_sets net task.reset table t) (record { cuts = cuts; weak = weakened_at task.weak t }) (table t)) (sym (fixed_cuts bits other t task.ant))
     (is t (subst (λ n. t < n) (fixed_depth bits task) lt))

@@ -11,3 +11,4 @@ pub mod Short
 pub mod Shows
 pub mod Times
 pub mod Turned
+pub mod WeakLines

@@ -15,7 +15,7 @@ use Rattle.net_core.specs.declared.raw.RawNet.{RawNet}
 use Rattle.net_core.specs.Work.{ArePossibleEach, SymbolicAsked, SymbolicSet, time_work}
 use Rattle.ste_base.specs.declared.id.NodeId.{NodeId}
 use Rattle.ste_model.specs.declared.task.Assertion.{Assertion}
-use Rattle.ste_model.specs.Asked.{cuts_at, depth}
+use Rattle.ste_model.specs.Asked.{cuts_at, depth, weakened_at}
 use Rattle.ste_model.specs.Found.{IsTableOf}
 use Rattle.ste_model.specs.Report.{IsFailingPlace}
 use Rattle.ste_model.specs.Work.{latches_at, symbolic_asked_at, symbolic_cuts_at}
@@ -23,7 +23,7 @@ use Rattle.sym_step.specs.declared.cut.Cut.{Cut}
 use Rattle.sym_step.specs.declared.frame.Frame.{Frame}
 use Rattle.sym_step.specs.declared.made.Step.{Step}
 use Rattle.sym_step.specs.Frame.{step_of}
-use Rattle.sym_step.specs.Step.{IsCutBy, IsStep}
+use Rattle.sym_step.specs.Step.{IsCutBy, IsStep, ids_of}
 use Rattle.engine_parts.specs.declared.failing.Failure.{Failure}
 use Rattle.engine_parts.specs.Failing.{FailsBy, MakesNothing}
 use Rattle.ste_engine.specs.private.Places.{fixed_task}
@@ -46,15 +46,15 @@ module _ (net : RawNet) (task : Assertion) (bits : List Bool) (failure : Failure
   pub place_begins : (table : ℕ → ℕ → BitSet) (t : Store) (held : List Rails) → IsGood t → AllZip (AreRails t) (latches_at net fixed (constant_table table) 0) held → IsPlaceAt table t 0 held
   place_begins table t held d zip = record { latches = zip; none = λ j lt. absurd (omega (arith, lt)) }
 
-  module _ (table : ℕ → ℕ → BitSet) (is : IsTableOf net task bits table) (t u : Store) (k : ℕ) (lt : k < depth task) (frame : Frame) where
+  module _ (table : ℕ → ℕ → BitSet) (is : IsTableOf net task bits table) (t u : Store) (k : ℕ) (lt : k < depth task) (frame : Frame) (weak : List NodeId) (weak_is : weakened_at task.weak k ≡ ids_of weak) where
     abbrev pub StepCall : List Cut → List Rails → Result Ref OpFault → Type 0
-    StepCall cuts held result = (ls : List SymbolicSet) (asked : SymbolicAsked) (sets : ℕ → SymbolicSet) → AllZip (AreRails t) ls held → AllZip (IsCutBy t) asked.cuts cuts → ArePossibleEach t.vars net ls asked sets
+    StepCall cuts held result = (ls : List SymbolicSet) (asked : SymbolicAsked) (sets : ℕ → SymbolicSet) → AllZip (AreRails t) ls held → AllZip (IsCutBy t) asked.cuts cuts → asked.weak ≡ ids_of weak → ArePossibleEach t.vars net ls asked sets
         → Built (time_work net ls asked sets) (λ (v : Store) (r : Ref). IsStep net sets v (step_of net frame r)) t u result
 
     pub step_built : (cuts : List Cut) (held : List Rails) (result : Result Ref OpFault) → AllZip (IsCutBy t) (symbolic_cuts_at fixed.ant k) cuts → IsPlaceAt table t k held → StepCall cuts held result
         → Built (time_work net (latches_at net fixed (constant_table table) k) (symbolic_asked_at fixed k) (constant_table table k)) (λ (v : Store) (r : Ref). IsStep net (constant_table table k) v (step_of net frame r)) t u result
     step_built cuts held result fits p call =
-        call (latches_at net fixed (constant_table table) k) (symbolic_asked_at fixed k) (constant_table table k) p.latches fits
+        call (latches_at net fixed (constant_table table) k) (symbolic_asked_at fixed k) (constant_table table k) p.latches fits weak_is
         (family_at net t.vars fixed (constant_table table) k (fixed_whole net t.vars task bits table is) (subst (λ n. k < n) (sym (fixed_depth bits task)) lt))
 
     module _ (cuts : List Cut) (held : List Rails) (result : Result Ref OpFault) (gu : IsGood u) (made : All (λ r. IsSome (u.held r)) u.made)

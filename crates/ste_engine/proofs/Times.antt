@@ -10,7 +10,8 @@ use Rattle.dd_ops.specs.declared.fault.OpFault.{OpFault}
 use Rattle.net_core.specs.declared.raw.RawNet.{RawNet}
 use Rattle.net_core.specs.Work.{ArePossibleEach, SymbolicCut, SymbolicSet, chain, disjunction, negation, never, some_empty, sum, sums, time_work, whole}
 use Rattle.ste_model.specs.declared.task.Assertion.{Assertion}
-use Rattle.ste_model.specs.Asked.{depth}
+use Rattle.ste_base.specs.declared.id.NodeId.{NodeId}
+use Rattle.ste_model.specs.Asked.{depth, weakened_at}
 use Rattle.ste_model.specs.Need.{IsWholeTable}
 use Rattle.ste_model.specs.Work.{all_empty, all_strong, all_weak, consequents_work, latches_at, over_times, quints_work, strong_findings, symbolic_asked_at, symbolic_cuts_at, task_work, weak_findings, work_at}
 use Rattle.dual_rail.specs.declared.rails.Rails.{Rails}
@@ -18,7 +19,7 @@ use Rattle.dual_rail.specs.Rail.{AreRails, Built}
 use Rattle.dual_rail.proofs.Turns.{within_more}
 use Rattle.dual_rail.proofs.Works.{Built-wider, Rails-keep, SoFar, Within, behind, last}
 use Rattle.sym_step.specs.declared.cut.Cut.{Cut}
-use Rattle.sym_step.specs.Step.{IsCutBy}
+use Rattle.sym_step.specs.Step.{IsCutBy, ids_of}
 use Rattle.ste_engine.specs.declared.turn.Turned.{Turned}
 use Rattle.ste_engine.specs.private.Finds.{AreFound, last_work}
 use Rattle.ste_engine.specs.private.Turns.{AreTurnedRefs, IsTurned, asked_by, turned_work}
@@ -125,7 +126,7 @@ module _ (net : RawNet) (task : Assertion) (table : ℕ → ℕ → SymbolicSet)
       (λ f h. rest_in f (behind none after_strong f (Contains-append_right (sums (all_strong task table)) after_weak f (Contains-append_right (sums (all_weak task table)) last_part f h))))
 
   abbrev pub turned_at : ℕ → List Function
-  turned_at n = turned_work net (latches_at net task table n) (symbolic_cuts_at task.ant n) (symbolic_cuts_at task.con n) (table n) (empty_sum net table n) (strong_sum task table n) (weak_sum task table n)
+  turned_at n = turned_work net (latches_at net task table n) (weakened_at task.weak n) (symbolic_cuts_at task.ant n) (symbolic_cuts_at task.con n) (table n) (empty_sum net table n) (strong_sum task table n) (weak_sum task table n)
 
   abbrev pub IsTurnedAt : ℕ → List Rails → Store → Turned → Type 0
   IsTurnedAt n = IsTurned net (symbolic_cuts_at task.con n) (table n) (empty_sum net table n) (strong_sum task table n) (weak_sum task table n)
@@ -153,14 +154,14 @@ module _ (net : RawNet) (task : Assertion) (table : ℕ → ℕ → SymbolicSet)
       (Contains-append_cases time (e ∷ (cons ++ (S ++ W))) f h)
 
   -- one time more
-  pub time_call : (s t u : Store) (n : ℕ) (ant con : List Cut) (old new : List Rails) (before : Turned) (result : Result Turned OpFault) → IsWholeTable net s.vars task table → n < depth task
-      → AllZip (IsCutBy t) (symbolic_cuts_at task.ant n) ant → AllZip (IsCutBy t) (symbolic_cuts_at task.con n) con → ReachedAt net task table s t n old before
-      → ((ls : List SymbolicSet) (ds es : List SymbolicCut) (sets : ℕ → SymbolicSet) (c f h : Function) → AllZip (AreRails t) ls old → AllZip (IsCutBy t) ds ant → AllZip (IsCutBy t) es con
-      → ArePossibleEach t.vars net ls (asked_by ds) sets → Means t c before.contradictory → AreFound f h t before.found → Built (turned_work net ls ds es sets c f h) (IsTurned net es sets c f h new) t u result)
+  pub time_call : (s t u : Store) (n : ℕ) (weak : List NodeId) (ant con : List Cut) (old new : List Rails) (before : Turned) (result : Result Turned OpFault) → IsWholeTable net s.vars task table → n < depth task
+      → weakened_at task.weak n ≡ ids_of weak → AllZip (IsCutBy t) (symbolic_cuts_at task.ant n) ant → AllZip (IsCutBy t) (symbolic_cuts_at task.con n) con → ReachedAt net task table s t n old before
+      → ((ls : List SymbolicSet) (weakened : List ℕ) (ds es : List SymbolicCut) (sets : ℕ → SymbolicSet) (c f h : Function) → AllZip (AreRails t) ls old → weakened ≡ ids_of weak → AllZip (IsCutBy t) ds ant → AllZip (IsCutBy t) es con
+      → ArePossibleEach t.vars net ls (asked_by weakened ds) sets → Means t c before.contradictory → AreFound f h t before.found → Built (turned_work net ls weakened ds es sets c f h) (IsTurned net es sets c f h new) t u result)
       → Built (turned_at n) (IsTurnedAt n new) t u result
-  time_call s t u n ant con old new before result whole lt fits_ant fits_con p call =
-      call (latches_at net task table n) (symbolic_cuts_at task.ant n) (symbolic_cuts_at task.con n) (table n) (empty_sum net table n) (strong_sum task table n) (weak_sum task table n)
-      p.next fits_ant fits_con
+  time_call s t u n weak ant con old new before result whole lt weak_is fits_ant fits_con p call =
+      call (latches_at net task table n) (weakened_at task.weak n) (symbolic_cuts_at task.ant n) (symbolic_cuts_at task.con n) (table n) (empty_sum net table n) (strong_sum task table n) (weak_sum task table n)
+      p.next weak_is fits_ant fits_con
       (subst (λ v. ArePossibleEach v net (latches_at net task table n) (symbolic_asked_at task n) (table n)) (sym p.so.keeps.vars) (family_at net s.vars task table n whole lt)) p.contradictory p.found
 
   pub time_turn : (s t u : Store) (n : ℕ) (old new : List Rails) (before : Turned) (result : Result Turned OpFault) → IsGood t → IsGood u → n < depth task → ReachedAt net task table s t n old before

@@ -6,3 +6,4 @@ pub mod Places
 pub mod Reports
 pub mod Times
 pub mod Turns
+pub mod Weakened

@@ -22,6 +22,7 @@ use crate::firsts::Firsts;
 use crate::reports::report_of;
 use crate::timeline::Timeline;
 use crate::turn::{at_start, frame_from, turn};
+use crate::weakened::WeakLine;
 use dd_nodes::Nodes;
 use dd_ops::{OpFault, Ops};
 use engine_parts::{Results, budget_report};
@@ -66,6 +67,7 @@ fn results<N: Nodes>(
     requires rows { rows.now.covers ≡ map rows_of net.now.raw.covers }
     requires ant { All (λ quint. quint.node.0 < net.now.raw.nets) task.now.ant }
     requires con { All (λ quint. quint.node.0 < net.now.raw.nets) task.now.con }
+    requires weak { All (λ weakening. weakening.node.0 < net.now.raw.nets) task.now.weak }
     requires reads_ant { ReadBelow (N.store nodes.old).vars task.now.ant }
     requires reads_con { ReadBelow (N.store nodes.old).vars task.now.con }
     requires frame { IsFrame (N.store nodes.old) net.now.raw frame.old }
@@ -83,6 +85,10 @@ fn results<N: Nodes>(
     let depth = depth(task);
     let mut ant = line_of(alloc, ops, nodes, task.ant.as_slice(), depth)?;
     let mut con = line_of(alloc, ops, nodes, task.con.as_slice(), depth)?;
+    let mut weak = match WeakLine::of(alloc, task.weak.as_slice(), depth) {
+        Ok(weak) => weak,
+        Err(_) => return Err(OpFault::OutOfMemory),
+    };
     let mut reached = at_start();
     for t in 0..depth {
         match ant.advance(alloc, t) {
@@ -93,6 +99,10 @@ fn results<N: Nodes>(
             Ok(()) => {}
             Err(_) => return Err(OpFault::OutOfMemory),
         }
+        match weak.advance(alloc, t) {
+            Ok(()) => {}
+            Err(_) => return Err(OpFault::OutOfMemory),
+        }
         let before = reached.found;
         reached = turn(
             alloc,
@@ -100,6 +110,7 @@ fn results<N: Nodes>(
             nodes,
             net,
             rows,
+            weak.nets(),
             ant.cuts(),
             con.cuts(),
             &reached,
@@ -111,7 +122,7 @@ fn results<N: Nodes>(
 }
 
 /// The report of an assertion over the variables of the store, for all assignments at once, with at most `cubes` cubes in
-/// each of its lists: see `Report`. `rows` are those of the net, the task's nodes are nets of it, and its variables are
+/// each of its lists: see `Report`. `rows` are those of the net, the nodes of the task and of its weakenings are nets of it, and its variables are
 /// below the store's.
 ///
 /// The verdict is `Budget` only where all steps are spent, and fewer were left at the start than the assertion needs; then
@@ -128,6 +139,7 @@ pub fn check_ste<N: Nodes>(
     requires rows { rows.now.covers ≡ map rows_of net.now.raw.covers }
     requires ant { All (λ quint. quint.node.0 < net.now.raw.nets) task.now.ant }
     requires con { All (λ quint. quint.node.0 < net.now.raw.nets) task.now.con }
+    requires weak { All (λ weakening. weakening.node.0 < net.now.raw.nets) task.now.weak }
     requires reads_ant { ReadBelow (N.store nodes.old).vars task.now.ant }
     requires reads_con { ReadBelow (N.store nodes.old).vars task.now.con }
 
@@ -169,6 +181,7 @@ pub fn check_ste_from<N: Nodes>(
     requires rows { rows.now.covers ≡ map rows_of net.now.raw.covers }
     requires ant { All (λ quint. quint.node.0 < net.now.raw.nets) task.now.ant }
     requires con { All (λ quint. quint.node.0 < net.now.raw.nets) task.now.con }
+    requires weak { All (λ weakening. weakening.node.0 < net.now.raw.nets) task.now.weak }
     requires reads_ant { ReadBelow (N.store nodes.old).vars task.now.ant }
     requires reads_con { ReadBelow (N.store nodes.old).vars task.now.con }
     requires last { IfSome last.old (IsFrame (N.store nodes.old) net.now.raw) }

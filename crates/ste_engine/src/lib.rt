@@ -14,5 +14,6 @@ mod results;
 mod shown;
 mod timeline;
 mod turn;
+mod weakened;
 
 pub use engine::{check_ste, check_ste_from};

@@ -11,6 +11,7 @@ ghost use Rattle.ste_engine.specs.private.Times.{IsTimeline};
 use crate::asks::Ask;
 use crate::timeline::Timeline;
 use crate::turn::first_frame;
+use crate::weakened::WeakLine;
 use bool_expr::value;
 use dd_nodes::Nodes;
 use dd_ops::{OpFault, Ops};
@@ -77,6 +78,7 @@ pub fn failing_place<N: Nodes>(
     requires rows { rows.now.covers ≡ map rows_of net.now.raw.covers }
     requires ant { All (λ quint. quint.node.0 < net.now.raw.nets) task.now.ant }
     requires con { All (λ quint. quint.node.0 < net.now.raw.nets) task.now.con }
+    requires weak { All (λ weakening. weakening.node.0 < net.now.raw.nets) task.now.weak }
     requires found { IsFound (FailsBy failure) net.now.raw task.now bits.now }
     ensures place { IfOk result (λ place.
         IsFailingPlace (FailsBy failure) net.now.raw task.now bits.now place) }
@@ -85,11 +87,22 @@ pub fn failing_place<N: Nodes>(
     let depth = depth(task);
     let mut ant = fixed_line(alloc, task.ant.as_slice(), bits, depth)?;
     let mut con = fixed_line(alloc, task.con.as_slice(), bits, depth)?;
+    let mut weak = WeakLine::of(alloc, task.weak.as_slice(), depth)?;
     let mut frame = first_frame(alloc, net, task.reset)?;
     for t in 0..depth {
         ant.advance(alloc, t)?;
         con.advance(alloc, t)?;
-        match renew(alloc, ops, nodes, net, rows, ant.cuts(), &mut frame) {
+        weak.advance(alloc, t)?;
+        match renew(
+            alloc,
+            ops,
+            nodes,
+            net,
+            rows,
+            weak.nets(),
+            ant.cuts(),
+            &mut frame,
+        ) {
             Ok(_) => {}
             Err(OpFault::OutOfMemory) => return Err(AllocError),
             // Nothing has to be made, so no step is wanted.

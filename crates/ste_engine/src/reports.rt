@@ -34,6 +34,7 @@ pub fn report_of<N: Nodes>(
     requires rows { rows.now.covers ≡ map rows_of net.now.raw.covers }
     requires ant { All (λ quint. quint.node.0 < net.now.raw.nets) task.now.ant }
     requires con { All (λ quint. quint.node.0 < net.now.raw.nets) task.now.con }
+    requires weak { All (λ weakening. weakening.node.0 < net.now.raw.nets) task.now.weak }
     requires told { TellFindings (N.store nodes.old) net.now.raw task.now r }
     requires firsts { AreFirsts (N.store nodes.old).vars net.now.raw task.now firsts }
     ensures report { IfOk result (λ report.

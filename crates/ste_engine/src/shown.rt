@@ -57,6 +57,7 @@ fn place_of<N: Nodes>(
     requires rows { rows.now.covers ≡ map rows_of net.now.raw.covers }
     requires ant { All (λ quint. quint.node.0 < net.now.raw.nets) task.now.ant }
     requires con { All (λ quint. quint.node.0 < net.now.raw.nets) task.now.con }
+    requires weak { All (λ weakening. weakening.node.0 < net.now.raw.nets) task.now.weak }
     requires found { IsFound (FailsBy failure) net.now.raw task.now bits.now }
     requires long { length bits.now ≡ (N.store nodes.old).vars }
     requires first { IfSome first
@@ -87,6 +88,7 @@ fn least_failure<N: Nodes>(
     requires rows { rows.now.covers ≡ map rows_of net.now.raw.covers }
     requires ant { All (λ quint. quint.node.0 < net.now.raw.nets) task.now.ant }
     requires con { All (λ quint. quint.node.0 < net.now.raw.nets) task.now.con }
+    requires weak { All (λ weakening. weakening.node.0 < net.now.raw.nets) task.now.weak }
     requires held { IsRef (N.store nodes.old) found }
     requires first { IfSome first
         (IsFirstPlace (N.store nodes.old).vars net.now.raw task.now failure) }
@@ -131,7 +133,7 @@ fn run_due(
     requires strong { IsStrong net.now.raw task.now bits.now }
     ensures { IfOk result (λ run. IsRunDue net.now.raw task.now bits.now run) }
 {
-    if !are_quints_bindable(net, task.ant.as_slice()) {
+    if !are_quints_bindable(net, task.weak.as_slice(), task.ant.as_slice()) {
         return Ok(None);
     }
     let run = ste_run(alloc, net, task, bits)?;
@@ -167,6 +169,7 @@ fn strong_shown<N: Nodes>(
     requires rows { rows.now.covers ≡ map rows_of net.now.raw.covers }
     requires ant { All (λ quint. quint.node.0 < net.now.raw.nets) task.now.ant }
     requires con { All (λ quint. quint.node.0 < net.now.raw.nets) task.now.con }
+    requires weak { All (λ weakening. weakening.node.0 < net.now.raw.nets) task.now.weak }
     requires held { IsRef (N.store nodes.old) strong }
     requires first { IfSome first
         (IsFirstPlace (N.store nodes.old).vars net.now.raw task.now Failure.Strong) }
@@ -206,6 +209,7 @@ fn weak_shown<N: Nodes>(
     requires rows { rows.now.covers ≡ map rows_of net.now.raw.covers }
     requires ant { All (λ quint. quint.node.0 < net.now.raw.nets) task.now.ant }
     requires con { All (λ quint. quint.node.0 < net.now.raw.nets) task.now.con }
+    requires weak { All (λ weakening. weakening.node.0 < net.now.raw.nets) task.now.weak }
     requires held { IsRef (N.store nodes.old) weak }
     requires first { IfSome first
         (IsFirstPlace (N.store nodes.old).vars net.now.raw task.now Failure.Weak) }
@@ -245,6 +249,7 @@ pub fn shown_of<N: Nodes>(
     requires rows { rows.now.covers ≡ map rows_of net.now.raw.covers }
     requires ant { All (λ quint. quint.node.0 < net.now.raw.nets) task.now.ant }
     requires con { All (λ quint. quint.node.0 < net.now.raw.nets) task.now.con }
+    requires weak { All (λ weakening. weakening.node.0 < net.now.raw.nets) task.now.weak }
     requires told { TellFindings (N.store nodes.old) net.now.raw task.now r }
     requires firsts { AreFirsts (N.store nodes.old).vars net.now.raw task.now firsts }
     requires judged { IsVerdictOf net.now.raw (N.store nodes.old).vars task.now verdict }

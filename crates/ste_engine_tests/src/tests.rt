@@ -131,6 +131,7 @@ fn report_on(
     requires steps { steps ≤ 1000 }
     requires ant { All (λ quint. quint.node.0 < ready.now.net.raw.nets) task.now.ant }
     requires con { All (λ quint. quint.node.0 < ready.now.net.raw.nets) task.now.con }
+    requires weak { All (λ weakening. weakening.node.0 < ready.now.net.raw.nets) task.now.weak }
     requires ant_reads { ReadBelow 2 task.now.ant }
     requires con_reads { ReadBelow 2 task.now.con }
 {
@@ -156,6 +157,7 @@ fn report_of(
         reset,
         ant: quints_of(alloc, &ready.names, ready.net.nets(), ant)?,
         con: quints_of(alloc, &ready.names, ready.net.nets(), con)?,
+        weak: Items::new(alloc),
     };
     report_on(alloc, ready, &task, steps, cubes)
 }

@@ -1,6 +1,7 @@
 -- What drives a net, by its source; what holds of all elements of a list, in a loop over it.
 use Rattle.std.proofs.Common.{◌≡◌, ◌≢◌, ℕ, ◌+◌, ◌<◌, Bool, true, false, List, [], ◌∷◌, length, get_or, arith, sym, ap, refl, subst, inl, inr, ◌∙◌}
-use Rattle.std.specs.Prelude.{All, IsTrue, ◌↔◌}
+use Rattle.std.specs.Prelude.{All, IsTrue, ◌↔◌, ◌==◌, ◌&&◌, ◌||◌, filter, if◌then◌else◌, map}
+use Rattle.std.specs.List.{list_any}
 use Rattle.std.proofs.lemmas.Bool.{cases_lt}
 use Rattle.std.proofs.lemmas.List.{get_or_default}
 use Rattle.net_core.specs.declared.raw.RawNet.{RawNet}
@@ -8,9 +9,12 @@ use Rattle.net_core.specs.declared.raw.Latch.{Latch}
 use Rattle.net_core.specs.declared.source.Source.{Source}
 use Rattle.net_core.specs.declared.source.Source.TheVariants as source
 use Rattle.net_core.specs.Flat.{HasOneDriver}
+use Rattle.net_core.specs.Possible.{is_weakened}
 use Rattle.net_core.specs.Run.{IsUndriven}
 use Rattle.net_core.specs.Source.{source_of}
 use Rattle.net_core.proofs.OneTime.{Facts, facts}
+use Rattle.ste_model.specs.declared.task.Weakening.{Weakening}
+use Rattle.ste_model.specs.Asked.{weakened_at, weakens}
 use Rattle.ste_model.specs.Shown.{IsLatchOutput}
 
 pub facts_of : (net : RawNet) (id : ℕ) (found : Source) → HasOneDriver net → found ≡ source_of net id → Facts net id found
@@ -70,6 +74,17 @@ more_all P xs n x is l before here k d m = elim (cases_lt k n) [
 -- what does not hold of one element
 pub not_all : {X : Type 0} (P : X → Type 0) (xs : List X) (n : ℕ) (x : X) → x ≡ get_or xs n x → n < length xs → ¬ P x → ¬ All P xs
 not_all P xs n x is l fails all = fails (subst P (sym is) (all n x l))
+
+-- ---- nets that are weakened at time 0
+
+pub any_of_start : (weak : List Weakening) (id : ℕ) → list_any (λ (w : Weakening). weakens 0 w && (w.node.0 == id)) weak ≡ is_weakened (weakened_at weak 0) id
+any_of_start [] id = refl
+any_of_start (w ∷ weak) id = by (any_of_start weak id) (weakens 0 w)
+  where
+    by : list_any (λ (x : Weakening). weakens 0 x && (x.node.0 == id)) weak ≡ is_weakened (weakened_at weak 0) id → (b : Bool) → ((b && (w.node.0 == id)) || list_any (λ (x : Weakening). weakens 0 x && (x.node.0 == id)) weak)
+        ≡ is_weakened (map (λ (x : Weakening). x.node.0) (if b then w ∷ filter (weakens 0) weak else filter (weakens 0) weak)) id
+    by rest true = ap (λ (r : Bool). (w.node.0 == id) || r) rest
+    by rest false = rest
 
 -- ---- a test that says just whether something holds
 

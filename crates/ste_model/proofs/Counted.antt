@@ -55,7 +55,7 @@ module _ (w : ℕ → SymbolicValue) (f : ℕ → Function) where
       let con : List SymbolicCut = cut 2 2 1 ∷ [] in
       let sets : ℕ → SymbolicSet = plain_table 0 in
       written ((w 0).work ++ ((w 1).work ++ ((w 0).work ++ ((w 2).work ++ [])))) ((w 2).work ++ ((w 1).work ++ []))
-      (time_work net [] (record { cuts = cut 0 0 1 ∷ cut 0 1 2 ∷ [] }) sets ++ consequents_work sets con)
+      (time_work net [] (record { cuts = cut 0 0 1 ∷ cut 0 1 2 ∷ []; weak = [] }) sets ++ consequents_work sets con)
       (some_empty net sets ∷ []) (strong_findings sets con) (weak_findings sets con)
 
   abbrev guarded_written : List Function
@@ -66,8 +66,8 @@ module _ (w : ℕ → SymbolicValue) (f : ℕ → Function) where
       let first : ℕ → SymbolicSet = guarded_table 0 in
       let second : ℕ → SymbolicSet = guarded_table 1 in
       written ((w 2).work ++ ((w 1).work ++ [])) ((w 2).work ++ ((w 1).work ++ []))
-      ((time_work net (everything ∷ []) (record { cuts = ant }) first ++ [])
-      ++ (time_work net (guarded_set ∷ []) (record { cuts = ant }) second ++ consequents_work second con))
+      ((time_work net (everything ∷ []) (record { cuts = ant; weak = [] }) first ++ [])
+      ++ (time_work net (guarded_set ∷ []) (record { cuts = ant; weak = [] }) second ++ consequents_work second con))
       (some_empty net first ∷ some_empty net second ∷ []) (strong_findings second con) (weak_findings second con)
 
 -- what is counted with the functions is counted with the expressions

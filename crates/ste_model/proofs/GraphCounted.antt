@@ -16,7 +16,7 @@ module _ (w : ℕ → SymbolicValue) (f : ℕ → Function) where
   on_edge n edge cuts =
       let source : SymbolicState = short_tables n edge.from in
       let sets : ℕ → SymbolicSet = short_sets n edge in
-      time_work latch_alone source.latches (record { cuts = cuts }) sets
+      time_work latch_alone source.latches (record { cuts = cuts; weak = [] }) sets
       ++ (negation (some_empty latch_alone sets) ∷ feasible_where latch_alone source sets ∷ sets_functions (given_by latch_alone source sets).latches)
 
   abbrev round : ℕ → List Function

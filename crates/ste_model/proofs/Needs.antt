@@ -18,7 +18,8 @@ use Rattle.net_core.specs.declared.source.Source.TheVariants.{Input, Free, Gate 
 use Rattle.net_core.specs.Cases.{on_rows, off_rows}
 use Rattle.net_core.specs.Run.{IsSettled}
 use Rattle.net_core.specs.Source.{source_of}
-use Rattle.net_core.specs.Work.{Function, SymbolicAsked, SymbolicCut, SymbolicSet, after_cut, by_gate, by_source, chain, conjunction, cover_set, cover_work, cut_set, cut_work, cuts_work, disjunction, everything, factor, factors, first_sets, gates_work, negation, no_bit, row_products, rows_chains, rows_work, set_at, some_bit, some_empty, time_work, uncut, whole}
+use Rattle.net_core.specs.Work.{Function, SymbolicAsked, SymbolicCut, SymbolicSet, after_cut, by_gate, by_source, chain, conjunction, cover_set, cover_work, cut_set, cut_work, cuts_work, disjunction, everything, factor, factors, first_sets, gates_work, negation, no_bit, one_gate_work, row_products, rows_chains, rows_work, set_at, some_bit, some_empty, time_work, uncut, unless_weakened, whole}
+use Rattle.net_core.specs.Possible.{is_weakened}
 use Rattle.ste_model.specs.declared.task.Assertion.{Assertion}
 use Rattle.ste_model.specs.Asked.{asked_at, depth}
 use Rattle.ste_model.specs.Need.{IsWholeTable, OneNeed}
@@ -154,9 +155,13 @@ module _ (v : ℕ) (one other : ℕ → SymbolicSet) (same : SameFamily v one ot
       put SameSets.none = SameSets.more (same n) SameSets.none
       put (SameSets.more p ps) = SameSets.more p (put ps)
 
-  gates_same : (net : RawNet) (gates : List Gate) → AreSame v (gates_work net one gates) (gates_work net other gates)
-  gates_same net [] = AreSame.none
-  gates_same net (gate ∷ gates) = append (cover_works (slice_get net.covers gate.cover) (inputs_same gate.inputs)) (gates_same net gates)
+  one_gate_same : (is_weak : Bool) (net : RawNet) (gate : Gate) → AreSame v (one_gate_work is_weak net one gate) (one_gate_work is_weak net other gate)
+  one_gate_same true net gate = AreSame.none
+  one_gate_same false net gate = cover_works (slice_get net.covers gate.cover) (inputs_same gate.inputs)
+
+  gates_same : (net : RawNet) (weak : List ℕ) (gates : List Gate) → AreSame v (gates_work net weak one gates) (gates_work net weak other gates)
+  gates_same net weak [] = AreSame.none
+  gates_same net weak (gate ∷ gates) = append (one_gate_same (is_weakened weak gate.output.0) net gate) (gates_same net weak gates)
 
 everything_same : {v : ℕ} → SameSet v everything everything
 everything_same = record { zero = itself; one = itself }
@@ -175,6 +180,10 @@ source_same net one other p same Input = everything_same
 source_same net one other p same Free = everything_same
 source_same net one other p same (OfGate g) = gate_same net one other same (slice_get net.gates g)
 source_same net one other p same (OfLatch l) = indexed l p
+
+unless_same : {v : ℕ} {w x : SymbolicSet} (is_weak : Bool) → SameSet v w x → SameSet v (unless_weakened is_weak w) (unless_weakened is_weak x)
+unless_same true p = everything_same
+unless_same false p = p
 
 cut_same : {v : ℕ} {w x : SymbolicSet} (g y : Function) → SameSet v w x → SameSet v (cut_set w g y) (cut_set x g y)
 cut_same g y p = record { zero = same_and p.zero itself; one = same_and p.one itself }
@@ -198,8 +207,8 @@ cuts_same (d ∷ cuts) one other same = append (cut_works d.guard d.value (same 
 time_same : {v : ℕ} {ls ks : List SymbolicSet} (net : RawNet) (asked : SymbolicAsked) (one other : ℕ → SymbolicSet) → SameSets v ls ks → SameFamily v one other → AreSame v (time_work net ls asked one) (time_work net ks asked other)
 time_same {v} {ls} {ks} net asked one other p same =
     let all = firsts_same v one other same net.nets in
-    append (cuts_same asked.cuts (uncut net ls one) (uncut net ks other) (λ id. source_same net one other p same (source_of net id)))
-    (append (gates_same v one other same net net.gates)
+    append (cuts_same asked.cuts (uncut net asked.weak ls one) (uncut net asked.weak ks other) (λ id. unless_same (is_weakened asked.weak id) (source_same net one other p same (source_of net id))))
+    (append (gates_same v one other same net asked.weak net.gates)
     (append (for_each some_bit (λ w x. same_some) all) (append (for_each no_bit (λ w x. same_none) all) (chains disjunction (or_respects _) itself (for_each no_bit (λ w x. same_none) all)))))
 
 empty_same : {v : ℕ} (net : RawNet) (one other : ℕ → SymbolicSet) → SameFamily v one other → Same v (some_empty net one) (some_empty net other)

@@ -16,9 +16,13 @@ bind_at bits bind = record { node = bind.node.0; on = value_of bind.guard bits; 
 abbrev pub bind_cuts : List Bind → List Bool → List Cut
 bind_cuts binds bits = map (bind_at bits) binds
 
+-- the nets that are weakened at the edge's time step, in order
+abbrev pub weakened_on : Edge → List ℕ
+weakened_on edge = map (λ node. node.0) edge.weak
+
 -- what an edge asks
 abbrev pub asked_on : Edge → List Bool → Asked
-asked_on edge bits = record { cuts = bind_cuts edge.ant bits }
+asked_on edge bits = record { cuts = bind_cuts edge.ant bits; weak = weakened_on edge }
 
 -- a path from a vertex: edges of the graph, the first one from this vertex, and each other from where the one before it
 -- leads

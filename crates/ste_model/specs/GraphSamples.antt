@@ -27,10 +27,10 @@ bind node value = record { guard = one; node = id_of node; value = value }
 
 -- from vertex 0 to vertex 1 d is the first variable; from vertex 1 to vertex 2 q is the second one
 abbrev pub edge_in : Edge
-edge_in = record { from = 0; to = 1; ant = bind 0 (variable 0) ∷ []; con = [] }
+edge_in = record { from = 0; to = 1; ant = bind 0 (variable 0) ∷ []; con = []; weak = [] }
 
 abbrev pub edge_out : Edge
-edge_out = record { from = 1; to = 2; ant = []; con = bind 1 (variable 1) ∷ [] }
+edge_out = record { from = 1; to = 2; ant = []; con = bind 1 (variable 1) ∷ []; weak = [] }
 
 abbrev pub short_graph : Graph
 short_graph = record {

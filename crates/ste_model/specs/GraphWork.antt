@@ -10,6 +10,7 @@ use Rattle.net_core.specs.Work.{Function, SymbolicAsked, SymbolicCut, SymbolicSe
 use Rattle.ste_model.specs.declared.task.Bind.{Bind}
 use Rattle.ste_model.specs.declared.task.Edge.{Edge}
 use Rattle.ste_model.specs.declared.task.Graph.{Graph}
+use Rattle.ste_model.specs.Edges.{weakened_on}
 use Rattle.ste_model.specs.Expressions.{symbolic_value}
 use Rattle.ste_model.specs.GraphTable.{VertexState, enough}
 use Rattle.ste_model.specs.Work.{consequents_work, constant_set, over_times, strong_findings, weak_findings}
@@ -31,7 +32,7 @@ symbolic_binds binds = map symbolic_bind binds
 
 -- what an edge asks
 abbrev pub symbolic_asked_on : Edge → SymbolicAsked
-symbolic_asked_on edge = record { cuts = symbolic_binds edge.ant }
+symbolic_asked_on edge = record { cuts = symbolic_binds edge.ant; weak = weakened_on edge }
 
 -- ---- one edge
 

@@ -61,6 +61,7 @@ plain_task = record {
   reset = false;
   ant = quint one 0 (variable 0) 0 1 ∷ quint one 1 (variable 1) 0 1 ∷ [];
   con = quint (variable 1) 2 (variable 0) 0 1 ∷ [];
+  weak = [];
 }
 
 abbrev pub plain_table : ℕ → ℕ → SymbolicSet
@@ -75,6 +76,7 @@ guarded_task = record {
   reset = false;
   ant = quint (variable 1) 0 (variable 0) 0 2 ∷ [];
   con = quint (variable 1) 2 (variable 0) 1 2 ∷ [];
+  weak = [];
 }
 
 -- what a is, and what the latch is one time later

@@ -10,7 +10,7 @@ use Rattle.net_core.specs.Sets.{first_set}
 use Rattle.net_core.specs.Work.{Function, SymbolicAsked, SymbolicCut, SymbolicSet, conjunction, disjunction, negation, some_empty, sum, sums, time_work}
 use Rattle.ste_model.specs.declared.task.Assertion.{Assertion}
 use Rattle.ste_model.specs.declared.task.Quint.{Quint}
-use Rattle.ste_model.specs.Asked.{depth}
+use Rattle.ste_model.specs.Asked.{depth, weakened_at}
 use Rattle.ste_model.specs.Expressions.{symbolic_value}
 
 -- ---- one consequent
@@ -63,9 +63,9 @@ has_time t quint = nat_le quint.from t && nat_lt t quint.to
 abbrev pub symbolic_cuts_at : List Quint → ℕ → List SymbolicCut
 symbolic_cuts_at quints t = map symbolic_cut (filter (has_time t) quints)
 
--- what the antecedent asks at time t
+-- what an assertion asks at time t
 abbrev pub symbolic_asked_at : Assertion → ℕ → SymbolicAsked
-symbolic_asked_at task t = record { cuts = symbolic_cuts_at task.ant t }
+symbolic_asked_at task t = record { cuts = symbolic_cuts_at task.ant t; weak = weakened_at task.weak t }
 
 -- ---- one time
 

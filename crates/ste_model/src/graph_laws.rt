@@ -7,6 +7,7 @@ ghost use Rattle.ste_model.specs.GraphReport.{OneGraphReportOf};
 ghost use Rattle.ste_model.specs.GraphSamples.{GraphSamplesAreCounted};
 ghost use Rattle.ste_model.specs.GraphShown.{DueBreaksAlong, FoundHasCandidate};
 ghost use Rattle.ste_model.specs.GraphTable.{OneLeastClosed, RoundsSettle};
+ghost use Rattle.ste_model.specs.Weakened.{WeakenedGrow};
 
 /// There are rounds, and only one table of each; after enough of them it is the least closed one.
 pub fn rounds_settle()
@@ -31,6 +32,12 @@ pub fn one_graph_verdict()
 /// A graph with the verdict pass, or contradictory antecedent, holds.
 pub fn graph_pass_holds()
     ensures { GraphPassHolds }
+{}
+
+/// Weakening more nets takes no bit out of a table, and makes no assignment of an assertion strong that was neither strong
+/// nor contradictory.
+pub fn weakened_grow()
+    ensures { WeakenedGrow }
 {}
 
 /// What is found under an assignment has a candidate path.

@@ -150,6 +150,7 @@ behind_grows (form.ste name reset) names = omega arith
 behind_grows (form.gste name vertex reset) names = omega arith
 behind_grows (form.edge from to) names = omega arith
 behind_grows (form.clause clause) names = omega arith
+behind_grows (form.weak node times) names = omega arith
 behind_grows form.ending names = omega arith
 behind_grows form.wrong names = omega arith
 
@@ -175,6 +176,7 @@ with_line parse side context vars line (form.vars names) later l e all = all
 with_line parse side context vars line (form.ste name reset) later l e all = refl
 with_line parse side context vars line (form.gste name vertex reset) later l e all = refl
 with_line parse side context vars line (form.edge from to) later l e all = all
+with_line parse side context vars line (form.weak node times) later l e all = all
 with_line parse side context vars line form.ending later l e all = all
 with_line parse side context vars line form.wrong later l e all = all
 

@@ -48,6 +48,7 @@ with_line parse side context vars line (form.vars names) later l e all = all
 with_line parse side context vars line (form.ste name reset) later l e all = refl
 with_line parse side context vars line (form.gste name vertex reset) later l e all = refl
 with_line parse side context vars line (form.edge from to) later l e all = refl
+with_line parse side context vars line (form.weak node times) later l e all = all
 with_line parse side context vars line form.ending later l e all = all
 with_line parse side context vars line form.wrong later l e all = all
 
@@ -134,6 +135,7 @@ behind_no_fewer (form.edge from to) vertices grown l =
     omega (arith, one, two, l)
 behind_no_fewer (form.vars names) vertices grown l = l
 behind_no_fewer (form.clause clause) vertices grown l = l
+behind_no_fewer (form.weak node times) vertices grown l = l
 behind_no_fewer form.ending vertices grown l = l
 behind_no_fewer form.wrong vertices grown l = l
 
@@ -171,6 +173,7 @@ with_edge parse names vertices vars line (form.ste name reset) lines later grown
 with_edge parse names vertices vars line (form.gste name vertex reset) lines later grown binds l all = refl
 with_edge parse names vertices vars line (form.vars others) lines later grown binds l all = all
 with_edge parse names vertices vars line (form.clause clause) lines later grown binds l all = all
+with_edge parse names vertices vars line (form.weak node times) lines later grown binds l all = all
 with_edge parse names vertices vars line form.ending lines later grown binds l all = all
 with_edge parse names vertices vars line form.wrong lines later grown binds l all = all
 

@@ -24,8 +24,8 @@ use Rattle.ste_model.specs.declared.task.Task.{Task}
 use Rattle.ste_model.specs.declared.task.Task.TheVariants.{Ste, Gste}
 use Rattle.ste_model.specs.declared.task.Tasks.{Tasks}
 use Rattle.task_binding.specs.Answer.{IsAnswer}
-use Rattle.task_binding.specs.Bound.{bind_bound, edge_bound, net_by, quint_bound, task_bound}
-use Rattle.task_binding.specs.Mentions.{AllNamed, bind_mention, edge_mentions, mentions_of, quint_mention, task_mentions}
+use Rattle.task_binding.specs.Bound.{bind_bound, edge_bound, mark_bound, net_by, quint_bound, task_bound, weak_bound}
+use Rattle.task_binding.specs.Mentions.{AllNamed, bind_mention, edge_mentions, mark_mention, mentions_of, quint_mention, task_mentions, weak_mention}
 use Rattle.task_binding.specs.declared.unknown.Mention.{Mention}
 use Rattle.assert_syntax.specs.Spelled.{task_tree}
 use Rattle.assert_syntax.proofs.Whole.{a_parse}
@@ -36,9 +36,13 @@ use Rattle.ste_program.specs.private.Made.{AreBindsIn, IsCheckable, IsEdgeFit, I
 use Rattle.ste_model.specs.declared.task.Bind.{Bind}
 use Rattle.ste_model.specs.declared.task.Edge.{Edge}
 use Rattle.ste_model.specs.declared.task.Graph.{Graph}
+use Rattle.ste_model.specs.declared.task.Weakening.{Weakening}
+use Rattle.ste_base.specs.declared.id.NodeId.{NodeId}
 use Rattle.gste_engine.specs.Tables.{AreConsequentsOver, IsGraphOver}
 use Rattle.assert_syntax.specs.declared.tasks.RawBind.{RawBind}
 use Rattle.assert_syntax.specs.declared.tasks.RawEdge.{RawEdge}
+use Rattle.assert_syntax.specs.declared.tasks.RawMark.{RawMark}
+use Rattle.assert_syntax.specs.declared.tasks.RawWeak.{RawWeak}
 use Rattle.ste_program.proofs.GraphsDeclared.{IsEdgeDeclared}
 use Rattle.ste_program.proofs.TasksDeclared.{AreDeclared}
 use Rattle.ste_program.specs.private.Prepared.{IsCheckOver, IsPrepared}
@@ -69,6 +73,9 @@ declared_ant nets vars task h = all_left (λ (quint : Quint). IsTrue (reads vars
 pub declared_con : (nets vars : ℕ) (task : Assertion) → IsCheckable nets vars (Ste task) → ReadBelow vars task.con
 declared_con nets vars task h = all_right (λ (quint : Quint). IsTrue (reads vars quint.guard && reads vars quint.value)) task.ant task.con h.1
 
+pub checkable_weak : (nets vars : ℕ) (task : Assertion) → IsCheckable nets vars (Ste task) → All (λ weakening. weakening.node.0 < nets) task.weak
+checkable_weak nets vars task h = h.3
+
 -- a graph that may be checked, as the engine asks for it
 fit_graph : (nets vars : ℕ) (graph : Graph) → IsCheckable nets vars (Gste graph) → IsGraphFit nets vars graph
 fit_graph nets vars graph h = h.2 0 graph (omega arith)
@@ -78,7 +85,7 @@ graph_over net vars graph h =
     let fit = fit_graph net.nets vars graph h in
     record {
       sound = record { some = fit.0; ends = λ k d l. (fit.1 k d l).1 };
-      edges = λ k d l. let edge = fit.2 k d l in record { start = (fit.1 k d l).0; nets = edge.0; reads = edge.2 };
+      edges = λ k d l. let edge = fit.2 k d l in record { start = (fit.1 k d l).0; nets = edge.0; weak = edge.4; reads = edge.2 };
     }
 
 pub consequents_over : (net : RawNet) (vars : ℕ) (graph : Graph) → IsCheckable net.nets vars (Gste graph) → AreConsequentsOver net vars graph
@@ -93,7 +100,7 @@ cons_in nets vars graph h = λ k d l. ((fit_graph nets vars graph h).2 k d l).1
 
 -- a task that may be checked, as the pool asks for it
 over_one : (net : RawNet) (vars : ℕ) (task : Task) → IsCheckable net.nets vars task → IsTaskOver net vars task
-over_one net vars (Ste task) h = (checkable_ant net.nets vars task h, checkable_con net.nets vars task h, declared_ant net.nets vars task h, declared_con net.nets vars task h)
+over_one net vars (Ste task) h = (checkable_ant net.nets vars task h, checkable_con net.nets vars task h, declared_ant net.nets vars task h, declared_con net.nets vars task h, checkable_weak net.nets vars task h)
 over_one net vars (Gste graph) h = (graph_over net vars graph h, consequents_over net vars graph h)
 
 pub over_all : (net : RawNet) (vars : ℕ) (tasks : List Task) → All (IsCheckable net.nets vars) tasks → All (IsTaskOver net vars) tasks
@@ -131,6 +138,33 @@ binds_in models (r ∷ raws) (q ∷ binds) all e =
     All-cons (λ (bind : Bind). bind.node.0 < length (nets models)) q binds (subst (λ n. n < length (nets models)) (sym node) low)
     (binds_in models raws binds (λ j d m. all (suc j) d (omega (arith, m))) rest)
 
+-- the nets of bound weakenings are in range
+weaks_in : (models : List Model) (raws : List RawWeak) (weaks : List Weakening) → AllNamed (net_named models) (map weak_mention raws) → map tree.weak_tree weaks ≡ map (weak_bound (net_by (net_named models))) raws →
+    All (λ weakening. weakening.node.0 < length (nets models)) weaks
+weaks_in models [] [] all e = λ k d l. absurd (omega (arith, l))
+weaks_in models [] (q ∷ weaks) all e = absurd (cc e)
+weaks_in models (r ∷ raws) [] all e = absurd (cc e)
+weaks_in models (r ∷ raws) (q ∷ weaks) all e =
+    let first : tree.weak_tree q ≡ weak_bound (net_by (net_named models)) r = cc e in
+    let rest : map tree.weak_tree weaks ≡ map (weak_bound (net_by (net_named models))) raws = cc e in
+    let node : q.node.0 ≡ unwrap_or (net_named models r.node) 0 = ap (λ (t : tree.WeakTree). t.node) first in
+    let low : unwrap_or (net_named models r.node) 0 < length (nets models) = in_range models r.node (net_named models r.node) refl (all 0 (weak_mention r) (omega arith)) in
+    All-cons (λ (weakening : Weakening). weakening.node.0 < length (nets models)) q weaks (subst (λ n. n < length (nets models)) (sym node) low)
+    (weaks_in models raws weaks (λ j d m. all (suc j) d (omega (arith, m))) rest)
+
+-- the weakened nets of a bound edge are in range
+marks_in : (models : List Model) (raws : List RawMark) (nodes : List NodeId) → AllNamed (net_named models) (map mark_mention raws) → map (λ (node : NodeId). node.0) nodes ≡ map (mark_bound (net_by (net_named models))) raws →
+    All (λ node. node.0 < length (nets models)) nodes
+marks_in models [] [] all e = λ k d l. absurd (omega (arith, l))
+marks_in models [] (q ∷ nodes) all e = absurd (cc e)
+marks_in models (r ∷ raws) [] all e = absurd (cc e)
+marks_in models (r ∷ raws) (q ∷ nodes) all e =
+    let node : q.0 ≡ unwrap_or (net_named models r.node) 0 = cc e in
+    let rest : map (λ (one : NodeId). one.0) nodes ≡ map (mark_bound (net_by (net_named models))) raws = cc e in
+    let low : unwrap_or (net_named models r.node) 0 < length (nets models) = in_range models r.node (net_named models r.node) refl (all 0 (mark_mention r) (omega arith)) in
+    All-cons (λ (one : NodeId). one.0 < length (nets models)) q nodes (subst (λ n. n < length (nets models)) (sym node) low)
+    (marks_in models raws nodes (λ j d m. all (suc j) d (omega (arith, m))) rest)
+
 -- the nodes of all edges are named
 abbrev AreNamed : List Model → List Mention → Type 0
 AreNamed models mentions = All (λ (m : Mention). IsSome (net_named models m.node)) mentions
@@ -146,33 +180,38 @@ edges_in models vars vertices (r ∷ raws) (q ∷ edges) all e declared =
     let here = all_left (λ (m : Mention). IsSome (net_named models m.node)) (edge_mentions r) (flat_map edge_mentions raws) all in
     let there = all_right (λ (m : Mention). IsSome (net_named models m.node)) (edge_mentions r) (flat_map edge_mentions raws) all in
     let fit : IsEdgeDeclared vars vertices q = declared 0 q (omega arith) in
+    let behind = all_right (λ (m : Mention). IsSome (net_named models m.node)) (map bind_mention r.ant) (map bind_mention r.con ++ map mark_mention r.weak) here in
     All-cons (IsEdgeFit (length (nets models)) vars) q edges (
-      binds_in models r.ant q.ant (all_left (λ (m : Mention). IsSome (net_named models m.node)) (map bind_mention r.ant) (map bind_mention r.con) here) (ap (λ (t : tree.EdgeTree). t.ant) first),
-      binds_in models r.con q.con (all_right (λ (m : Mention). IsSome (net_named models m.node)) (map bind_mention r.ant) (map bind_mention r.con) here) (ap (λ (t : tree.EdgeTree). t.con) first),
+      binds_in models r.ant q.ant (all_left (λ (m : Mention). IsSome (net_named models m.node)) (map bind_mention r.ant) (map bind_mention r.con ++ map mark_mention r.weak) here) (ap (λ (t : tree.EdgeTree). t.ant) first),
+      binds_in models r.con q.con (all_left (λ (m : Mention). IsSome (net_named models m.node)) (map bind_mention r.con) (map mark_mention r.weak) behind) (ap (λ (t : tree.EdgeTree). t.con) first),
       fit.ant,
       fit.con,
+      marks_in models r.weak q.weak (all_right (λ (m : Mention). IsSome (net_named models m.node)) (map bind_mention r.con) (map mark_mention r.weak) behind) (ap (λ (t : tree.EdgeTree). t.weak) first),
     )
     (edges_in models vars vertices raws edges there rest (λ k d l. declared (suc k) d (omega (arith, l))))
 
 -- a bound task may be checked
 one_checkable : (models : List Model) (vars : ℕ) (task_raw : RawTask) (task : Task) → AllNamed (net_named models) (task_mentions task_raw) → tree.task_tree task ≡ task_bound (net_by (net_named models)) task_raw →
     AreDeclared vars task → IsCheckable (length (nets models)) vars task
-one_checkable models vars (raw.Ste line name reset ant con) (Ste task) all e declared =
+one_checkable models vars (raw.Ste line name reset ant con weak) (Ste task) all e declared =
     let ants : map tree.quint_tree task.ant ≡ map (quint_bound (net_by (net_named models))) ant = cc e in
-    let cons : map tree.quint_tree task.con ≡ map (quint_bound (net_by (net_named models))) con = cc e in (
+    let cons : map tree.quint_tree task.con ≡ map (quint_bound (net_by (net_named models))) con = cc e in
+    let weaks : map tree.weak_tree task.weak ≡ map (weak_bound (net_by (net_named models))) weak = cc e in
+    let behind = all_right (λ (m : Mention). IsSome (net_named models m.node)) (map quint_mention ant) (map quint_mention con ++ map weak_mention weak) all in (
       all_both (λ (quint : Quint). quint.node.0 < length (nets models)) task.ant task.con
-          (nets_in models ant task.ant (all_left (λ (m : Mention). IsSome (net_named models m.node)) (map quint_mention ant) (map quint_mention con) all) ants)
-          (nets_in models con task.con (all_right (λ (m : Mention). IsSome (net_named models m.node)) (map quint_mention ant) (map quint_mention con) all) cons),
+          (nets_in models ant task.ant (all_left (λ (m : Mention). IsSome (net_named models m.node)) (map quint_mention ant) (map quint_mention con ++ map weak_mention weak) all) ants)
+          (nets_in models con task.con (all_left (λ (m : Mention). IsSome (net_named models m.node)) (map quint_mention con) (map weak_mention weak) behind) cons),
       all_both (λ (quint : Quint). IsTrue (reads vars quint.guard && reads vars quint.value)) task.ant task.con declared.0 declared.1,
       (λ k d l. absurd (omega (arith, l))),
+      weaks_in models weak task.weak (all_right (λ (m : Mention). IsSome (net_named models m.node)) (map quint_mention con) (map weak_mention weak) behind) weaks,
     )
-one_checkable models vars (raw.Ste line name reset ant con) (Gste graph) all e declared = absurd (cc e)
+one_checkable models vars (raw.Ste line name reset ant con weak) (Gste graph) all e declared = absurd (cc e)
 one_checkable models vars (raw.Gste line name reset vertices edges) (Ste task) all e declared = absurd (cc e)
 one_checkable models vars (raw.Gste line name reset vertices edges) (Gste graph) all e declared =
     let trees : map tree.edge_tree graph.edges ≡ map (edge_bound (net_by (net_named models))) edges = cc e in
     let fit : IsGraphFit (length (nets models)) vars graph =
     (declared.some, (λ k d l. let edge = declared.edges k d l in (edge.from, edge.to)), edges_in models vars (length graph.vertices) edges graph.edges all trees declared.edges) in
-    ((λ k d l. absurd (omega (arith, l))), (λ k d l. absurd (omega (arith, l))), All-cons (IsGraphFit (length (nets models)) vars) graph [] fit (λ k d l. absurd (omega (arith, l))))
+    ((λ k d l. absurd (omega (arith, l))), (λ k d l. absurd (omega (arith, l))), All-cons (IsGraphFit (length (nets models)) vars) graph [] fit (λ k d l. absurd (omega (arith, l))), (λ k d l. absurd (omega (arith, l))))
 
 all_checkable : (models : List Model) (vars : ℕ) (raws : List RawTask) (tasks : List Task) → AllNamed (net_named models) (mentions_of raws) →
     map tree.task_tree tasks ≡ map (task_bound (net_by (net_named models))) raws → All (AreDeclared vars) tasks → All (IsCheckable (length (nets models)) vars) tasks

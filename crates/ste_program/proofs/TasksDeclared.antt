@@ -46,7 +46,7 @@ abbrev graph_fits : ℕ → List (List ℕ) → List said.EdgeTree → Bool
 graph_fits vars vertices edges = nat_lt 0 (length vertices) && list_all (edge_fits vars (length vertices)) edges
 
 abbrev task_fits : ℕ → said.TaskTree → Bool
-task_fits vars (said.assertion line name reset ant con) = list_all (quint_reads vars) ant && list_all (quint_reads vars) con
+task_fits vars (said.assertion line name reset ant con weak) = list_all (quint_reads vars) ant && list_all (quint_reads vars) con
 task_fits vars (said.graph line name reset vertices edges) = graph_fits vars vertices edges
 
 with_task : (parse : Parse) (names : List (List ℕ)) (vars line : ℕ) (shape : Form) (lines : List Entry) (later : List said.TaskTree) →
@@ -63,6 +63,7 @@ with_task parse names vars line (form.gste name vertex reset) lines later quints
 with_task parse names vars line (form.vars others) lines later quints graphs all = all
 with_task parse names vars line (form.edge from to) lines later quints graphs all = all
 with_task parse names vars line (form.clause clause) lines later quints graphs all = all
+with_task parse names vars line (form.weak node times) lines later quints graphs all = all
 with_task parse names vars line form.ending lines later quints graphs all = all
 with_task parse names vars line form.wrong lines later quints graphs all = all
 
@@ -103,13 +104,13 @@ graph_declared vars net line name reset vertices edges graph fits same trees =
     }
 
 one_declared : (vars : ℕ) (net : List ℕ → ℕ) (task_raw : RawTask) (task : Task) → task_fits vars (said.task_tree task_raw) ≡ true → bound.task_tree task ≡ task_bound net task_raw → AreDeclared vars task
-one_declared vars net (raw.Ste line name reset ant con) (Ste task) all e =
+one_declared vars net (raw.Ste line name reset ant con weak) (Ste task) all e =
     let both = and_parts (list_all (quint_reads vars) (map said.quint_tree ant)) (list_all (quint_reads vars) (map said.quint_tree con)) all in
     let same_ant : map bound.quint_tree task.ant ≡ map (quint_bound net) ant = cc e in
     let same_con : map bound.quint_tree task.con ≡ map (quint_bound net) con = cc e in
     (bound_reads vars net ant task.ant both.0 same_ant, bound_reads vars net con task.con both.1 same_con)
 one_declared vars net (raw.Gste line name reset vertices edges) (Ste task) all e = absurd (cc e)
-one_declared vars net (raw.Ste line name reset ant con) (Gste graph) all e = absurd (cc e)
+one_declared vars net (raw.Ste line name reset ant con weak) (Gste graph) all e = absurd (cc e)
 one_declared vars net (raw.Gste line name reset vertices edges) (Gste graph) all e =
     let same : graph.vertices ≡ vertices = cc e in
     let trees : map bound.edge_tree graph.edges ≡ map (edge_bound net) edges = cc e in

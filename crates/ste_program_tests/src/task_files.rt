@@ -128,6 +128,41 @@ fn task_files_that_are_refused(rt: HostRuntime) -> Result<(), Fail> {
     Ok(())
 }
 
+#[test]
+fn weakenings_that_are_refused(rt: HostRuntime) -> Result<(), Fail> {
+    let alloc = rt.alloc();
+    for (tasks, message) in [
+        (".ste w\n.weak y\n.end\n", "stework: t:2: bad line\n"),
+        (
+            ".ste w\n.weak y from 2 to 1\n.end\n",
+            "stework: t:2: bad line\n",
+        ),
+        (
+            ".ste w\n.weak y from 0 to 10001\n.end\n",
+            "stework: t:2: too many\n",
+        ),
+        (
+            ".gste g v\n.weak y\n.edge v v\n.end\n",
+            "stework: t:2: bad line\n",
+        ),
+        (
+            ".gste g v\n.edge v v\n.weak y from 0 to 1\n.end\n",
+            "stework: t:3: bad line\n",
+        ),
+        (
+            ".ste w\n.weak z from 0 to 1\n.ant x = 0 from 0 to 1\n.end\n",
+            "stework: t:2: unknown node z\n",
+        ),
+        (
+            ".gste g v\n.edge v v\n.con x = 0\n.weak z\n.end\n",
+            "stework: t:3: unknown node x\n",
+        ),
+    ] {
+        expect(&rt, alloc, INVERTER, tasks, Status::Refused, "", message)?;
+    }
+    Ok(())
+}
+
 /// A graph that goes round: what goes in comes out.
 const LOOP: &str =
     ".vars p\n.gste loop i\n.edge i v\n.ant d = p\n.edge v v\n.ant d = p\n.con q = p\n.end\n";

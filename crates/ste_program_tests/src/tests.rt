@@ -159,6 +159,57 @@ fn examples_of_gates_and_latches(rt: HostRuntime) -> Result<(), Fail> {
     Ok(())
 }
 
+const FROM_ONE: &str = ".model l\n.inputs d\n.outputs q\n.latch d q 1\n.end\n";
+
+/// A weakened net has both bits before what is asked of it: at the times that a line gives, on its edge in a graph.
+#[test]
+fn weakened_nets(rt: HostRuntime) -> Result<(), Fail> {
+    let alloc = rt.alloc();
+    for (net, task, status, out) in [
+        (
+            INVERTER,
+            ".vars p\n.ste t1\n.ant a = p from 0 to 1\n.con y = !p from 0 to 1\n.weak y from 0 to 1\n.end\n",
+            Status::NotPassed,
+            "t1: weak failure\n  weak: 1\n  least: p=0\n  fails: y at 0\n",
+        ),
+        // over no time, and a net that is bound all the same
+        (
+            INVERTER,
+            ".vars p\n.ste t1\n.weak y from 0 to 0\n.weak a from 0 to 1\n.ant a = p from 0 to 1\n.con y = !p from 0 to 1\n.end\n",
+            Status::Passed,
+            "t1: pass\n",
+        ),
+        (
+            FROM_ONE,
+            ".ste r reset\n.ant q = 0 from 0 to 1\n.weak q from 0 to 1\n.con q = 1 from 0 to 1\n.end\n",
+            Status::NotPassed,
+            "r: strong failure\n  strong: 1\n  least:\n  fails: q at 0\n",
+        ),
+        (
+            FROM_ONE,
+            ".ste r reset\n.ant q = 0 from 0 to 1\n.con q = 1 from 0 to 1\n.end\n",
+            Status::NotPassed,
+            "r: contradictory antecedent\n  contradictory: 1\n",
+        ),
+        (
+            LATCH,
+            ".vars p\n.gste loop i\n.edge i v\n.ant d = p\n.edge v v\n.ant d = p\n.con q = p\n.weak q\n.end\n",
+            Status::NotPassed,
+            "loop: weak failure\n  weak: 1\n  least: p=0\n  path: 0 1\n  fails: q at 1\n",
+        ),
+        // of the first edge alone: q is asked of on the second
+        (
+            LATCH,
+            ".vars p\n.gste loop i\n.edge i v\n.weak q\n.ant d = p\n.edge v v\n.ant d = p\n.con q = p\n.end\n",
+            Status::Passed,
+            "loop: pass\n",
+        ),
+    ] {
+        expect(&rt, alloc, net, task, status, out, "")?;
+    }
+    Ok(())
+}
+
 #[test]
 fn netlists_that_are_refused(rt: HostRuntime) -> Result<(), Fail> {
     let alloc = rt.alloc();

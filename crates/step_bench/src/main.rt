@@ -68,7 +68,7 @@ fn steps<N: Nodes>(
     ensures { All (IsCutOf (N.store nodes.new) net.now.raw) cuts.now }
 {
     for _ in 0..count {
-        step(alloc, ops, nodes, net, rows, &[], cuts)?;
+        step(alloc, ops, nodes, net, rows, &[], &[], cuts)?;
     }
     Ok(())
 }
@@ -90,7 +90,7 @@ fn kept_steps<N: Nodes>(
 {
     let mut frame = Frame::blank(alloc, net)?;
     for _ in 0..count {
-        renew(alloc, ops, nodes, net, rows, cuts, &mut frame)?;
+        renew(alloc, ops, nodes, net, rows, &[], cuts, &mut frame)?;
     }
     Ok(())
 }

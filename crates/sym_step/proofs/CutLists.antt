@@ -1,14 +1,21 @@
 -- The links of cuts, from the last cut to the first.
-use Rattle.std.proofs.Common.{ℕ, ◌≡◌, ◌≢◌, ◌≤◌, ◌<◌, ◌+◌, Bool, true, false, List, length, get_or, set, refl, sym, ◌∙◌, ap, subst, arith, inl, inr, All}
+use Rattle.std.proofs.Common.{ℕ, ◌≡◌, ◌≢◌, ◌≤◌, ◌<◌, ◌+◌, Bool, true, false, List, length, get_or, set, refl, sym, ◌∙◌, ap, subst, arith, inl, inr, All, map}
 use mathlib.Core.Logic.{dite}
 use native.Mathlib.Decide.{ℕ_discrete}
-use Rattle.std.proofs.lemmas.Bool.{cases_lt}
+use Rattle.std.proofs.lemmas.Bool.{cases_lt, false≢true, ne_eqb}
+use Rattle.std.proofs.Common.{drop, suc, eq-eqb}
+use Rattle.std.proofs.Math.Seq.{drop-cons}
+use Rattle.net_core.specs.Possible.{is_weakened}
+use Rattle.sym_step.specs.Step.{ids_of}
+use Rattle.std.proofs.lemmas.List.Elements.{All-append}
+use Rattle.std.specs.Prelude.{◌||◌, ◌==◌}
 use Rattle.std.proofs.lemmas.List.{get_or-map, get_or-set_same, get_or-set_other, get_or_past, length-map, length-set}
 use Rattle.ste_base.specs.declared.id.NodeId.{NodeId}
 use Rattle.sym_step.specs.declared.cut.Cut.{Cut}
-use Rattle.sym_step.specs.private.Demands.{AreLinked, IsNearest, no_cut, node_at, nodes_of, told_place}
+use Rattle.sym_step.specs.private.Demands.{AreDemands, AreLinked, IsNearest, no_cut, node_at, nodes_of, told_place}
 use Rattle.sym_step.specs.Frame.{is_listed}
 use Rattle.sym_step.proofs.Framing.{listed_at}
+use Rattle.sym_step.proofs.Listed.{listed_or}
 
 -- behind the last cut there is none
 none_left : (cuts : List Cut) (id : ℕ) → IsNearest cuts id (length cuts) (length cuts)
@@ -19,13 +26,17 @@ none_left cuts id = record {
   here = λ lt. absurd (omega (arith, lt));
 }
 
-pub begin : (cuts : List Cut) (marks : List Bool) (first next : List ℕ) (i : ℕ) → i ≡ length cuts → length marks ≤ length first → length cuts ≤ length next → ((id : ℕ) → get_or marks id false ≡ false) → AreLinked cuts i marks first next
+pub begin : (cuts : List Cut) (marks : List Bool) (first next : List ℕ) (i : ℕ) → i ≡ length cuts → length marks ≤ length first → length cuts ≤ length next → ((id : ℕ) → get_or marks id false ≡ true → get_or first id 0 ≡ length cuts) → AreLinked cuts i marks first next
 begin cuts marks first next i e wide long none = record {
   wide = wide;
   long = long;
-  firsts = λ id. subst (λ (b : Bool). IsNearest cuts id i (told_place b (get_or first id 0) (length cuts))) (sym (none id)) (subst (λ (j : ℕ). IsNearest cuts id j (length cuts)) (sym e) (none_left cuts id));
+  firsts = λ id. subst (λ (p : ℕ). IsNearest cuts id i p) (sym (told id (get_or marks id false) refl)) (subst (λ (j : ℕ). IsNearest cuts id j (length cuts)) (sym e) (none_left cuts id));
   nexts = λ k le lt. absurd (omega (arith, e, le, lt));
 }
+  where
+    told : (id : ℕ) (b : Bool) → get_or marks id false ≡ b → told_place b (get_or first id 0) (length cuts) ≡ length cuts
+    told id true f = none id f
+    told id false f = refl
 
 -- the cut at a place is the first one of its net from there on
 here_is : (cuts : List Cut) (k : ℕ) → k < length cuts → IsNearest cuts (node_at cuts k) k k
@@ -90,22 +101,29 @@ turn cuts marks first next k i id e lt is inside l = record {
         subst (λ (p : ℕ). IsNearest cuts (node_at cuts j) (j + 1) p) (sym (get_or-set_other next k j place 0 apart)) (l.nexts j le less)
 
 -- there is no cut of a net without a flag
-pub none_listed : (cuts : List Cut) (flags : List Bool) (first next : List ℕ) → AreLinked cuts 0 flags first next → (id : ℕ) → get_or flags id false ≡ false → is_listed (nodes_of cuts) id ≡ false
-none_listed cuts flags first next l id none = by (is_listed (nodes_of cuts) id) refl
+none_cut : (cuts : List Cut) (flags : List Bool) (first next : List ℕ) → AreLinked cuts 0 flags first next → (id : ℕ) → get_or flags id false ≡ false → is_listed (map (λ (c : Cut). c.node) cuts) id ≡ false
+none_cut cuts flags first next l id none = by (is_listed (map (λ (c : Cut). c.node) cuts) id) refl
   where
-    by : (b : Bool) → is_listed (nodes_of cuts) id ≡ b → is_listed (nodes_of cuts) id ≡ false
+    by : (b : Bool) → is_listed (map (λ (c : Cut). c.node) cuts) id ≡ b → is_listed (map (λ (c : Cut). c.node) cuts) id ≡ false
     by false e = e
     by true e =
         let node : NodeId = record { 0 = 0 } in
-        let at = listed_at (nodes_of cuts) id e in
+        let at = listed_at (map (λ (c : Cut). c.node) cuts) id e in
         let inside : at.0 < length cuts = omega (arith, at.1, length-map cuts (λ (c : Cut). c.node)) in
         let same : node_at cuts at.0 ≡ id = sym (ap (λ (n : NodeId). n.0) (get_or-map (λ (c : Cut). c.node) cuts at.0 no_cut node inside)) ∙ at.2 node in
         let near = subst (λ (b : Bool). IsNearest cuts id 0 (told_place b (get_or first id 0) (length cuts))) none (l.firsts id) in
         absurd (near.absent at.0 (omega arith) inside same)
 
+-- nothing is asked of a net without a flag
+pub none_listed : (cuts : List Cut) (weak nodes : List NodeId) (flags weak_flags : List Bool) (first next : List ℕ) → AreDemands cuts weak nodes flags weak_flags first next → (id : ℕ) → get_or flags id false ≡ false → is_listed (nodes_of weak cuts) id ≡ false
+none_listed cuts weak nodes flags weak_flags first next demands id none =
+    listed_or weak (map (λ (c : Cut). c.node) cuts) id
+    ∙ ap (λ (b : Bool). b || is_listed (map (λ (c : Cut). c.node) cuts) id) (demands.flagged id none)
+    ∙ none_cut cuts flags first next demands.linked id none
+
 -- each cut has a flag, so its net is one of those with flags
-pub flags_inside : (cuts : List Cut) (flags : List Bool) (first next : List ℕ) → AreLinked cuts 0 flags first next → All (λ node. node.0 < length flags) (nodes_of cuts)
-flags_inside cuts flags first next l k d lt = elim (cases_lt id (length flags)) [
+cuts_inside : (cuts : List Cut) (flags : List Bool) (first next : List ℕ) → AreLinked cuts 0 flags first next → All (λ node. node.0 < length flags) (map (λ (c : Cut). c.node) cuts)
+cuts_inside cuts flags first next l k d lt = elim (cases_lt id (length flags)) [
   | inl inside ↦ inside
   | inr over ↦
       let within : k < length cuts = omega (arith, lt, length-map cuts (λ (c : Cut). c.node)) in
@@ -115,4 +133,64 @@ flags_inside cuts flags first next l k d lt = elim (cases_lt id (length flags)) 
 ]
   where
     id : ℕ
-    id = (get_or (nodes_of cuts) k d).0
+    id = (get_or (map (λ (c : Cut). c.node) cuts) k d).0
+
+pub flags_inside : (cuts : List Cut) (weak nodes : List NodeId) (flags weak_flags : List Bool) (first next : List ℕ) → AreDemands cuts weak nodes flags weak_flags first next → All (λ node. node.0 < length flags) (nodes_of weak cuts)
+flags_inside cuts weak nodes flags weak_flags first next demands =
+    All-append (λ (node : NodeId). node.0 < length flags) weak (map (λ (c : Cut). c.node) cuts) demands.inside (cuts_inside cuts flags first next demands.linked)
+
+-- what has no flag after one more had none before
+pub flags_before : (marks : List Bool) (id other : ℕ) → get_or (set marks id true) other false ≡ false → get_or marks other false ≡ false
+flags_before marks id other none = dite (ℕ_discrete other id)
+    (λ same. elim (cases_lt id (length marks)) [
+      | inl inside ↦ absurd (false≢true (sym none ∙ ap (λ (n : ℕ). get_or (set marks id true) n false) same ∙ get_or-set_same marks id true false inside))
+      | inr over ↦ ap (λ (n : ℕ). get_or marks n false) same ∙ get_or_past marks id false over
+    ])
+    (λ apart. sym (get_or-set_other marks id other true false apart) ∙ none)
+
+-- ---- flags of weakened nets, from the first net to the last
+
+-- a flag stays, and the next net has one
+pub flagged_next : (weak : List NodeId) (k : ℕ) (node : NodeId) (flags : List Bool) → k < length weak → node ≡ get_or weak k node → node.0 < length flags
+    → ((id : ℕ) → get_or flags id false ≡ false → is_listed (drop k weak) id ≡ is_listed weak id)
+    → (id : ℕ) → get_or (set flags node.0 true) id false ≡ false → is_listed (drop (k + 1) weak) id ≡ is_listed weak id
+flagged_next weak k node flags lt is inside before id none =
+    let apart : node.0 ≢ id = λ same. false≢true (sym none ∙ ap (λ (n : ℕ). get_or (set flags node.0 true) n false) (sym same) ∙ get_or-set_same flags node.0 true false inside) in
+    let rest : is_listed (drop k weak) id ≡ is_listed (drop (suc k) weak) id =
+    ap (λ (xs : List NodeId). is_listed xs id) (drop-cons weak k node lt)
+    ∙ ap (λ (x : NodeId). (x.0 == id) || is_listed (drop (suc k) weak) id) (sym is)
+    ∙ ap (λ (b : Bool). b || is_listed (drop (suc k) weak) id) (ne_eqb node.0 id apart) in
+    let more : k + 1 ≡ suc k = omega arith in
+    ap (λ (n : ℕ). is_listed (drop n weak) id) more ∙ sym rest ∙ before id (flags_before flags node.0 id none)
+
+-- each net with a flag has the same place
+pub places_next : (flags : List Bool) (first : List ℕ) (n count : ℕ) → n < length flags → length flags ≤ length first → ((id : ℕ) → get_or flags id false ≡ true → get_or first id 0 ≡ count)
+    → (id : ℕ) → get_or (set flags n true) id false ≡ true → get_or (set first n count) id 0 ≡ count
+places_next flags first n count inside wide before id flag = dite (ℕ_discrete id n)
+    (λ same. ap (λ (k : ℕ). get_or (set first n count) k 0) same ∙ get_or-set_same first n count 0 (omega (arith, inside, wide)))
+    (λ apart. get_or-set_other first n id count 0 apart ∙ before id (sym (get_or-set_other flags n id true false apart) ∙ flag))
+
+absorbed : (a b : Bool) → (a || (true || b)) ≡ true
+absorbed true b = refl
+absorbed false b = refl
+
+-- with the rest the flags tell which nets are weakened
+pub weakened_next : (weak : List NodeId) (k : ℕ) (node : NodeId) (flags : List Bool) → k < length weak → node ≡ get_or weak k node → node.0 < length flags
+    → ((id : ℕ) → (get_or flags id false || is_weakened (ids_of (drop k weak)) id) ≡ is_weakened (ids_of weak) id)
+    → (id : ℕ) → (get_or (set flags node.0 true) id false || is_weakened (ids_of (drop (k + 1) weak)) id) ≡ is_weakened (ids_of weak) id
+weakened_next weak k node flags lt is inside before id =
+    let rest : Bool = is_weakened (ids_of (drop (suc k) weak)) id in
+    let more : k + 1 ≡ suc k = omega arith in
+    let here : is_weakened (ids_of (drop k weak)) id ≡ ((node.0 == id) || rest) =
+    ap (λ (xs : List NodeId). is_weakened (ids_of xs) id) (drop-cons weak k node lt) ∙ ap (λ (x : NodeId). (x.0 == id) || rest) (sym is) in
+    let was : (get_or flags id false || ((node.0 == id) || rest)) ≡ is_weakened (ids_of weak) id = ap (λ (b : Bool). get_or flags id false || b) (sym here) ∙ before id in
+    ap (λ (m : ℕ). get_or (set flags node.0 true) id false || is_weakened (ids_of (drop m weak)) id) more
+    ∙ dite (ℕ_discrete id node.0)
+    (λ same.
+    let equal : (node.0 == id) ≡ true = eq-eqb node.0 id (sym same) in
+    ap (λ (b : Bool). b || rest) (ap (λ (n : ℕ). get_or (set flags node.0 true) n false) same ∙ get_or-set_same flags node.0 true false inside)
+    ∙ sym (absorbed (get_or flags id false) rest) ∙ ap (λ (b : Bool). get_or flags id false || (b || rest)) (sym equal) ∙ was)
+    (λ apart.
+    let other : (node.0 == id) ≡ false = ne_eqb node.0 id (λ e. apart (sym e)) in
+    ap (λ (b : Bool). b || rest) (get_or-set_other flags node.0 id true false apart)
+    ∙ ap (λ (b : Bool). get_or flags id false || (b || rest)) (sym other) ∙ was)

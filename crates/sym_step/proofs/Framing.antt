@@ -32,7 +32,8 @@ use Rattle.sym_step.specs.declared.frame.Frame.{Frame}
 use Rattle.sym_step.specs.declared.made.Step.{Step}
 use Rattle.sym_step.specs.declared.marks.Marks.{Marks}
 use Rattle.gate_sets.specs.declared.net_rails.NetRails.{NetRails}
-use Rattle.sym_step.specs.Step.{HaveSets, IsCutBy, IsStep}
+use Rattle.sym_step.specs.Step.{HaveSets, IsCutBy, IsStep, ids_of}
+use Rattle.sym_step.specs.private.Demands.{nodes_of}
 use Rattle.sym_step.specs.private.Boards.{AreFull, Follows}
 use Rattle.sym_step.specs.Frame.{AreFirst, IsFrame, IsGiven, bare, first_or, input_rails, is_listed, nets_of, next_of, step_of}
 use Rattle.sym_step.specs.private.Frames.{AreReady, AreSpared}
@@ -40,16 +41,17 @@ use Rattle.sym_step.specs.private.Readers.{AreMarked, ReadsAs, driver_number, fl
 use Rattle.gate_sets.specs.NetSets.{AreNetRails, AreNetRefs, net_at, own_where}
 use Rattle.sym_step.specs.private.Parts.{HaveNets, asks}
 use Rattle.gate_sets.proofs.NetRefs.{All-net-refs-keep, Net-keeps, own_net}
+use Rattle.sym_step.proofs.Listed.{as_driven, no_cut_of}
 use Rattle.sym_step.proofs.Sourced.{unknown}
 use Rattle.sym_step.proofs.Turning.{Net-same, before_is}
 
 -- ---- nets that are cut
 
--- nothing is asked of a net that is not listed
-pub unlisted : (s : Store) (ds : List SymbolicCut) (cuts : List Cut) (id : ℕ) (f : ℕ → SymbolicSet) → AllZip (IsCutBy s) ds cuts → is_listed (map (λ (c : Cut). c.node) cuts) id ≡ false → after_cuts ds f id ≡ f id
-unlisted s [] cuts id f zip none = refl
-unlisted s (d ∷ ds) [] id f zip none = absurd zip
-unlisted s (d ∷ ds) (c ∷ cuts) id f zip none = by (c.node.0 == id) refl none (λ h. unlisted s ds cuts id (after_cut d f) zip.1 h)
+-- a net of which there is no cut keeps its set
+keeps_set : (s : Store) (ds : List SymbolicCut) (cuts : List Cut) (id : ℕ) (f : ℕ → SymbolicSet) → AllZip (IsCutBy s) ds cuts → is_listed (map (λ (c : Cut). c.node) cuts) id ≡ false → after_cuts ds f id ≡ f id
+keeps_set s [] cuts id f zip none = refl
+keeps_set s (d ∷ ds) [] id f zip none = absurd zip
+keeps_set s (d ∷ ds) (c ∷ cuts) id f zip none = by (c.node.0 == id) refl none (λ h. keeps_set s ds cuts id (after_cut d f) zip.1 h)
   where
     by : (b : Bool) → (c.node.0 == id) ≡ b → (b || is_listed (map (λ (x : Cut). x.node) cuts) id) ≡ false → (is_listed (map (λ (x : Cut). x.node) cuts) id ≡ false → after_cuts ds (after_cut d f) id ≡ after_cut d f id)
         → after_cuts ds (after_cut d f) id ≡ f id
@@ -57,6 +59,10 @@ unlisted s (d ∷ ds) (c ∷ cuts) id f zip none = by (c.node.0 == id) refl none
     by false e h rest =
         let ne : (d.node ≡ id) → ⊥ = λ same. false≢true (sym e ∙ eq-eqb c.node.0 id (sym zip.0.node ∙ same)) in
         rest h ∙ ap (λ (x : Bool). if x then cut_set (f id) d.guard d.value else f id) (ne_eqb d.node id ne)
+
+-- so does one of which nothing is asked
+pub unlisted : (s : Store) (ds : List SymbolicCut) (weak : List NodeId) (cuts : List Cut) (id : ℕ) (f : ℕ → SymbolicSet) → AllZip (IsCutBy s) ds cuts → is_listed (nodes_of weak cuts) id ≡ false → after_cuts ds f id ≡ f id
+unlisted s ds weak cuts id f zip none = keeps_set s ds cuts id f zip (no_cut_of weak cuts id none)
 
 -- a net that is listed has a place
 pub listed_at : (ids : List NodeId) (id : ℕ) → is_listed ids id ≡ true → (k : ℕ) × (k < length ids) × ((d : NodeId) → (get_or ids k d).0 ≡ id)
@@ -305,10 +311,10 @@ one_set : (u : Store) (v w : SymbolicSet) (r : NetRails) (bits : List Bool) → 
 one_set u v w r bits l a b = same_fields _ _ _ _ (sym (a.zero.value bits l) ∙ b.zero.value bits l) (sym (a.one.value bits l) ∙ b.one.value bits l)
 
 module _ (net : RawNet) (order : List ℕ) (range : IsInRange net) (one : HasOneDriver net) (is_order : IsSettledOrder net order)
-    (ls : List SymbolicSet) (ds : List SymbolicCut) (family : ℕ → SymbolicSet) (long : length ls ≡ length net.latches) where
-  -- where each net has its set, a gate whose output is not cut has given it its set
-  pub given_here : (s u : Store) (cuts : List Cut) (nets : List NetRails) → Keeps s u → ArePossibleEach s.vars net ls (asks ds) family → AllZip (IsCutBy s) ds cuts
-      → HaveNets net family u nets → All (λ gate. is_listed (map (λ (c : Cut). c.node) cuts) gate.output.0 ≡ false → IsGiven u net nets gate) net.gates
+    (ls : List SymbolicSet) (weak : List NodeId) (ds : List SymbolicCut) (family : ℕ → SymbolicSet) (long : length ls ≡ length net.latches) where
+  -- where each net has its set, a gate of whose output nothing is asked has given it its set
+  pub given_here : (s u : Store) (cuts : List Cut) (nets : List NetRails) → Keeps s u → ArePossibleEach s.vars net ls (asks weak ds) family → AllZip (IsCutBy s) ds cuts
+      → HaveNets net family u nets → All (λ gate. is_listed (nodes_of weak cuts) gate.output.0 ≡ false → IsGiven u net nets gate) net.gates
   given_here s u cuts nets k possible zip have n d lt none sets ins =
       let gate : Gate = get_or net.gates n d in
       let out : ℕ = gate.output.0 in
@@ -318,8 +324,8 @@ module _ (net : RawNet) (order : List ℕ) (range : IsInRange net) (one : HasOne
       let inputs_same : map (λ input. set_at bits (family input.0)) gate.inputs ≡ map (λ input. set_at bits (sets input.0)) gate.inputs =
       map_same (λ input. set_at bits (family input.0)) (λ input. set_at bits (sets input.0)) gate.inputs
       (λ i e li. let id : ℕ = (get_or gate.inputs i e).0 in one_set u (family id) (sets id) (net_at nets id) bits l (have id (range.gate_inputs n d lt i e li)) (ins i e li)) in
-      sym (fixed net s.vars ls (asks ds) family bits range one long possible l' out)
-      ∙ ap (set_at bits) (unlisted s ds cuts out (uncut net ls family) zip none ∙ before_is net order range one is_order ls ds family long n gate lt (given_by n d lt))
+      sym (fixed net s.vars ls (asks weak ds) family bits range one long possible l' out)
+      ∙ ap (set_at bits) (unlisted s ds weak cuts out (uncut net (ids_of weak) ls family) zip none ∙ before_is net order range one is_order ls weak ds family long n gate lt (given_by n d lt) ∙ as_driven weak cuts out (output_set net family gate) none)
       ∙ same_set (set_at bits (output_set net family gate)) (set_at bits (output_set net sets gate))
       (λ bit h. (gate_in net range one ls long sets bits n d bit lt).1 (subst (λ (xs : List BitSet). MayGive (gate_bit net gate) xs bit) inputs_same ((gate_in net range one ls long family bits n d bit lt).0 h)))
       (λ bit h. (gate_in net range one ls long family bits n d bit lt).1 (subst (λ (xs : List BitSet). MayGive (gate_bit net gate) xs bit) (sym inputs_same) ((gate_in net range one ls long sets bits n d bit lt).0 h))))

@@ -1,5 +1,5 @@
 -- Latches that are not due, and the sets that the others get.
-use Rattle.std.proofs.Common.{◌≡◌, ◌≢◌, ℕ, ◌+◌, ◌<◌, ◌≤◌, Bool, false, List, [], ◌∷◌, ◌++◌, Option, None, Some, length, map, get_or, refl, sym, ◌∙◌, ap, subst, arith, inl, inr, All}
+use Rattle.std.proofs.Common.{◌≡◌, ◌≢◌, ℕ, ◌+◌, ◌<◌, ◌≤◌, Bool, false, List, [], ◌∷◌, ◌++◌, Option, None, Some, length, map, get_or, refl, sym, ◌∙◌, ap, subst, arith, inl, inr, All, true}
 use Rattle.std.specs.Prelude.{◌⊎◌, IsTrue}
 use Rattle.std.specs.Global.{Vec}
 use Rattle.std.specs.List.{AllZip}
@@ -8,7 +8,9 @@ use Rattle.std.proofs.lemmas.List.{get_or-map, get_or_append_left, get_or_defaul
 use Rattle.std.proofs.lemmas.List.Elements.{All-push}
 use Rattle.ste_base.specs.declared.id.NodeId.{NodeId}
 use Rattle.dd_nodes.specs.Stores.{Store}
-use Rattle.dd_nodes.proofs.Stores.{Keeps-refl}
+use Rattle.dd_nodes.proofs.Stores.{IsGood, Keeps-refl}
+use Rattle.dual_rail.proofs.Works.{refs_of}
+use Rattle.sym_step.proofs.Listed.{as_driven}
 use Rattle.dual_rail.specs.declared.rails.Rails.{Rails}
 use Rattle.dual_rail.specs.Rail.{AreRails, AreRefs}
 use Rattle.dual_rail.proofs.Turns.{zip_at, zip_long}
@@ -16,25 +18,27 @@ use Rattle.net_core.specs.declared.raw.Init.TheVariants.{Zero}
 use Rattle.net_core.specs.declared.raw.Latch.{Latch}
 use Rattle.net_core.specs.declared.raw.RawNet.{RawNet}
 use Rattle.net_core.specs.Flat.{IsInRange, HasOneDriver, IsSettledOrder}
-use Rattle.net_core.specs.Work.{ArePossibleEach, SymbolicCut, SymbolicSet, after_cuts, everything, uncut}
+use Rattle.net_core.specs.Work.{ArePossibleEach, SymbolicCut, SymbolicSet, after_cuts, everything, uncut, unless_weakened}
+use Rattle.net_core.specs.Possible.{is_weakened}
 use Rattle.sym_step.specs.declared.board.Board.{Board}
 use Rattle.sym_step.specs.declared.cut.Cut.{Cut}
 use Rattle.sym_step.specs.declared.frame.Frame.{Frame}
 use Rattle.sym_step.specs.declared.marks.Marks.{Marks}
 use Rattle.sym_step.specs.declared.latches.LatchSet.{LatchSet}
 use Rattle.gate_sets.specs.declared.net_rails.NetRails.{NetRails}
-use Rattle.sym_step.specs.Step.{IsCutBy}
+use Rattle.sym_step.specs.Step.{IsCutBy, ids_of}
+use Rattle.sym_step.specs.private.Demands.{nodes_of}
 use Rattle.sym_step.specs.private.Boards.{AreFull, Follows}
 use Rattle.sym_step.specs.Frame.{AreFirst, AreOpen, IsFrame, bare, first_or, input_rails, is_listed, nets_of, next_of}
 use Rattle.sym_step.specs.private.Frames.{AreCarried, AreReady, AreSpared, HaveLatches, IsCarried, StayRight}
-use Rattle.sym_step.specs.private.Latches.{AreGiven, AreLatchSets, Begins, HaveLatchSets, IsAmong, IsCopied, IsInPlace, IsLatchSet, IsSetOf}
+use Rattle.sym_step.specs.private.Latches.{AreGiven, AreLatchSets, Begins, HaveLatchSets, IsAmong, IsCopied, IsInPlace, IsLatchSet, IsSetOf, rails_unless}
 use Rattle.gate_sets.specs.NetSets.{AreNetRails, AreNetRefs, net_at}
 use Rattle.sym_step.specs.private.Parts.{asks}
 use Rattle.sym_step.specs.private.Readers.{AreMarked, AreReaders, IsBetween, driver_number, flag_at, number_of}
 use Rattle.sym_step.proofs.Framing.{next_first, spared_same, unlisted, unlisted_by}
 use Rattle.gate_sets.proofs.NetRefs.{net_by_rails}
 use Rattle.sym_step.proofs.Opened.{latch_before, latch_source, set_is}
-use Rattle.sym_step.proofs.Sourced.{unknown}
+use Rattle.sym_step.proofs.Sourced.{unknown, unknown_set}
 
 zeroth : Latch
 zeroth = record { input = record { 0 = 0 }; output = record { 0 = 0 }; init = Zero }
@@ -76,41 +80,56 @@ carried_follows net asked old new size f carried k d lt none =
 
 -- ---- the sets that the others get
 
+-- the rails of both bits are those of an unknown
+rails_unless_are : (s : Store) (b : Bool) (w : SymbolicSet) (r : Rails) → IsGood s → AreRails s w r → AreRails s (unless_weakened b w) (rails_unless b r)
+rails_unless_are s true w r good h = unknown_set s good
+rails_unless_are s false w r good h = h
+
+refs_unless : (s : Store) (b : Bool) (r : Rails) → IsGood s → AreRefs s r → AreRefs s (rails_unless b r)
+refs_unless s true r good h = refs_of s everything (rails_unless true r) (unknown_set s good)
+refs_unless s false r good h = h
+
 -- the sets are of nets, and held
-pub sets_held : (s : Store) (net : RawNet) (next : List Rails) (asked : List NodeId) (nets : List NetRails) (sets : List LatchSet) → IsInRange net → length nets ≡ net.nets → AreFirst s net next → All (AreNetRefs s) nets
-    → AreLatchSets net next asked nets sets → All (IsLatchSet s net) sets
-sets_held s net next asked nets sets range long first refs are j d lt =
+pub sets_held : (s : Store) (net : RawNet) (next : List Rails) (weak asked : List NodeId) (nets : List NetRails) (sets : List LatchSet) → IsGood s → IsInRange net → length nets ≡ net.nets → AreFirst s net next → All (AreNetRefs s) nets
+    → AreLatchSets net next weak asked nets sets → All (IsLatchSet s net) sets
+sets_held s net next weak asked nets sets good range long first refs are j d lt =
     let own = are.own j d lt in
     let inside : own.number < length next = let size = first.long in omega (arith, size, own.inside) in
     let input : ℕ = (get_or net.latches own.number zeroth).input.0 in
     record {
       output = subst (λ (node : NodeId). node.0 < net.nets) (own.output zeroth) (range.latch_outputs own.number zeroth own.inside);
-      rails = subst (AreRefs s) (own.rails no_rails) (first.refs own.number no_rails inside);
+      rails = subst (AreRefs s) (own.rails no_rails) (refs_unless s (is_weakened (ids_of weak) (get_or sets j d).output.0) (get_or next own.number no_rails) good (first.refs own.number no_rails inside));
       given = subst (AreNetRefs s) (own.given zeroth) (refs input unknown (subst (λ (n : ℕ). input < n) (sym long) (range.latch_inputs own.number zeroth own.inside)));
     }
 
-module _ (net : RawNet) (range : IsInRange net) (one : HasOneDriver net) (ls : List SymbolicSet) (ds : List SymbolicCut) (family : ℕ → SymbolicSet) where
+module _ (net : RawNet) (range : IsInRange net) (one : HasOneDriver net) (ls : List SymbolicSet) (weak : List NodeId) (ds : List SymbolicCut) (family : ℕ → SymbolicSet) where
   -- each set is what its net has before its cuts, and the latches that have none among them have theirs already
-  given_by : (s : Store) (next : List Rails) (cuts : List Cut) (asked : List NodeId) (nets : List NetRails) (sets : List LatchSet) → length next ≡ length net.latches → length nets ≡ net.nets → All (AreNetRefs s) nets
-      → AllZip (AreRails s) ls next → ArePossibleEach s.vars net ls (asks ds) family → AllZip (IsCutBy s) ds cuts → asked ≡ map (λ (c : Cut). c.node) cuts → AreLatchSets net next asked nets sets → AreGiven s net ls family sets nets
-  given_by s next cuts asked nets sets size long refs zip possible zipc is are = record {
+  given_by : (s : Store) (next : List Rails) (cuts : List Cut) (asked : List NodeId) (nets : List NetRails) (sets : List LatchSet) → IsGood s → length next ≡ length net.latches → length nets ≡ net.nets → All (AreNetRefs s) nets
+      → AllZip (AreRails s) ls next → ArePossibleEach s.vars net ls (asks weak ds) family → AllZip (IsCutBy s) ds cuts → asked ≡ nodes_of weak cuts → AreLatchSets net next weak asked nets sets → AreGiven s net weak ls family sets nets
+  given_by s next cuts asked nets sets good size long refs zip possible zipc is are = record {
     long = count;
     rails = λ j d lt.
         let own = are.own j d lt in
-        let before : uncut net ls family (get_or sets j d).output.0 ≡ get_or ls own.number everything =
-        ap (λ (node : NodeId). uncut net ls family node.0) (sym (own.output zeroth)) ∙ latch_before net one ls family own.number zeroth own.inside in
-        subst (λ (w : SymbolicSet). AreRails s w (get_or sets j d).rails) (sym before) (subst (AreRails s (get_or ls own.number everything)) (own.rails no_rails) (at own.number own.inside));
+        let out : ℕ = (get_or sets j d).output.0 in
+        let is_weak : Bool = is_weakened (ids_of weak) out in
+        let w : SymbolicSet = get_or ls own.number everything in
+        let before : uncut net (ids_of weak) ls family out ≡ unless_weakened is_weak w =
+        ap (λ (node : NodeId). uncut net (ids_of weak) ls family node.0) (sym (own.output zeroth))
+        ∙ latch_before net one (ids_of weak) ls family own.number zeroth own.inside
+        ∙ ap (λ (node : NodeId). unless_weakened (is_weakened (ids_of weak) node.0) w) (own.output zeroth) in
+        subst (λ (v : SymbolicSet). AreRails s v (get_or sets j d).rails) (sym before)
+        (subst (AreRails s (unless_weakened is_weak w)) (own.rails no_rails) (rails_unless_are s is_weak w (get_or next own.number no_rails) good (at own.number own.inside)));
     each = λ k d lt. elim (are.each k d lt) [
       | inl among ↦ inl among
       | inr own ↦
           let out : ℕ = (get_or net.latches k d).output.0 in
           let r : NetRails = net_at nets out in
           let w : SymbolicSet = get_or ls k everything in
-          let uncut_here : is_listed (map (λ (c : Cut). c.node) cuts) out ≡ false = subst (λ (ids : List NodeId). is_listed ids out ≡ false) is own.uncut in
-          let same : after_cuts ds (uncut net ls family) out ≡ w = unlisted s ds cuts out (uncut net ls family) zipc uncut_here ∙ latch_before net one ls family k d lt in
+          let uncut_here : is_listed (nodes_of weak cuts) out ≡ false = subst (λ (ids : List NodeId). is_listed ids out ≡ false) is own.uncut in
+          let same : after_cuts ds (uncut net (ids_of weak) ls family) out ≡ w = unlisted s ds weak cuts out (uncut net (ids_of weak) ls family) zipc uncut_here ∙ latch_before net one (ids_of weak) ls family k d lt ∙ as_driven weak cuts out w uncut_here in
           let held : AreRails s w (bare r) = subst (AreRails s w) (own.rails no_rails) (at k lt) in
           let here : AreNetRefs s r = refs out unknown (subst (λ (n : ℕ). out < n) (sym long) (range.latch_outputs k d lt)) in
-          inr (set_is net range one ls ds family count s s out r (Keeps-refl s) possible (subst (λ (x : SymbolicSet). AreNetRails s x r) (sym same) (net_by_rails s w r (bare r) refl refl here held)))
+          inr (set_is net range one ls weak ds family count s s out r (Keeps-refl s) possible (subst (λ (x : SymbolicSet). AreNetRails s x r) (sym same) (net_by_rails s w r (bare r) refl refl here held)))
     ];
   }
     where
@@ -121,9 +140,9 @@ module _ (net : RawNet) (range : IsInRange net) (one : HasOneDriver net) (ls : L
       at k lt = zip_at (AreRails s) ls next k everything no_rails zip (omega (arith, size, lt))
 
   -- the same of a frame
-  pub frame_given : (s : Store) (frame : Frame) (cuts : List Cut) (asked : List NodeId) (sets : List LatchSet) → IsFrame s net frame → AllZip (AreRails s) ls (next_of net frame) → ArePossibleEach s.vars net ls (asks ds) family → AllZip (IsCutBy s) ds cuts
-      → asked ≡ map (λ (c : Cut). c.node) cuts → AreLatchSets net (next_of net frame) asked frame.board.nets.items sets → AreGiven s net ls family sets frame.board.nets.items
-  frame_given s frame cuts asked sets f zip possible zipc is are = given_by s (next_of net frame) cuts asked frame.board.nets.items sets (next_first s net frame range f).long f.long f.refs zip possible zipc is are
+  pub frame_given : (s : Store) (frame : Frame) (cuts : List Cut) (asked : List NodeId) (sets : List LatchSet) → IsGood s → IsFrame s net frame → AllZip (AreRails s) ls (next_of net frame) → ArePossibleEach s.vars net ls (asks weak ds) family → AllZip (IsCutBy s) ds cuts
+      → asked ≡ nodes_of weak cuts → AreLatchSets net (next_of net frame) weak asked frame.board.nets.items sets → AreGiven s net weak ls family sets frame.board.nets.items
+  frame_given s frame cuts asked sets good f zip possible zipc is are = given_by s (next_of net frame) cuts asked frame.board.nets.items sets good (next_first s net frame range f).long f.long f.refs zip possible zipc is are
 
 -- a frame once the latches' sets have been read
 pub begins : (s : Store) (net : RawNet) (asked : List NodeId) (frame : Frame) (board : Board) → IsFrame s net frame → AreSpared s net asked frame.board → board.nets ≡ frame.board.nets → board.readers ≡ frame.board.readers → board.full ≡ frame.board.full → board.due.order ≡ frame.board.due.order
@@ -148,9 +167,9 @@ pub next_same : (net : RawNet) (old new : Frame) → new.first ≡ old.first →
 next_same net old new first nets = ap (λ (o : Option (List Rails)). first_or o (map (input_rails (nets_of new)) net.latches)) first ∙ ap (λ (v : Vec NetRails). first_or old.first (map (input_rails (map bare v.items)) net.latches)) nets
 
 -- where each of the sets is at its net, each latch has its own
-pub all_latches : (net : RawNet) (s u : Store) (ls : List SymbolicSet) (family : ℕ → SymbolicSet) (sets : List LatchSet) (xs ys : List NetRails) → AreGiven s net ls family sets xs → HaveLatchSets family u sets (length sets) ys → StayRight family s xs u ys
+pub all_latches : (net : RawNet) (s u : Store) (weak : List NodeId) (ls : List SymbolicSet) (family : ℕ → SymbolicSet) (sets : List LatchSet) (xs ys : List NetRails) → AreGiven s net weak ls family sets xs → HaveLatchSets family u sets (length sets) ys → StayRight family s xs u ys
     → HaveLatches net family u (length net.latches) ys
-all_latches net s u ls family sets xs ys given have stay k d lt inside = elim (given.each k d inside) [
+all_latches net s u weak ls family sets xs ys given have stay k d lt inside = elim (given.each k d inside) [
   | inl among ↦
       let z : LatchSet = record { output = record { 0 = 0 }; rails = no_rails; given = unknown } in
       subst (λ (i : ℕ). AreNetRails u (family i) (net_at ys i)) (among.output z) (have among.place z among.inside among.inside)
@@ -178,13 +197,13 @@ among_last sets set id is = record {
 }
 
 -- the set of the latch of this number
-pub own_set : (net : RawNet) (next : List Rails) (nets : List NetRails) (n : ℕ) (latch : Latch) (set : LatchSet) → n < length net.latches → latch ≡ get_or net.latches n latch → set.output ≡ latch.output → ((d : Rails) → get_or next n d ≡ set.rails)
-    → net_at nets latch.input.0 ≡ set.given → IsSetOf net next nets set
-own_set net next nets n latch set lt is output rails given = record {
+pub own_set : (net : RawNet) (next : List Rails) (weak : List NodeId) (nets : List NetRails) (n : ℕ) (latch : Latch) (set : LatchSet) → n < length net.latches → latch ≡ get_or net.latches n latch → set.output ≡ latch.output → ((d : Rails) → rails_unless (is_weakened (ids_of weak) latch.output.0) (get_or next n d) ≡ set.rails)
+    → net_at nets latch.input.0 ≡ set.given → IsSetOf net next weak nets set
+own_set net next weak nets n latch set lt is output rails given = record {
   number = n;
   inside = lt;
   output = λ d. ap (λ (x : Latch). x.output) (latch_at net.latches n latch d lt is) ∙ sym output;
-  rails = rails;
+  rails = λ d. ap (λ (node : NodeId). rails_unless (is_weakened (ids_of weak) node.0) (get_or next n d)) output ∙ rails d;
   given = λ d. ap (λ (x : Latch). net_at nets x.input.0) (latch_at net.latches n latch d lt is) ∙ given;
 }
 
@@ -200,10 +219,10 @@ abbrev pub Grows : Option LatchSet → List LatchSet → List LatchSet → Type 
 Grows result sets new = ((set : LatchSet) × (result ≡ Some set) × (new ≡ sets ++ set ∷ [])) ⊎ ((result ≡ None) × (new ≡ sets))
 
 -- each set that is added is that of a latch
-pub own_next : (net : RawNet) (next : List Rails) (nets : List NetRails) (result : Option LatchSet) (sets new : List LatchSet) → Grows result sets new → ((set : LatchSet) → result ≡ Some set → IsSetOf net next nets set)
-    → All (IsSetOf net next nets) sets → All (IsSetOf net next nets) new
-own_next net next nets result sets new (inl (set, is, more)) here own = subst (All (IsSetOf net next nets)) (sym more) (All-push (IsSetOf net next nets) sets set own (here set is))
-own_next net next nets result sets new (inr (none, same)) here own = subst (All (IsSetOf net next nets)) (sym same) own
+pub own_next : (net : RawNet) (next : List Rails) (weak : List NodeId) (nets : List NetRails) (result : Option LatchSet) (sets new : List LatchSet) → Grows result sets new → ((set : LatchSet) → result ≡ Some set → IsSetOf net next weak nets set)
+    → All (IsSetOf net next weak nets) sets → All (IsSetOf net next weak nets) new
+own_next net next weak nets result sets new (inl (set, is, more)) here own = subst (All (IsSetOf net next weak nets)) (sym more) (All-push (IsSetOf net next weak nets) sets set own (here set is))
+own_next net next weak nets result sets new (inr (none, same)) here own = subst (All (IsSetOf net next weak nets)) (sym same) own
 
 -- the first latches have a set each, or theirs already
 abbrev HasPlace : RawNet → List Rails → List NodeId → List NetRails → List LatchSet → ℕ → Latch → Type 0

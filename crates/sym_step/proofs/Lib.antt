@@ -1,3 +1,4 @@
+pub mod Listed
 pub mod CutLists
 pub mod Cutting
 pub mod Turning

@@ -5,7 +5,7 @@ use Rattle.std.specs.Prelude.{IfSome, OnOk, AllPairs}
 use Rattle.std.specs.List.{AllZip}
 use Rattle.std.proofs.lemmas.Bool.{cases_eq, cases_lt, false≢true}
 use Rattle.std.proofs.lemmas.List.{get_or_default, length-replicate}
-use Rattle.std.proofs.lemmas.List.Elements.{All-nil, All-cons, All-head, All-tail}
+use Rattle.std.proofs.lemmas.List.Elements.{All-append, All-nil, All-cons, All-head, All-tail}
 use Rattle.ste_base.specs.declared.id.NodeId.{NodeId}
 use Rattle.dd_nodes.specs.Stores.{Store, Keeps}
 use Rattle.dd_nodes.proofs.Stores.{IsGood, Keeps-refl}
@@ -16,11 +16,13 @@ use Rattle.net_core.specs.declared.source.Source.{Source}
 use Rattle.net_core.specs.declared.source.Source.TheVariants.{Input, Free, Gate as OfGate, Latch as OfLatch}
 use Rattle.net_core.specs.Flat.{IsInRange, HasOneDriver, IsSettledOrder}
 use Rattle.net_core.specs.Source.{source_of}
-use Rattle.net_core.specs.Work.{ArePossibleEach, SymbolicCut, SymbolicSet, after_cuts, everything, uncut}
+use Rattle.net_core.specs.Possible.{is_weakened}
+use Rattle.net_core.specs.Work.{ArePossibleEach, SymbolicCut, SymbolicSet, after_cuts, everything, uncut, unless_weakened}
 use Rattle.net_core.proofs.OneTime.{Facts, fixed}
 use Rattle.sym_step.specs.declared.cut.Cut.{Cut}
 use Rattle.gate_sets.specs.declared.net_rails.NetRails.{NetRails}
-use Rattle.sym_step.specs.Step.{IsCutBy}
+use Rattle.sym_step.specs.Step.{IsCutBy, ids_of}
+use Rattle.sym_step.specs.private.Demands.{nodes_of}
 use Rattle.sym_step.specs.declared.frame.Frame.{Frame}
 use Rattle.sym_step.specs.Frame.{AreOpen, IsFrame, IsOpen, is_listed, mark_count}
 use Rattle.sym_step.specs.private.Frames.{HaveLatches, HaveOpen, StayRight}
@@ -30,6 +32,7 @@ use Rattle.sym_step.specs.private.Readers.{AreReaders, flag_at}
 use Rattle.gate_sets.specs.NetSets.{AreNetRails, AreNetRefs, net_at}
 use Rattle.sym_step.specs.private.Parts.{HaveNets, HaveSources, asks}
 use Rattle.sym_step.proofs.Framing.{listed_at, not_first, unlisted}
+use Rattle.sym_step.proofs.Listed.{unless_both}
 use Rattle.gate_sets.proofs.NetRefs.{Net-keeps}
 use Rattle.sym_step.proofs.Sourced.{all_unknown, before_by, known, unknown, unknown_net}
 use Rattle.sym_step.proofs.Turning.{Net-same}
@@ -40,9 +43,13 @@ ok_then (Ok a) f h = f h
 ok_then (Err e) f h = tt
 
 -- the nets of cuts are nets
-pub nodes_inside : (n : ℕ) (cuts : List Cut) → All (λ c. c.node.0 < n) cuts → All (λ node. node.0 < n) (map (λ (c : Cut). c.node) cuts)
-nodes_inside n [] h = All-nil (λ (node : NodeId). node.0 < n)
-nodes_inside n (c ∷ cs) h = All-cons (λ (node : NodeId). node.0 < n) c.node (map (λ (x : Cut). x.node) cs) (All-head (λ (x : Cut). x.node.0 < n) c cs h) (nodes_inside n cs (All-tail (λ (x : Cut). x.node.0 < n) c cs h))
+cut_nodes_inside : (n : ℕ) (cuts : List Cut) → All (λ c. c.node.0 < n) cuts → All (λ node. node.0 < n) (map (λ (c : Cut). c.node) cuts)
+cut_nodes_inside n [] h = All-nil (λ (node : NodeId). node.0 < n)
+cut_nodes_inside n (c ∷ cs) h = All-cons (λ (node : NodeId). node.0 < n) c.node (map (λ (x : Cut). x.node) cs) (All-head (λ (x : Cut). x.node.0 < n) c cs h) (cut_nodes_inside n cs (All-tail (λ (x : Cut). x.node.0 < n) c cs h))
+
+-- those of which something is asked are nets
+pub nodes_inside : (n : ℕ) (weak : List NodeId) (cuts : List Cut) → All (λ node. node.0 < n) weak → All (λ c. c.node.0 < n) cuts → All (λ node. node.0 < n) (nodes_of weak cuts)
+nodes_inside n weak cuts w h = All-append (λ (node : NodeId). node.0 < n) weak (map (λ (c : Cut). c.node) cuts) w (cut_nodes_inside n cuts h)
 
 at_replicate : {X : Type 0} (n k : ℕ) (x d : X) → k < n → get_or (replicate n x) k d ≡ x
 at_replicate zero k x d lt = absurd (omega (arith, lt))
@@ -98,8 +105,9 @@ latch_source net one k d lt = by (source_of net id) refl
         sym e ∙ ap OfLatch (one_latch net.latches one.latches l k d f.0 lt (f.1 d))
 
 -- the set of a latch's output before its cuts
-pub latch_before : (net : RawNet) → HasOneDriver net → (ls : List SymbolicSet) (sets : ℕ → SymbolicSet) (l : ℕ) (d : Latch) → l < length net.latches → uncut net ls sets (get_or net.latches l d).output.0 ≡ get_or ls l everything
-latch_before net one ls sets l d lt = before_by net ls sets (get_or net.latches l d).output.0 (OfLatch l) (sym (latch_source net one l d lt))
+pub latch_before : (net : RawNet) → HasOneDriver net → (weak : List ℕ) (ls : List SymbolicSet) (sets : ℕ → SymbolicSet) (l : ℕ) (d : Latch) → l < length net.latches
+    → uncut net weak ls sets (get_or net.latches l d).output.0 ≡ unless_weakened (is_weakened weak (get_or net.latches l d).output.0) (get_or ls l everything)
+latch_before net one weak ls sets l d lt = before_by net weak ls sets (get_or net.latches l d).output.0 (OfLatch l) (sym (latch_source net one l d lt))
 
 -- ---- one net is written
 
@@ -144,31 +152,31 @@ open_next net sets t u ids nets new n node is have stay here k d lt inside open_
 
 -- ---- all nets that no gate drives
 
-module _ (net : RawNet) (range : IsInRange net) (one : HasOneDriver net) (ls : List SymbolicSet) (ds : List SymbolicCut) (sets : ℕ → SymbolicSet) (long : length ls ≡ length net.latches) where
+module _ (net : RawNet) (range : IsInRange net) (one : HasOneDriver net) (ls : List SymbolicSet) (weak : List NodeId) (ds : List SymbolicCut) (sets : ℕ → SymbolicSet) (long : length ls ≡ length net.latches) where
   -- the set behind the cuts is that of the family
-  pub set_is : (s u : Store) (id : ℕ) (r : NetRails) → Keeps s u → ArePossibleEach s.vars net ls (asks ds) sets → AreNetRails u (after_cuts ds (uncut net ls sets) id) r → AreNetRails u (sets id) r
-  set_is s u id r k family h = Net-same u (after_cuts ds (uncut net ls sets) id) (sets id) r (λ bits l. fixed net s.vars ls (asks ds) sets bits range one long family (l ∙ k.vars) id) h
+  pub set_is : (s u : Store) (id : ℕ) (r : NetRails) → Keeps s u → ArePossibleEach s.vars net ls (asks weak ds) sets → AreNetRails u (after_cuts ds (uncut net (ids_of weak) ls sets) id) r → AreNetRails u (sets id) r
+  set_is s u id r k family h = Net-same u (after_cuts ds (uncut net (ids_of weak) ls sets) id) (sets id) r (λ bits l. fixed net s.vars ls (asks weak ds) sets bits range one long family (l ∙ k.vars) id) h
 
-  pub set_was : (s u : Store) (id : ℕ) (r : NetRails) → Keeps s u → ArePossibleEach s.vars net ls (asks ds) sets → AreNetRails u (sets id) r → AreNetRails u (after_cuts ds (uncut net ls sets) id) r
-  set_was s u id r k family h = Net-same u (sets id) (after_cuts ds (uncut net ls sets) id) r (λ bits l. sym (fixed net s.vars ls (asks ds) sets bits range one long family (l ∙ k.vars) id)) h
+  pub set_was : (s u : Store) (id : ℕ) (r : NetRails) → Keeps s u → ArePossibleEach s.vars net ls (asks weak ds) sets → AreNetRails u (sets id) r → AreNetRails u (after_cuts ds (uncut net (ids_of weak) ls sets) id) r
+  set_was s u id r k family h = Net-same u (sets id) (after_cuts ds (uncut net (ids_of weak) ls sets) id) r (λ bits l. sym (fixed net s.vars ls (asks weak ds) sets bits range one long family (l ∙ k.vars) id)) h
 
-  open_before : (id : ℕ) → IsOpen net id → uncut net ls sets id ≡ everything
-  open_before id (inl e) = before_by net ls sets id Input (sym e)
-  open_before id (inr e) = before_by net ls sets id Free (sym e)
+  open_before : (id : ℕ) → IsOpen net id → uncut net (ids_of weak) ls sets id ≡ everything
+  open_before id (inl e) = before_by net (ids_of weak) ls sets id Input (sym e) ∙ unless_both (is_weakened (ids_of weak) id)
+  open_before id (inr e) = before_by net (ids_of weak) ls sets id Free (sym e) ∙ unless_both (is_weakened (ids_of weak) id)
 
-  -- a net that is not cut now is among those that are left where it was among the old ones
+  -- a net of which nothing is asked now is among those that are left where it was among the old ones
   abbrev IsLeft : List NodeId → List NodeId → List NodeId → Type 0
   IsLeft asked old before = (id : ℕ) → is_listed asked id ≡ false → is_listed before id ≡ is_listed old id
 
   -- a net that nothing drives, now or before
-  open_has : (s t u v : Store) (cuts : List Cut) (old before : List NodeId) (xs ys zs ws : List NetRails) → IsGood s → IsGood v → Keeps s t → ArePossibleEach s.vars net ls (asks ds) sets → AllZip (IsCutBy s) ds cuts
-      → AreOpen s net old xs → IsLeft (map (λ (c : Cut). c.node) cuts) old before → StayRight sets s xs t ys → HaveOpen net sets u before (length before) zs → StayRight sets t ys u zs
-      → HaveOpen net sets v (map (λ (c : Cut). c.node) cuts) (length (map (λ (c : Cut). c.node) cuts)) ws → StayRight sets u zs v ws → (id : ℕ) → id < net.nets → IsOpen net id → AreNetRails v (sets id) (net_at ws id)
+  open_has : (s t u v : Store) (cuts : List Cut) (old before : List NodeId) (xs ys zs ws : List NetRails) → IsGood s → IsGood v → Keeps s t → ArePossibleEach s.vars net ls (asks weak ds) sets → AllZip (IsCutBy s) ds cuts
+      → AreOpen s net old xs → IsLeft (nodes_of weak cuts) old before → StayRight sets s xs t ys → HaveOpen net sets u before (length before) zs → StayRight sets t ys u zs
+      → HaveOpen net sets v (nodes_of weak cuts) (length (nodes_of weak cuts)) ws → StayRight sets u zs v ws → (id : ℕ) → id < net.nets → IsOpen net id → AreNetRails v (sets id) (net_at ws id)
   open_has s t u v cuts old before xs ys zs ws gs gv kst family zip was left to_t have_before to_u have_now to_v id lt is =
       by (is_listed asked id) refl (is_listed before id) refl
     where
       asked : List NodeId
-      asked = map (λ (c : Cut). c.node) cuts
+      asked = nodes_of weak cuts
 
       d0 : NodeId
       d0 = record { 0 = 0 }
@@ -181,12 +189,12 @@ module _ (net : RawNet) (range : IsInRange net) (one : HasOneDriver net) (ls : L
           let at = listed_at before id f in
           to_v id (subst (λ (i : ℕ). AreNetRails u (sets i) (net_at zs i)) (at.2 d0) (have_before at.0 d0 at.1 at.1 (subst (IsOpen net) (sym (at.2 d0)) is)))
       by false e false f =
-          let here : AreNetRails s (after_cuts ds (uncut net ls sets) id) (net_at xs id) = subst (λ (w : SymbolicSet). AreNetRails s w (net_at xs id)) (sym (unlisted s ds cuts id (uncut net ls sets) zip e ∙ open_before id is)) (was id lt is (sym (left id e) ∙ f)) in
+          let here : AreNetRails s (after_cuts ds (uncut net (ids_of weak) ls sets) id) (net_at xs id) = subst (λ (w : SymbolicSet). AreNetRails s w (net_at xs id)) (sym (unlisted s ds weak cuts id (uncut net (ids_of weak) ls sets) zip e ∙ open_before id is)) (was id lt is (sym (left id e) ∙ f)) in
           to_v id (to_u id (to_t id (set_is s s id (net_at xs id) (Keeps-refl s) family here)))
 
-  pub all_sources : (s t u v : Store) (cuts : List Cut) (old before : List NodeId) (xs ys zs ws : List NetRails) → IsGood s → IsGood v → Keeps s t → ArePossibleEach s.vars net ls (asks ds) sets → AllZip (IsCutBy s) ds cuts
-      → AreOpen s net old xs → IsLeft (map (λ (c : Cut). c.node) cuts) old before → HaveLatches net sets t (length net.latches) ys → StayRight sets s xs t ys → HaveOpen net sets u before (length before) zs → StayRight sets t ys u zs
-      → HaveOpen net sets v (map (λ (c : Cut). c.node) cuts) (length (map (λ (c : Cut). c.node) cuts)) ws → StayRight sets u zs v ws → HaveSources net sets v net.nets ws
+  pub all_sources : (s t u v : Store) (cuts : List Cut) (old before : List NodeId) (xs ys zs ws : List NetRails) → IsGood s → IsGood v → Keeps s t → ArePossibleEach s.vars net ls (asks weak ds) sets → AllZip (IsCutBy s) ds cuts
+      → AreOpen s net old xs → IsLeft (nodes_of weak cuts) old before → HaveLatches net sets t (length net.latches) ys → StayRight sets s xs t ys → HaveOpen net sets u before (length before) zs → StayRight sets t ys u zs
+      → HaveOpen net sets v (nodes_of weak cuts) (length (nodes_of weak cuts)) ws → StayRight sets u zs v ws → HaveSources net sets v net.nets ws
   all_sources s t u v cuts old before xs ys zs ws gs gv kst family zip was left latches to_t have_before to_u have_now to_v id lt source = by (source_of net id) refl
     where
       by : (src : Source) → src ≡ source_of net id → AreNetRails v (sets id) (net_at ws id)
@@ -198,9 +206,9 @@ module _ (net : RawNet) (range : IsInRange net) (one : HasOneDriver net) (ls : L
           let d : Latch = record { input = record { 0 = 0 }; output = record { 0 = 0 }; init = Zero } in
           to_v id (to_u id (subst (λ (i : ℕ). AreNetRails t (sets i) (net_at ys i)) (f.1 d) (latches l d f.0 f.0)))
 
-  -- at the end of a time each net that nothing drives and that was not cut has both bits
-  pub undriven_here : (s u : Store) (cuts : List Cut) (ids : List NodeId) (nets : List NetRails) → Keeps s u → ArePossibleEach s.vars net ls (asks ds) sets → AllZip (IsCutBy s) ds cuts → ids ≡ map (λ (c : Cut). c.node) cuts
+  -- at the end of a time each net that nothing drives and of which nothing was asked has both bits
+  pub undriven_here : (s u : Store) (cuts : List Cut) (ids : List NodeId) (nets : List NetRails) → Keeps s u → ArePossibleEach s.vars net ls (asks weak ds) sets → AllZip (IsCutBy s) ds cuts → ids ≡ nodes_of weak cuts
       → HaveNets net sets u nets → AreOpen u net ids nets
   undriven_here s u cuts ids nets k family zip are have id lt is none =
-      let same : after_cuts ds (uncut net ls sets) id ≡ everything = unlisted s ds cuts id (uncut net ls sets) zip (ap (λ (xs : List NodeId). is_listed xs id) (sym are) ∙ none) ∙ open_before id is in
+      let same : after_cuts ds (uncut net (ids_of weak) ls sets) id ≡ everything = unlisted s ds weak cuts id (uncut net (ids_of weak) ls sets) zip (ap (λ (xs : List NodeId). is_listed xs id) (sym are) ∙ none) ∙ open_before id is in
       subst (λ (w : SymbolicSet). AreNetRails u w (net_at nets id)) same (set_was s u id (net_at nets id) k family (have id lt))

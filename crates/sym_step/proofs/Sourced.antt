@@ -19,13 +19,15 @@ use Rattle.net_core.specs.declared.source.Source.{Source}
 use Rattle.net_core.specs.declared.source.Source.TheVariants.{Gate as OfGate}
 use Rattle.net_core.specs.Flat.{IsInRange, HasOneDriver, IsSettledOrder}
 use Rattle.net_core.specs.Source.{source_of}
-use Rattle.net_core.specs.Work.{SymbolicSet, SymbolicCut, uncut, by_source, everything, cuts_work, time_work, gates_work, first_sets, some_bit, no_bit, some_empty, sums}
+use Rattle.net_core.specs.Possible.{is_weakened}
+use Rattle.net_core.specs.Work.{SymbolicSet, SymbolicCut, uncut, unless_weakened, by_source, everything, cuts_work, time_work, gates_work, first_sets, some_bit, no_bit, some_empty, sums}
 use Rattle.net_core.proofs.Ordered.{place_of}
 use Rattle.dual_rail.specs.declared.rails.Rails.{Rails}
 use Rattle.dual_rail.specs.Rail.{AreRails}
 use Rattle.dual_rail.proofs.Works.{Within}
 use Rattle.dd_nodes.proofs.Spending.{one_means}
-use Rattle.sym_step.specs.Step.{IsStep, HaveSets, rails_at}
+use Rattle.ste_base.specs.declared.id.NodeId.{NodeId}
+use Rattle.sym_step.specs.Step.{IsStep, HaveSets, ids_of, rails_at}
 use Rattle.net_core.proofs.OneTime.{Facts, facts}
 use Rattle.sym_step.proofs.Turning.{length-first_sets, first_sets-at}
 
@@ -48,8 +50,8 @@ all_unknown s (suc n) d = All-cons (AreNetRefs s) unknown (replicate n unknown) 
 pub known : (net : RawNet) → HasOneDriver net → (id : ℕ) (src : Source) → src ≡ source_of net id → Facts net id src
 known net one id src e = subst (Facts net id) (sym e) (facts net one id)
 
-pub before_by : (net : RawNet) (ls : List SymbolicSet) (sets : ℕ → SymbolicSet) (id : ℕ) (src : Source) → src ≡ source_of net id → uncut net ls sets id ≡ by_source net ls sets src
-before_by net ls sets id src e = ap (by_source net ls sets) (sym e)
+pub before_by : (net : RawNet) (weak : List ℕ) (ls : List SymbolicSet) (sets : ℕ → SymbolicSet) (id : ℕ) (src : Source) → src ≡ source_of net id → uncut net weak ls sets id ≡ unless_weakened (is_weakened weak id) (by_source net ls sets src)
+before_by net weak ls sets id src e = ap (λ (x : Source). unless_weakened (is_weakened weak id) (by_source net ls sets x)) (sym e)
 
 -- before any gate is placed
 pub to_gates : (net : RawNet) (order : List ℕ) (sets : ℕ → SymbolicSet) (t : Store) (rails : List NetRails) → HasOneDriver net → IsSettledOrder net order → HaveSources net sets t net.nets rails → HaveGates net order sets t 0 rails
@@ -60,16 +62,16 @@ to_gates net order sets t rails one is_order have id inside none = have id insid
     none place.0 d0 (omega arith) place.1 (ap (λ (j : ℕ). (get_or net.gates j d0).output.0) place.2 ∙ f.1 d0))
 
 -- the work of the cuts is among that of the time
-pub cuts_within : (net : RawNet) (ls : List SymbolicSet) (ds : List SymbolicCut) (sets : ℕ → SymbolicSet) → Within (cuts_work ds (uncut net ls sets)) (time_work net ls (asks ds) sets)
-cuts_within net ls ds sets x h =
+pub cuts_within : (net : RawNet) (weak : List NodeId) (ls : List SymbolicSet) (ds : List SymbolicCut) (sets : ℕ → SymbolicSet) → Within (cuts_work ds (uncut net (ids_of weak) ls sets)) (time_work net ls (asks weak ds) sets)
+cuts_within net weak ls ds sets x h =
     let all : List SymbolicSet = first_sets sets net.nets in
-    Contains-append_left (cuts_work ds (uncut net ls sets)) (gates_work net sets net.gates ++ (map some_bit all ++ (map no_bit all ++ sums (map no_bit all)))) x h
+    Contains-append_left (cuts_work ds (uncut net (ids_of weak) ls sets)) (gates_work net (ids_of weak) sets net.gates ++ (map some_bit all ++ (map no_bit all ++ sums (map no_bit all)))) x h
 
-pub empties_within : (net : RawNet) (ls : List SymbolicSet) (ds : List SymbolicCut) (sets : ℕ → SymbolicSet) → let all = first_sets sets net.nets in Within (map some_bit all ++ (map no_bit all ++ sums (map no_bit all))) (time_work net ls (asks ds) sets)
-empties_within net ls ds sets x h =
+pub empties_within : (net : RawNet) (weak : List ℕ) (ls : List SymbolicSet) (ds : List SymbolicCut) (sets : ℕ → SymbolicSet) → let all = first_sets sets net.nets in Within (map some_bit all ++ (map no_bit all ++ sums (map no_bit all))) (time_work net ls (record { cuts = ds; weak = weak }) sets)
+empties_within net weak ls ds sets x h =
     let all : List SymbolicSet = first_sets sets net.nets in
     let rest : _ = map some_bit all ++ (map no_bit all ++ sums (map no_bit all)) in
-    Contains-append_right (cuts_work ds (uncut net ls sets)) (gates_work net sets net.gates ++ rest) x (Contains-append_right (gates_work net sets net.gates) rest x h)
+    Contains-append_right (cuts_work ds (uncut net weak ls sets)) (gates_work net weak sets net.gates ++ rest) x (Contains-append_right (gates_work net weak sets net.gates) rest x h)
 
 zip_from : (s : Store) (ws : List SymbolicSet) (rails : List NetRails) → length ws ≡ length rails → ((k : ℕ) (d : SymbolicSet) (e : NetRails) → k < length ws → AreNetRails s (get_or ws k d) (get_or rails k e)) → AllZip (AreNetRails s) ws rails
 zip_from s [] [] l h = tt

@@ -1,5 +1,8 @@
 -- One turn of the loop over the gates in settled order.
-use Rattle.sym_step.specs.private.Parts.{HaveGates, asks}
+use Rattle.sym_step.specs.private.Parts.{HaveGates, asks, placed_set, placed_work}
+use Rattle.sym_step.specs.Step.{ids_of}
+use Rattle.ste_base.specs.declared.id.NodeId.{NodeId}
+use Rattle.net_core.specs.Possible.{is_weakened}
 use Rattle.std.proofs.Common.{◌≡◌, ◌≢◌, ℕ, zero, suc, ◌+◌, ◌<◌, Bool, List, [], ◌∷◌, ◌++◌, length, map, get_or, set, sym, ◌∙◌, ap, subst, arith, inl, inr, Result, All, length-set, get_or-set_same, get_or-set_other, refl, false}
 use Rattle.std.specs.Prelude.{slice_get}
 use Rattle.std.specs.List.{AllZip}
@@ -18,7 +21,7 @@ use Rattle.net_core.specs.declared.raw.RawNet.{RawNet}
 use Rattle.net_core.specs.declared.source.Source.TheVariants.{Gate as OfGate}
 use Rattle.net_core.specs.Flat.{IsInRange, HasOneDriver, IsSettledOrder}
 use Rattle.net_core.specs.Source.{source_of}
-use Rattle.net_core.specs.Work.{SymbolicSet, SymbolicCut, set_at, after_cuts, by_source, by_gate, uncut, cover_work, cuts_work, gates_work, output_set, input_sets, time_work, first_sets, some_bit, no_bit, sums}
+use Rattle.net_core.specs.Work.{SymbolicSet, SymbolicCut, set_at, after_cuts, by_source, by_gate, one_gate_work, uncut, unless_weakened, cuts_work, gates_work, output_set, time_work, first_sets, some_bit, no_bit, sums}
 use Rattle.gate_sets.specs.declared.net_rails.NetRails.{NetRails}
 use Rattle.gate_sets.specs.NetSets.{AreNetRails, AreNetRefs, net_at}
 use Rattle.gate_sets.proofs.NetRefs.{Net-keeps}
@@ -40,10 +43,11 @@ use Rattle.sym_step.proofs.Cutting.{Demands-keep}
 use Rattle.net_core.proofs.OneTime.{fixed, gate_source}
 
 -- what one gate builds is among the work of the time
-gates_has : (net : RawNet) (sets : ℕ → SymbolicSet) (gates : List Gate) (k : ℕ) (d : Gate) → k < length gates → Within (cover_work (slice_get net.covers (get_or gates k d).cover) (input_sets sets (get_or gates k d))) (gates_work net sets gates)
-gates_has net sets [] k d lt = absurd (omega arith)
-gates_has net sets (g ∷ gs) zero d lt = λ x h. Contains-append_left (cover_work (slice_get net.covers g.cover) (input_sets sets g)) (gates_work net sets gs) x h
-gates_has net sets (g ∷ gs) (suc k) d lt = λ x h. Contains-append_right (cover_work (slice_get net.covers g.cover) (input_sets sets g)) (gates_work net sets gs) x (gates_has net sets gs k d (omega arith) x h)
+gates_has : (net : RawNet) (weak : List ℕ) (sets : ℕ → SymbolicSet) (gates : List Gate) (k : ℕ) (d : Gate) → k < length gates
+    → Within (one_gate_work (is_weakened weak (get_or gates k d).output.0) net sets (get_or gates k d)) (gates_work net weak sets gates)
+gates_has net weak sets [] k d lt = absurd (omega arith)
+gates_has net weak sets (g ∷ gs) zero d lt = λ x h. Contains-append_left (one_gate_work (is_weakened weak g.output.0) net sets g) (gates_work net weak sets gs) x h
+gates_has net weak sets (g ∷ gs) (suc k) d lt = λ x h. Contains-append_right (one_gate_work (is_weakened weak g.output.0) net sets g) (gates_work net weak sets gs) x (gates_has net weak sets gs k d (omega arith) x h)
 
 -- equal under each assignment of the store's variables
 pub Net-same : (u : Store) (v w : SymbolicSet) (r : NetRails) → ((bits : List Bool) → length bits ≡ u.vars → set_at bits v ≡ set_at bits w) → AreNetRails u v r → AreNetRails u w r
@@ -74,27 +78,27 @@ first_sets-at sets (suc n) k d lt =
     ]
 
 module _ (net : RawNet) (order : List ℕ) (range : IsInRange net) (one : HasOneDriver net) (is_order : IsSettledOrder net order)
-    (ls : List SymbolicSet) (ds : List SymbolicCut) (sets : ℕ → SymbolicSet) (long : length ls ≡ length net.latches) where
+    (ls : List SymbolicSet) (weak : List NodeId) (ds : List SymbolicCut) (sets : ℕ → SymbolicSet) (long : length ls ≡ length net.latches) where
   abbrev pub work : List Function
-  work = time_work net ls (asks ds) sets
+  work = time_work net ls (asks weak ds) sets
 
   abbrev pub before : ℕ → SymbolicSet
-  before = uncut net ls sets
+  before = uncut net (ids_of weak) ls sets
 
   -- the set before cuts at a gate's output
-  pub before_is : (k : ℕ) (gate : Gate) → k < length net.gates → gate ≡ get_or net.gates k gate → before gate.output.0 ≡ output_set net sets gate
+  pub before_is : (k : ℕ) (gate : Gate) → k < length net.gates → gate ≡ get_or net.gates k gate → before gate.output.0 ≡ placed_set weak net sets gate
   before_is k gate lt is =
       let source : source_of net gate.output.0 ≡ OfGate k = ap (λ (x : Gate). source_of net x.output.0) is ∙ gate_source net one k gate lt in
-      ap (by_source net ls sets) source ∙ ap (by_gate net sets) (slice_get-get_or net.gates k gate lt) ∙ ap (output_set net sets) (sym is)
+      ap (unless_weakened (is_weakened (ids_of weak) gate.output.0)) (ap (by_source net ls sets) source ∙ ap (by_gate net sets) (slice_get-get_or net.gates k gate lt) ∙ ap (output_set net sets) (sym is))
 
-  gate_within : (k : ℕ) (gate : Gate) → k < length net.gates → gate ≡ get_or net.gates k gate → Within (cover_work (slice_get net.covers gate.cover) (input_sets sets gate) ++ cuts_work ds before) work
+  gate_within : (k : ℕ) (gate : Gate) → k < length net.gates → gate ≡ get_or net.gates k gate → Within (placed_work weak net sets gate ++ cuts_work ds before) work
   gate_within k gate lt is x has = ⊎_elim
-      (λ (h : Contains (cover_work (slice_get net.covers gate.cover) (input_sets sets gate)) x).
-      let h' : Contains (cover_work (slice_get net.covers (get_or net.gates k gate).cover) (input_sets sets (get_or net.gates k gate))) x = subst (λ (y : Gate). Contains (cover_work (slice_get net.covers y.cover) (input_sets sets y)) x) is h in
-      Contains-append_right (cuts_work ds (uncut net ls sets)) (gates_work net sets net.gates ++ rest) x
-      (Contains-append_left (gates_work net sets net.gates) rest x (gates_has net sets net.gates k gate lt x h')))
-      (λ (h : Contains (cuts_work ds (uncut net ls sets)) x). Contains-append_left (cuts_work ds (uncut net ls sets)) (gates_work net sets net.gates ++ rest) x h)
-      (Contains-append_cases (cover_work (slice_get net.covers gate.cover) (input_sets sets gate)) (cuts_work ds (uncut net ls sets)) x has)
+      (λ (h : Contains (placed_work weak net sets gate) x).
+      let h' : Contains (placed_work weak net sets (get_or net.gates k gate)) x = subst (λ (y : Gate). Contains (placed_work weak net sets y) x) is h in
+      Contains-append_right (cuts_work ds (uncut net (ids_of weak) ls sets)) (gates_work net (ids_of weak) sets net.gates ++ rest) x
+      (Contains-append_left (gates_work net (ids_of weak) sets net.gates) rest x (gates_has net (ids_of weak) sets net.gates k gate lt x h')))
+      (λ (h : Contains (cuts_work ds (uncut net (ids_of weak) ls sets)) x). Contains-append_left (cuts_work ds (uncut net (ids_of weak) ls sets)) (gates_work net (ids_of weak) sets net.gates ++ rest) x h)
+      (Contains-append_cases (placed_work weak net sets gate) (cuts_work ds (uncut net (ids_of weak) ls sets)) x has)
     where
       all : List SymbolicSet
       all = first_sets sets net.nets
@@ -103,7 +107,7 @@ module _ (net : RawNet) (order : List ℕ) (range : IsInRange net) (one : HasOne
       rest = map some_bit all ++ (map no_bit all ++ sums (map no_bit all))
 
   -- where a net has a bit is one of the functions
-  pub some_covered : (v id : ℕ) → ArePossibleEach v net ls (asks ds) sets → id < net.nets → Has v work (some_bit (after_cuts ds before id))
+  pub some_covered : (v id : ℕ) → ArePossibleEach v net ls (asks weak ds) sets → id < net.nets → Has v work (some_bit (after_cuts ds before id))
   some_covered v id family inside =
       let all : List SymbolicSet = first_sets sets net.nets in
       let n = length-first_sets sets net.nets in
@@ -111,12 +115,12 @@ module _ (net : RawNet) (order : List ℕ) (range : IsInRange net) (one : HasOne
       let d : SymbolicSet = record { zero = λ bits. false; one = λ bits. false } in
       let member : Contains (map some_bit all) (some_bit (sets id)) = subst (λ (w : SymbolicSet). Contains (map some_bit all) (some_bit w)) (first_sets-at sets net.nets id d inside) (some_bit-has all id d (omega (arith, n, inside))) in (
         some_bit (sets id),
-        Contains-append_right (cuts_work ds before) (gates_work net sets net.gates ++ (map some_bit all ++ tail)) (some_bit (sets id))
-            (Contains-append_right (gates_work net sets net.gates) (map some_bit all ++ tail) (some_bit (sets id)) (Contains-append_left (map some_bit all) tail (some_bit (sets id)) member)),
-        λ bits l. ap (λ (x : BitSet). x.zero || x.one) (sym (fixed net v ls (asks ds) sets bits range one long family l id)),
+        Contains-append_right (cuts_work ds before) (gates_work net (ids_of weak) sets net.gates ++ (map some_bit all ++ tail)) (some_bit (sets id))
+            (Contains-append_right (gates_work net (ids_of weak) sets net.gates) (map some_bit all ++ tail) (some_bit (sets id)) (Contains-append_left (map some_bit all) tail (some_bit (sets id)) member)),
+        λ bits l. ap (λ (x : BitSet). x.zero || x.one) (sym (fixed net v ls (asks weak ds) sets bits range one long family l id)),
       )
 
-  pub with_some : (v id : ℕ) (part : List Function) → ArePossibleEach v net ls (asks ds) sets → id < net.nets → Within part work → Covers v (some_bit (after_cuts ds before id) ∷ part) work
+  pub with_some : (v id : ℕ) (part : List Function) → ArePossibleEach v net ls (asks weak ds) sets → id < net.nets → Within part work → Covers v (some_bit (after_cuts ds before id) ∷ part) work
   with_some v id part family inside within f has = ⊎_elim
       (λ (e : some_bit (after_cuts ds before id) ≡ f). subst (Has v work) e (some_covered v id family inside))
       (λ (later : Contains part f). within_covers v part work within f later)
@@ -134,22 +138,22 @@ module _ (net : RawNet) (order : List ℕ) (range : IsInRange net) (one : HasOne
 
   -- one gate more has its set
   pub place_turn : {A : Type 0} (s t u : Store) (cuts : List Cut) (nets : List NetRails) (n number : ℕ) (gate : Gate) (result : Result A OpFault) → IsGood s → IsGood t → IsGood u
-      → ArePossibleEach s.vars net ls (asks ds) sets → AllZip (IsCutBy s) ds cuts → SoFar work s t → HaveGates net order sets t n nets
+      → ArePossibleEach s.vars net ls (asks weak ds) sets → AllZip (IsCutBy s) ds cuts → SoFar work s t → HaveGates net order sets t n nets
       → n < length order → number ≡ get_or order n 0 → gate ≡ get_or net.gates number gate
-      → ((bs : List SymbolicCut) (b ws : ℕ → SymbolicSet) → AllZip (IsCutBy t) bs cuts → All (λ input. AreNetRails t (ws input.0) (net_at nets input.0)) gate.inputs → b gate.output.0 ≡ output_set net ws gate
-      → Built (some_bit (after_cuts bs b gate.output.0) ∷ (cover_work (slice_get net.covers gate.cover) (input_sets ws gate) ++ cuts_work bs b)) Whatever t u result)
+      → ((bs : List SymbolicCut) (b ws : ℕ → SymbolicSet) → AllZip (IsCutBy t) bs cuts → All (λ input. AreNetRails t (ws input.0) (net_at nets input.0)) gate.inputs → b gate.output.0 ≡ placed_set weak net ws gate
+      → Built (some_bit (after_cuts bs b gate.output.0) ∷ (placed_work weak net ws gate ++ cuts_work bs b)) Whatever t u result)
       → Built work Whatever s u result
   place_turn s t u cuts nets n number gate result gs gt gu family zip so have lt at_n is call =
       let known : number < length net.gates = rw at_n (is_order.gates n 0 lt) in
       last work Whatever s t u result gt gu so
-      (Built-covers work (some_bit (after_cuts ds before gate.output.0) ∷ (cover_work (slice_get net.covers gate.cover) (input_sets sets gate) ++ cuts_work ds before)) Whatever t u result
-      (with_some t.vars gate.output.0 (cover_work (slice_get net.covers gate.cover) (input_sets sets gate) ++ cuts_work ds before) (subst (λ v. ArePossibleEach v net ls (asks ds) sets) (sym so.keeps.vars) family)
+      (Built-covers work (some_bit (after_cuts ds before gate.output.0) ∷ (placed_work weak net sets gate ++ cuts_work ds before)) Whatever t u result
+      (with_some t.vars gate.output.0 (placed_work weak net sets gate ++ cuts_work ds before) (subst (λ v. ArePossibleEach v net ls (asks weak ds) sets) (sym so.keeps.vars) family)
       (subst (λ (x : Gate). x.output.0 < net.nets) (sym is) (range.gate_outputs number gate known)) (gate_within number gate known is))
       (call ds before sets (Demands-keep s t ds cuts gs gt so.keeps zip) (ready t nets n number gate have lt at_n is) (before_is number gate known is)))
 
   -- and the others keep theirs
   pub placed : (s t u : Store) (nets : List NetRails) (n number : ℕ) (gate : Gate) (r : NetRails) → IsGood t → IsGood u → Keeps s u → Keeps t u → length nets ≡ net.nets
-      → ArePossibleEach s.vars net ls (asks ds) sets → HaveGates net order sets t n nets → n < length order → number ≡ get_or order n 0 → gate ≡ get_or net.gates number gate
+      → ArePossibleEach s.vars net ls (asks weak ds) sets → HaveGates net order sets t n nets → n < length order → number ≡ get_or order n 0 → gate ≡ get_or net.gates number gate
       → AreNetRails u (after_cuts ds before gate.output.0) r → HaveGates net order sets u (n + 1) (set nets gate.output.0 r)
   placed s t u nets n number gate r gt gu ksu ktu size family have lt at_n is made id inside none =
       let known : number < length net.gates = rw at_n (is_order.gates n 0 lt) in
@@ -157,7 +161,7 @@ module _ (net : RawNet) (order : List ℕ) (range : IsInRange net) (one : HasOne
       let d0 : NetRails = record { can0 = record { 0 = 1 }; can1 = record { 0 = 1 }; some = record { 0 = 1 }; known = false } in
       elim (cases_eq id gate.output.0) [
         | inl here ↦
-            let right : AreNetRails u (sets gate.output.0) r = Net-same u (after_cuts ds (uncut net ls sets) gate.output.0) (sets gate.output.0) r (λ bits l. fixed net s.vars ls (asks ds) sets bits range one long family (l ∙ ksu.vars) gate.output.0) made in
+            let right : AreNetRails u (sets gate.output.0) r = Net-same u (after_cuts ds (uncut net (ids_of weak) ls sets) gate.output.0) (sets gate.output.0) r (λ bits l. fixed net s.vars ls (asks weak ds) sets bits range one long family (l ∙ ksu.vars) gate.output.0) made in
             subst (λ (i : ℕ). AreNetRails u (sets i) (net_at (set nets gate.output.0 r) i)) (sym here) (subst (AreNetRails u (sets gate.output.0)) (sym (get_or-set_same nets gate.output.0 r d0 (omega (arith, size)))) right)
         | inr other ↦
             subst (AreNetRails u (sets id)) (sym (get_or-set_other nets gate.output.0 id r d0 other)) (Net-keeps t u (sets id) (net_at nets id) gt gu ktu (have id inside (λ k d h p same. elim (cases_lt n k) [

@@ -28,8 +28,9 @@ use Rattle.sym_step.specs.declared.frame.Frame.{Frame}
 use Rattle.sym_step.specs.declared.made.Step.{Step}
 use Rattle.sym_step.specs.Frame.{step_of}
 use Rattle.sym_step.specs.private.Parts.{asks}
-use Rattle.sym_step.specs.Step.{IsCutBy, IsCutOf, IsPossibleStep, IsStep, asked_of, rails_at, sets_of}
+use Rattle.sym_step.specs.Step.{IsCutBy, IsCutOf, IsPossibleStep, IsStep, asked_of, ids_of, rails_at, sets_of}
 use Rattle.sym_step.proofs.Cutting.{own_demands}
+use Rattle.ste_base.specs.declared.id.NodeId.{NodeId}
 
 -- there are sets of one time, for all assignments at once
 pub sets_exist : (net : RawNet) (vars : ℕ) (ls : List SymbolicSet) (asked : SymbolicAsked) → IsSettled net → length ls ≡ length net.latches → (sets : ℕ → SymbolicSet) × ArePossibleEach vars net ls asked sets
@@ -40,7 +41,7 @@ sets_exist net vars ls asked settled long =
 -- a number that is no net has both bits
 beyond : (net : RawNet) (latches : List BitSet) (asked : Asked) (sets : ℕ → BitSet) (id : ℕ) → IsInRange net → ArePossible net latches asked sets → All (λ cut. cut.node < net.nets) asked.cuts → net.nets ≤ id → sets id ≡ both
 beyond net latches asked sets id range possible inside le = same_set (sets id) both (λ bit h. any bit) (λ bit h. (possible.each id bit).1 (record {
-  source = record {
+  source = λ driven. record {
     by_gate = λ k d lt e. let out = range.gate_outputs k d lt in absurd (omega (arith, out, le, e));
     by_latch = by_index id bit net.latches latches possible.long (λ k lt l e. let out = range.latch_outputs k l lt in absurd (omega (arith, out, le, e)));
   };
@@ -63,16 +64,16 @@ latches_are : (s : Store) (bits : List Bool) (latches : List Rails) → map (set
 latches_are s bits [] = refl
 latches_are s bits (r ∷ rs) = ap (λ xs. set_of s bits r ∷ xs) (latches_are s bits rs)
 
-cuts_are : (s : Store) (bits : List Bool) (cuts : List Cut) → asked_at bits (asks (map (λ (c : Cut). record { node = c.node.0; guard = function s c.guard; value = function s c.value }) cuts)) ≡ asked_of s bits cuts
-cuts_are s bits cuts = let make : List _ → Asked = λ cs. record { cuts = cs } in ap make (go cuts)
+cuts_are : (s : Store) (bits : List Bool) (weak : List NodeId) (cuts : List Cut) → asked_at bits (asks weak (map (λ (c : Cut). record { node = c.node.0; guard = function s c.guard; value = function s c.value }) cuts)) ≡ asked_of s bits weak cuts
+cuts_are s bits weak cuts = let make : List _ → Asked = λ cs. record { cuts = cs; weak = ids_of weak } in ap make (go cuts)
   where
-    go : (cs : List Cut) → map (cut_at bits) (map (λ (c : Cut). record { node = c.node.0; guard = function s c.guard; value = function s c.value }) cs) ≡ (asked_of s bits cs).cuts
+    go : (cs : List Cut) → map (cut_at bits) (map (λ (c : Cut). record { node = c.node.0; guard = function s c.guard; value = function s c.value }) cs) ≡ (asked_of s bits weak cs).cuts
     go [] = refl
     go (c ∷ cs) = ap (λ xs. record { node = c.node.0; on = function s c.guard bits; value = function s c.value bits } ∷ xs) (go cs)
 
-nodes_inside : (s : Store) (net : RawNet) (bits : List Bool) (cuts : List Cut) → All (IsCutOf s net) cuts → All (λ cut. cut.node < net.nets) (asked_of s bits cuts).cuts
-nodes_inside s net bits [] h = λ k d lt. absurd (omega arith)
-nodes_inside s net bits (c ∷ cs) h = All-cons (λ cut. cut.node < net.nets) (record { node = c.node.0; on = function s c.guard bits; value = function s c.value bits }) (asked_of s bits cs).cuts (All-head (IsCutOf s net) c cs h).node (nodes_inside s net bits cs (All-tail (IsCutOf s net) c cs h))
+nodes_inside : (s : Store) (net : RawNet) (bits : List Bool) (weak : List NodeId) (cuts : List Cut) → All (IsCutOf s net) cuts → All (λ cut. cut.node < net.nets) (asked_of s bits weak cuts).cuts
+nodes_inside s net bits weak [] h = λ k d lt. absurd (omega arith)
+nodes_inside s net bits weak (c ∷ cs) h = All-cons (λ cut. cut.node < net.nets) (record { node = c.node.0; on = function s c.guard bits; value = function s c.value bits }) (asked_of s bits weak cs).cuts (All-head (IsCutOf s net) c cs h).node (nodes_inside s net bits weak cs (All-tail (IsCutOf s net) c cs h))
 
 zip_refs : (t : Store) (ws : List SymbolicSet) (rails : List Rails) → AllZip (AreRails t) ws rails → All (AreRefs t) rails
 zip_refs t [] [] h = All-nil (AreRefs t)
@@ -81,43 +82,43 @@ zip_refs t (w ∷ ws) [] h = absurd h
 zip_refs t (w ∷ ws) (r ∷ rs) h = All-cons (AreRefs t) r rs (refs_of t w r h.0) (zip_refs t ws rs h.1)
 
 -- what is left of a step, without sets
-pub record StepLeft (net : RawNet) (latches : List Rails) (cuts : List Cut) (s t : Store) (r : Step) : Type 0 where
+pub record StepLeft (net : RawNet) (latches : List Rails) (weak : List NodeId) (cuts : List Cut) (s t : Store) (r : Step) : Type 0 where
   pub nets : All (AreRefs t) r.nets
   pub contradictory : IsRef t r.contradictory
   pub next : All (AreRefs t) r.next
-  pub possible : IsPossibleStep net latches cuts s t r
+  pub possible : IsPossibleStep net latches weak cuts s t r
 
-module _ (net : RawNet) (range : IsInRange net) (settled : IsSettled net) (latches : List Rails) (cuts : List Cut) (s t : Store) (dt : IsGood t) (long : length latches ≡ length net.latches) (refs : All (AreRefs s) latches) (good : All (IsCutOf s net) cuts) where
+module _ (net : RawNet) (range : IsInRange net) (settled : IsSettled net) (latches : List Rails) (weak : List NodeId) (cuts : List Cut) (s t : Store) (dt : IsGood t) (long : length latches ≡ length net.latches) (refs : All (AreRefs s) latches) (good : All (IsCutOf s net) cuts) where
   abbrev pub ls : List SymbolicSet
   ls = map (set_where s) latches
 
   abbrev pub asked : SymbolicAsked
-  asked = asks (map (λ (c : Cut). record { node = c.node.0; guard = function s c.guard; value = function s c.value }) cuts)
+  asked = asks weak (map (λ (c : Cut). record { node = c.node.0; guard = function s c.guard; value = function s c.value }) cuts)
 
   abbrev pub exist : (sets : ℕ → SymbolicSet) × ArePossibleEach s.vars net ls asked sets
   exist = sets_exist net s.vars ls asked settled (length-map latches (set_where s) ∙ long)
 
   -- the clause of a call at the references' own functions
   pub own_call : {A : Type 0} (right : (ℕ → SymbolicSet) → Store → A → Type 0) (result : Result A OpFault)
-      → ((ls : List SymbolicSet) (asked : SymbolicAsked) (sets : ℕ → SymbolicSet) → AllZip (AreRails s) ls latches → AllZip (IsCutBy s) asked.cuts cuts → ArePossibleEach s.vars net ls asked sets → Built (time_work net ls asked sets) (right sets) s t result)
+      → ((ls : List SymbolicSet) (asked : SymbolicAsked) (sets : ℕ → SymbolicSet) → AllZip (AreRails s) ls latches → AllZip (IsCutBy s) asked.cuts cuts → asked.weak ≡ ids_of weak → ArePossibleEach s.vars net ls asked sets → Built (time_work net ls asked sets) (right sets) s t result)
       → Built (time_work net ls asked exist.0) (right exist.0) s t result
-  own_call right result call = call ls asked exist.0 (own_zip s latches refs) (own_demands s cuts (λ k d l. (good k d l).guard) (λ k d l. (good k d l).value)) exist.1
+  own_call right result call = call ls asked exist.0 (own_zip s latches refs) (own_demands s cuts (λ k d l. (good k d l).guard) (λ k d l. (good k d l).value)) refl exist.1
 
   pub own_built : (result : Result Step OpFault)
-      → ((ls : List SymbolicSet) (asked : SymbolicAsked) (sets : ℕ → SymbolicSet) → AllZip (AreRails s) ls latches → AllZip (IsCutBy s) asked.cuts cuts → ArePossibleEach s.vars net ls asked sets → Built (time_work net ls asked sets) (IsStep net sets) s t result)
+      → ((ls : List SymbolicSet) (asked : SymbolicAsked) (sets : ℕ → SymbolicSet) → AllZip (AreRails s) ls latches → AllZip (IsCutBy s) asked.cuts cuts → asked.weak ≡ ids_of weak → ArePossibleEach s.vars net ls asked sets → Built (time_work net ls asked sets) (IsStep net sets) s t result)
       → Built (time_work net ls asked exist.0) (IsStep net exist.0) s t result
   own_built result call = own_call (IsStep net) result call
 
-  pub step_left : (r : Step) → Built (time_work net ls asked exist.0) (IsStep net exist.0) s t (Ok r) → StepLeft net latches cuts s t r
+  pub step_left : (r : Step) → Built (time_work net ls asked exist.0) (IsStep net exist.0) s t (Ok r) → StepLeft net latches weak cuts s t r
   step_left r made = record {
     nets = λ k d lt. subst (AreRefs t) (same_default r k d lt) (refs_of t (exist.0 k) (rails_at r.nets k) (made.ok.nets k (let n = made.ok.long in omega (arith, n, lt))));
     contradictory = made.ok.contradictory.ref;
     next = zip_refs t (map (λ latch. exist.0 latch.input.0) net.latches) r.next made.ok.next;
     possible = λ bits l.
         let fam : ArePossible net (map (set_at bits) ls) (asked_at bits asked) (λ id. set_at bits (exist.0 id)) = exist.1 bits l in
-        let known : ArePossible net (map (set_of s bits) latches) (asked_of s bits cuts) (λ id. set_at bits (exist.0 id)) =
-        subst (λ (xs : List BitSet). ArePossible net xs (asked_of s bits cuts) (λ id. set_at bits (exist.0 id))) (latches_are s bits latches)
-        (subst (λ (a : Asked). ArePossible net (map (set_at bits) ls) a (λ id. set_at bits (exist.0 id))) (cuts_are s bits cuts) fam) in
+        let known : ArePossible net (map (set_of s bits) latches) (asked_of s bits weak cuts) (λ id. set_at bits (exist.0 id)) =
+        subst (λ (xs : List BitSet). ArePossible net xs (asked_of s bits weak cuts) (λ id. set_at bits (exist.0 id))) (latches_are s bits latches)
+        (subst (λ (a : Asked). ArePossible net (map (set_at bits) ls) a (λ id. set_at bits (exist.0 id))) (cuts_are s bits weak cuts) fam) in
         let same : (id : ℕ) → set_at bits (exist.0 id) ≡ sets_of t bits r.nets id = λ id. elim (cases_lt id net.nets) [
           | inl lt ↦
               let h = made.ok.nets id lt in
@@ -125,11 +126,11 @@ module _ (net : RawNet) (range : IsInRange net) (settled : IsSettled net) (latch
               same_fields _ _ _ _ (sym (h.zero.value bits lt')) (sym (h.one.value bits lt'))
           | inr le ↦
               let none : rails_at r.nets id ≡ record { can0 = record { 0 = 1 }; can1 = record { 0 = 1 } } = get_or-none r.nets id _ (let n = made.ok.long in omega (arith, n, le)) in
-              beyond net (map (set_of s bits) latches) (asked_of s bits cuts) (λ i. set_at bits (exist.0 i)) id range known (nodes_inside s net bits cuts good) le
+              beyond net (map (set_of s bits) latches) (asked_of s bits weak cuts) (λ i. set_at bits (exist.0 i)) id range known (nodes_inside s net bits weak cuts good) le
               ∙ sym (ap (set_of t bits) none ∙ same_fields _ _ _ _ (one_bit t (record { 0 = 1 }) bits dt refl) (one_bit t (record { 0 = 1 }) bits dt refl))
         ] in
         let all : (λ (id : ℕ). set_at bits (exist.0 id)) ≡ sets_of t bits r.nets = λ i id. same id i in
-        subst (λ (f : ℕ → BitSet). ArePossible net (map (set_of s bits) latches) (asked_of s bits cuts) f) all known;
+        subst (λ (f : ℕ → BitSet). ArePossible net (map (set_of s bits) latches) (asked_of s bits weak cuts) f) all known;
   }
     where
       same_default : (r : Step) (k : ℕ) (d : Rails) → k < length r.nets → rails_at r.nets k ≡ get_or r.nets k d
@@ -139,7 +140,7 @@ module _ (net : RawNet) (range : IsInRange net) (settled : IsSettled net) (latch
   refs_left (Ok r) made = let h = step_left r made in (h.nets, h.contradictory, h.next)
   refs_left (Err e) made = tt
 
-  pub possible_left : (result : Result Step OpFault) → Built (time_work net ls asked exist.0) (IsStep net exist.0) s t result → IfOk result (λ r. IsPossibleStep net latches cuts s t r)
+  pub possible_left : (result : Result Step OpFault) → Built (time_work net ls asked exist.0) (IsStep net exist.0) s t result → IfOk result (λ r. IsPossibleStep net latches weak cuts s t r)
   possible_left (Ok r) made = (step_left r made).possible
   possible_left (Err e) made = tt
 

@@ -35,7 +35,7 @@ IsOpen net id = (source_of net id ≡ Input) ⊎ (source_of net id ≡ Free)
 abbrev pub is_listed : List NodeId → ℕ → Bool
 is_listed ids id = list_any (λ node. node.0 == id) ids
 
--- each net that nothing drives and that was not cut has both bits
+-- each net that nothing drives and of which nothing was asked has both bits
 abbrev pub AreOpen : Store → RawNet → List NodeId → List NetRails → Type 0
 AreOpen s net before nets =
     (id : ℕ) → id < net.nets → IsOpen net id → is_listed before id ≡ false → AreNetRails s everything (net_at nets id)
@@ -73,8 +73,8 @@ pub record AreFirst (s : Store) (net : RawNet) (sets : List Rails) : Type 0 wher
 abbrev pub mark_count : RawNet → ℕ
 mark_count net = length net.gates + length net.latches
 
--- A frame of a time: each net has references that are held, a gate that is not due and whose output was not cut has given it
--- its set, and the output of such a latch has the references of its input. Before any time all gates and latches are due.
+-- A frame of a time: each net has references that are held, a gate that is not due and of whose output nothing was asked has
+-- given it its set, and the output of such a latch has the references of its input. Before any time all gates and latches are due.
 pub record IsFrame (s : Store) (net : RawNet) (frame : Frame) : Type 0 where
   pub long : length frame.board.nets.items ≡ net.nets
   pub refs : All (AreNetRefs s) frame.board.nets.items

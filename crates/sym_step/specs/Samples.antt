@@ -49,6 +49,7 @@ plain_sets (suc (suc n)) = exactly (conjunction p q)
 abbrev pub plain_asked : SymbolicAsked
 plain_asked = record {
   cuts = record { node = 0; guard = always; value = p } ∷ record { node = 1; guard = always; value = q } ∷ [];
+  weak = [];
 }
 
 -- where q is 1, a is p; the latch has p: y can be 0 where not both p and q are 1, and 1 where p is
@@ -58,7 +59,7 @@ guarded_sets (suc zero) = exactly p
 guarded_sets (suc (suc n)) = record { zero = negation (conjunction p q); one = p }
 
 abbrev pub guarded_asked : SymbolicAsked
-guarded_asked = record { cuts = record { node = 0; guard = q; value = p } ∷ [] }
+guarded_asked = record { cuts = record { node = 0; guard = q; value = p } ∷ []; weak = [] }
 
 -- Law: the AND of two variables takes 7 nodes: p, !p, q, !q, p & q, p & !q and !(p & q). With a guard and a latch it
 -- takes 9: p, !p, q, !q, p & q, !p & q, !p & !q, !(p & q) and !(!p & q).

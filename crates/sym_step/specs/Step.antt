@@ -1,6 +1,7 @@
 -- Meaning. The sets of one time under all assignments at once, by references.
 use Rattle.std.specs.Prelude.{◌≡◌, ◌<◌, ℕ, Bool, List, length, map, slice_index_or}
 use Rattle.std.specs.List.{AllZip}
+use Rattle.ste_base.specs.declared.id.NodeId.{NodeId}
 use Rattle.dd_nodes.specs.Stores.{Store, IsRef, Means, function}
 use Rattle.net_core.specs.declared.raw.RawNet.{RawNet}
 use Rattle.net_core.specs.Work.{SymbolicSet, SymbolicCut, some_empty}
@@ -38,10 +39,16 @@ pub record IsStep (net : RawNet) (sets : ℕ → SymbolicSet) (t : Store) (r : S
   pub contradictory : Means t (some_empty net sets) r.contradictory
   pub next : AllZip (AreRails t) (map (λ latch. sets latch.input.0) net.latches) r.next
 
--- what cuts ask under an assignment
-abbrev pub asked_of : Store → List Bool → List Cut → Asked
-asked_of s bits cuts =
-    record { cuts = map (λ c. record { node = c.node.0; on = function s c.guard bits; value = function s c.value bits }) cuts }
+-- nets by their numbers
+abbrev pub ids_of : List NodeId → List ℕ
+ids_of nodes = map (λ node. node.0) nodes
+
+-- what is asked under an assignment, where these nets are weakened and these cuts are made
+abbrev pub asked_of : Store → List Bool → List NodeId → List Cut → Asked
+asked_of s bits weak cuts = record {
+  cuts = map (λ c. record { node = c.node.0; on = function s c.guard bits; value = function s c.value bits }) cuts;
+  weak = ids_of weak;
+}
 
 -- the sets of the nets under an assignment
 abbrev pub sets_of : Store → List Bool → List Rails → ℕ → BitSet
@@ -49,7 +56,7 @@ sets_of t bits rails id = set_of t bits (rails_at rails id)
 
 -- Under each assignment of so many variables the nets have the possible sets of one time, from the latches' sets and what
 -- is asked.
-abbrev pub IsPossibleStep : RawNet → List Rails → List Cut → Store → Store → Step → Type 0
-IsPossibleStep net latches cuts s t r =
+abbrev pub IsPossibleStep : RawNet → List Rails → List NodeId → List Cut → Store → Store → Step → Type 0
+IsPossibleStep net latches weak cuts s t r =
     (bits : List Bool) → length bits ≡ s.vars →
-    ArePossible net (map (set_of s bits) latches) (asked_of s bits cuts) (sets_of t bits r.nets)
+    ArePossible net (map (set_of s bits) latches) (asked_of s bits weak cuts) (sets_of t bits r.nets)

@@ -126,7 +126,7 @@ fn cut_marked<N: Nodes>(
         → Built (cuts_work ds sets) (HasFlagged (after_cuts ds sets id))
         (N.store nodes.old) (N.store nodes.new) result }
 {
-    if demands.is_cut(id) {
+    if demands.is_asked(id) {
         cut_all(ops, nodes, demands, id, r)
     } else {
         Ok(r)
@@ -206,7 +206,7 @@ pub fn cut_full<N: Nodes>(
         (HasNetSet (after_cuts ds sets id))
         (N.store nodes.old) (N.store nodes.new) result }
 {
-    if filling.is_full() && !demands.is_cut(id) {
+    if filling.is_full() && !demands.is_asked(id) {
         let known = is_clear(filling.is_known(), r);
         return Ok(NetRails {
             can0: r.can0,

@@ -27,11 +27,11 @@ use net_core::{Gate, Latch, Net};
 use std::alloc::{AllocError, Global};
 use ste_base::{Items, NodeId};
 
-/// What is kept of one time for the next: the set of each net, the list of the nets of which there was a cut, and marks for
+/// What is kept of one time for the next: the set of each net, the list of the nets that were cut or weakened, and marks for
 /// gates and latches that are due; beside them room for the products of a row, and before a first time the sets of the
 /// latches there. In a blank frame all nets have both bits, and all gates and latches are due. Once times go on from one
 /// another it is listed which gates and latches read a net or drive it, and one is due only where an input or its output has
-/// another set than before, or its output is cut now or was before; any other keeps its output's set. A frame that begins
+/// another set than before, or its output is cut or weakened now or was before; any other keeps its output's set. A frame that begins
 /// anew has its lists laid by (`spare`). `vectors` are used again at each time.
 #[derive(Drop)]
 pub struct Frame {
@@ -197,11 +197,18 @@ fn room(alloc: Global, gates: &[Gate]) -> Result<Vec<Ref>, AllocError>
     Ok(products)
 }
 
-/// The nets of which there is a cut, in this memory.
-pub fn asked_nets(used: Vec<NodeId>, cuts: &[Cut]) -> Result<Vec<NodeId>, AllocError>
-    ensures { IfOk result (λ ids. ids.items ≡ nodes_of cuts.now) }
+/// The weakened nets, and behind them those of which there is a cut, in this memory.
+pub fn asked_nets(
+    used: Vec<NodeId>,
+    weak: &[NodeId],
+    cuts: &[Cut],
+) -> Result<Vec<NodeId>, AllocError>
+    ensures { IfOk result (λ ids. ids.items ≡ nodes_of weak.now cuts.now) }
 {
     let mut ids = none_asked(used);
+    for node in weak {
+        ids.push(*node)?;
+    }
     for c in cuts {
         ids.push(c.node)?;
     }
@@ -251,7 +258,7 @@ fn with_lists(alloc: Global, net: &Compiled, frame: &mut Frame) -> Result<(), Al
     Ok(())
 }
 
-/// Makes the gates and latches due that drive nets which are cut now, or were at the time before.
+/// Makes the gates and latches due that drive nets which are cut or weakened now, or were at the time before.
 pub fn make_due(
     alloc: Global,
     net: &Compiled,
@@ -262,8 +269,8 @@ pub fn make_due(
     requires before { All (λ node. node.0 < net.now.raw.nets) frame.old.asked.items }
     ensures frame { OnOk result ((s : Store) → IsFrame s net.now.raw frame.old
         → IsFrame s net.now.raw frame.new
-        × AreSpared s net.now.raw (nodes_of demands.now.cuts) frame.new.board
-        × AreCarried net.now.raw (nodes_of demands.now.cuts) frame.new.board) }
+        × AreSpared s net.now.raw (nodes_of demands.now.weak demands.now.cuts) frame.new.board
+        × AreCarried net.now.raw (nodes_of demands.now.weak demands.now.cuts) frame.new.board) }
     ensures first { OnOk result (frame.new.first ≡ frame.old.first) }
     ensures nets { OnOk result (frame.new.board.nets ≡ frame.old.board.nets) }
 {

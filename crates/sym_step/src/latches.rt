@@ -2,17 +2,19 @@
 //! `latch_sets`. They are written in `source.rt`.
 
 ghost use Rattle.std.specs.Prelude.{◌≡◌, ◌≢◌, ◌⊎◌, ◌<◌, ℕ, [], IfOk, IfSome, IsTrue, None, OnOk, false, length, map};
+ghost use Rattle.net_core.specs.Possible.{is_weakened};
+ghost use Rattle.sym_step.specs.Step.{ids_of};
 ghost use Rattle.sym_step.specs.Frame.{bare, input_rails, is_listed, mark_count, next_of};
 ghost use Rattle.sym_step.specs.private.Frames.{AreCarried};
 ghost use Rattle.sym_step.specs.private.Demands.{nodes_of};
-ghost use Rattle.sym_step.specs.private.Latches.{AreLatchSets, IsCopied, latch_set};
+ghost use Rattle.sym_step.specs.private.Latches.{AreLatchSets, IsCopied, latch_set, rails_unless};
 ghost use Rattle.gate_sets.specs.NetSets.{net_at};
 ghost use Rattle.sym_step.specs.private.Readers.{AreReaders, flag_at};
 
 use crate::board::{Board, are_same};
 use crate::demands::Demands;
 use crate::frame::Frame;
-use dual_rail::Rails;
+use dual_rail::{Rails, free};
 use gate_sets::{Compiled, NetRails};
 use net_core::Latch;
 use std::alloc::AllocError;
@@ -26,29 +28,39 @@ pub struct LatchSet {
     pub given: NetRails,
 }
 
-/// The set of a latch that is told which it has; none where nothing is left to do: its output is not cut, and has the told
-/// set already.
+/// The rails of a latch's output before its cuts: those of both bits where it is weakened, and else these.
+fn before_cuts(demands: &Demands, id: u32, r: Rails) -> Rails
+    ensures { result ≡ rails_unless (is_weakened (ids_of demands.now.weak) id) r }
+{
+    if demands.is_weak(id) {
+        return free();
+    }
+    r
+}
+
+/// The set of a latch that is told which it has; none where nothing is left to do: its output is neither cut nor weakened,
+/// and has the told set already.
 fn told_set(nets: &[NetRails], demands: &Demands, latch: &Latch, told: Rails) -> Option<LatchSet>
     requires over { demands.now.nets ≡ length nets.now }
     requires input { latch.now.input.0 < length nets.now }
     requires output { latch.now.output.0 < length nets.now }
     ensures some { IfSome result (λ set. set ≡ record {
       output = latch.now.output;
-      rails = told;
+      rails = rails_unless (is_weakened (ids_of demands.now.weak) latch.now.output.0) told;
       given = net_at nets.now latch.now.input.0;
     }) }
     ensures none { result ≡ None
-        → (is_listed (nodes_of demands.now.cuts) latch.now.output.0 ≡ false)
+        → (is_listed (nodes_of demands.now.weak demands.now.cuts) latch.now.output.0 ≡ false)
         × (told ≡ bare (net_at nets.now latch.now.output.0)) }
 {
     let output = latch.output.0 as usize;
     let now = nets[output];
-    if !demands.is_cut(latch.output.0) && told.can0 == now.can0 && told.can1 == now.can1 {
+    if !demands.is_asked(latch.output.0) && told.can0 == now.can0 && told.can1 == now.can1 {
         return None;
     }
     Some(LatchSet {
         output: latch.output,
-        rails: told,
+        rails: before_cuts(demands, latch.output.0, told),
         given: nets[latch.input.0 as usize],
     })
 }
@@ -74,7 +86,7 @@ fn told_sets(
     requires over { demands.now.nets ≡ net.now.raw.nets }
     requires told { length told.now ≡ length net.now.raw.latches }
     ensures { IfOk result (λ sets. AreLatchSets net.now.raw told.now
-        (nodes_of demands.now.cuts) nets.now sets.items) }
+        demands.now.weak (nodes_of demands.now.weak demands.now.cuts) nets.now sets.items) }
 {
     let latches = net.latches();
     let mut sets = no_sets(used);
@@ -86,15 +98,15 @@ fn told_sets(
     Ok(sets)
 }
 
-/// Whether nothing is left to do for a latch: its output is not cut, and has the set of its input already.
+/// Whether nothing is left to do for a latch: its output is neither cut nor weakened, and has the set of its input already.
 fn is_copied(nets: &[NetRails], demands: &Demands, latch: &Latch) -> bool
     requires over { demands.now.nets ≡ length nets.now }
     requires input { latch.now.input.0 < length nets.now }
     requires output { latch.now.output.0 < length nets.now }
-    ensures { IsTrue result → IsCopied (nodes_of demands.now.cuts) nets.now latch.now }
+    ensures { IsTrue result → IsCopied (nodes_of demands.now.weak demands.now.cuts) nets.now latch.now }
 {
     let output = latch.output.0 as usize;
-    !demands.is_cut(latch.output.0) && are_same(nets[output], nets[latch.input.0 as usize])
+    !demands.is_asked(latch.output.0) && are_same(nets[output], nets[latch.input.0 as usize])
 }
 
 /// The set of a latch of this number, where it is due and something is left to do. Where nothing is, its mark is taken away,
@@ -117,12 +129,13 @@ fn due_set(
     ensures long { length board.new.due.flags.items ≡ length board.old.due.flags.items }
     ensures others { (k : ℕ) → k ≢ number
         → flag_at board.new.due.flags.items k ≡ flag_at board.old.due.flags.items k }
-    ensures some { IfSome result (λ set. set ≡ latch_set board.old.nets.items latch.now) }
+    ensures some { IfSome result (λ set. set
+        ≡ latch_set demands.now.weak board.old.nets.items latch.now) }
     ensures none { result ≡ None → (flag_at board.old.due.flags.items number ≡ false)
-        ⊎ IsCopied (nodes_of demands.now.cuts) board.old.nets.items latch.now }
+        ⊎ IsCopied (nodes_of demands.now.weak demands.now.cuts) board.old.nets.items latch.now }
     ensures cleared { flag_at board.new.due.flags.items number ≡ false
         → (flag_at board.old.due.flags.items number ≡ false)
-        ⊎ (IsTrue listed × IsCopied (nodes_of demands.now.cuts) board.old.nets.items latch.now) }
+        ⊎ (IsTrue listed × IsCopied (nodes_of demands.now.weak demands.now.cuts) board.old.nets.items latch.now) }
 {
     if !board.due.is_marked(number) {
         return None;
@@ -136,7 +149,7 @@ fn due_set(
     let given = board.nets[latch.input.0 as usize];
     Some(LatchSet {
         output: latch.output,
-        rails: given.rails(),
+        rails: before_cuts(demands, latch.output.0, given.rails()),
         given,
     })
 }
@@ -162,13 +175,13 @@ fn due_sets(
     ensures long { length board.new.due.flags.items ≡ length board.old.due.flags.items }
     ensures gates { (k : ℕ) → k < length net.now.raw.gates
         → flag_at board.new.due.flags.items k ≡ flag_at board.old.due.flags.items k }
-    ensures carried { OnOk result (AreCarried net.now.raw (nodes_of demands.now.cuts) board.old
-        → AreCarried net.now.raw (nodes_of demands.now.cuts) board.new) }
+    ensures carried { OnOk result (AreCarried net.now.raw (nodes_of demands.now.weak demands.now.cuts) board.old
+        → AreCarried net.now.raw (nodes_of demands.now.weak demands.now.cuts) board.new) }
     ensures sets { IfOk result (λ sets.
-        AreCarried net.now.raw (nodes_of demands.now.cuts) board.old
+        AreCarried net.now.raw (nodes_of demands.now.weak demands.now.cuts) board.old
         → AreLatchSets net.now.raw
         (map (input_rails (map bare board.old.nets.items)) net.now.raw.latches)
-        (nodes_of demands.now.cuts) board.old.nets.items sets.items) }
+        demands.now.weak (nodes_of demands.now.weak demands.now.cuts) board.old.nets.items sets.items) }
 {
     let gates = net.gates().len();
     let latches = net.latches();
@@ -206,12 +219,12 @@ pub fn latch_sets(
     ensures gates { (k : ℕ) → k < length net.now.raw.gates
         → flag_at frame.new.board.due.flags.items k ≡ flag_at frame.old.board.due.flags.items k }
     ensures carried { OnOk result (
-        AreCarried net.now.raw (nodes_of demands.now.cuts) frame.old.board
-        → AreCarried net.now.raw (nodes_of demands.now.cuts) frame.new.board) }
+        AreCarried net.now.raw (nodes_of demands.now.weak demands.now.cuts) frame.old.board
+        → AreCarried net.now.raw (nodes_of demands.now.weak demands.now.cuts) frame.new.board) }
     ensures sets { IfOk result (λ sets.
-        AreCarried net.now.raw (nodes_of demands.now.cuts) frame.old.board
+        AreCarried net.now.raw (nodes_of demands.now.weak demands.now.cuts) frame.old.board
         → AreLatchSets net.now.raw (next_of net.now.raw frame.old)
-        (nodes_of demands.now.cuts) frame.old.board.nets.items sets.items) }
+        demands.now.weak (nodes_of demands.now.weak demands.now.cuts) frame.old.board.nets.items sets.items) }
 {
     match frame.first.take() {
         Some(told) => told_sets(used, net, demands, &frame.board.nets, told.as_slice()),

@@ -6,7 +6,7 @@ ghost use Rattle.std.specs.List.{AllZip};
 ghost use Rattle.dd_nodes.specs.Stores.{IsRef, Keeps};
 ghost use Rattle.net_core.specs.Work.{ArePossibleEach, SymbolicSet, SymbolicCut, after_cuts, cuts_work, some_bit, time_work, uncut};
 ghost use Rattle.dual_rail.specs.Rail.{AreRefs, AreRails, Built, Whatever};
-ghost use Rattle.sym_step.specs.Step.{IsCutBy};
+ghost use Rattle.sym_step.specs.Step.{IsCutBy, ids_of};
 ghost use Rattle.sym_step.specs.private.Boards.{Follows};
 ghost use Rattle.sym_step.specs.Frame.{AreOpen, is_listed};
 ghost use Rattle.sym_step.specs.private.Frames.{HaveLatches, HaveOpen, IsOpened, StayRight};
@@ -26,7 +26,7 @@ use net_core::Source;
 use ste_base::NodeId;
 
 /// The set of a latch's output behind its cuts, where the latch has the set `r`. Where its input had `r` at the time
-/// before, with where it had a bit, and no cut is of the output, nothing is called.
+/// before, with where it had a bit, and nothing is asked of the output, nothing is called.
 fn latch_source<N: Nodes>(
     ops: &Ops,
     nodes: &mut N,
@@ -47,7 +47,7 @@ fn latch_source<N: Nodes>(
         (HasNetSet (after_cuts ds sets id))
         (N.store nodes.old) (N.store nodes.new) result }
 {
-    if !demands.is_cut(id) && given.can0 == r.can0 && given.can1 == r.can1 {
+    if !demands.is_asked(id) && given.can0 == r.can0 && given.can1 == r.can1 {
         return Ok(given);
     }
     cut_net(ops, nodes, demands, id, r)
@@ -72,15 +72,15 @@ fn latch_sources<N: Nodes>(
     ensures refs { OnOk result (All (AreNetRefs (N.store nodes.new)) board.new.nets.items) }
     ensures follows { OnOk result (Follows board.old board.new) }
     ensures built { (ls : List SymbolicSet) (ds : List SymbolicCut) (sets : ℕ → SymbolicSet)
-        → AreGiven (N.store nodes.old) net.now.raw ls sets latches.now board.old.nets.items
-        → ArePossibleEach (N.store nodes.old).vars net.now.raw ls (asks ds) sets
+        → AreGiven (N.store nodes.old) net.now.raw demands.now.weak ls sets latches.now board.old.nets.items
+        → ArePossibleEach (N.store nodes.old).vars net.now.raw ls (asks demands.now.weak ds) sets
         → AllZip (IsCutBy (N.store nodes.old)) ds demands.now.cuts
-        → Built (time_work net.now.raw ls (asks ds) sets) Whatever
+        → Built (time_work net.now.raw ls (asks demands.now.weak ds) sets) Whatever
         (N.store nodes.old) (N.store nodes.new) result }
     ensures have { OnOk result (
         (ls : List SymbolicSet) (ds : List SymbolicCut) (sets : ℕ → SymbolicSet)
-        → AreGiven (N.store nodes.old) net.now.raw ls sets latches.now board.old.nets.items
-        → ArePossibleEach (N.store nodes.old).vars net.now.raw ls (asks ds) sets
+        → AreGiven (N.store nodes.old) net.now.raw demands.now.weak ls sets latches.now board.old.nets.items
+        → ArePossibleEach (N.store nodes.old).vars net.now.raw ls (asks demands.now.weak ds) sets
         → AllZip (IsCutBy (N.store nodes.old)) ds demands.now.cuts
         → HaveLatches net.now.raw sets (N.store nodes.new)
         (length net.now.raw.latches) board.new.nets.items
@@ -112,9 +112,9 @@ fn open_source<N: Nodes>(
     requires now { AreNetRefs (N.store nodes.old) now }
     ensures { (ls : List SymbolicSet) (ds : List SymbolicCut) (sets : ℕ → SymbolicSet)
         → AllZip (IsCutBy (N.store nodes.old)) ds demands.now.cuts
-        → Built (some_bit (after_cuts ds (uncut net.now.raw ls sets) id)
-        ∷ cuts_work ds (uncut net.now.raw ls sets))
-        (IsOpened net.now.raw (after_cuts ds (uncut net.now.raw ls sets) id)
+        → Built (some_bit (after_cuts ds (uncut net.now.raw (ids_of demands.now.weak) ls sets) id)
+        ∷ cuts_work ds (uncut net.now.raw (ids_of demands.now.weak) ls sets))
+        (IsOpened net.now.raw (after_cuts ds (uncut net.now.raw (ids_of demands.now.weak) ls sets) id)
         (N.store nodes.old) now id)
         (N.store nodes.old) (N.store nodes.new) result }
 {
@@ -146,14 +146,14 @@ fn open_sources<N: Nodes>(
     ensures follows { OnOk result (Follows board.old board.new) }
     ensures built { (ls : List SymbolicSet) (ds : List SymbolicCut) (sets : ℕ → SymbolicSet)
         → length ls ≡ length net.now.raw.latches
-        → ArePossibleEach (N.store nodes.old).vars net.now.raw ls (asks ds) sets
+        → ArePossibleEach (N.store nodes.old).vars net.now.raw ls (asks demands.now.weak ds) sets
         → AllZip (IsCutBy (N.store nodes.old)) ds demands.now.cuts
-        → Built (time_work net.now.raw ls (asks ds) sets) Whatever
+        → Built (time_work net.now.raw ls (asks demands.now.weak ds) sets) Whatever
         (N.store nodes.old) (N.store nodes.new) result }
     ensures have { OnOk result (
         (ls : List SymbolicSet) (ds : List SymbolicCut) (sets : ℕ → SymbolicSet)
         → length ls ≡ length net.now.raw.latches
-        → ArePossibleEach (N.store nodes.old).vars net.now.raw ls (asks ds) sets
+        → ArePossibleEach (N.store nodes.old).vars net.now.raw ls (asks demands.now.weak ds) sets
         → AllZip (IsCutBy (N.store nodes.old)) ds demands.now.cuts
         → HaveOpen net.now.raw sets (N.store nodes.new) ids.now (length ids.now)
         board.new.nets.items
@@ -184,8 +184,8 @@ fn are_same_nets(a: &[NodeId], b: &[NodeId]) -> bool
     true
 }
 
-/// Of the nets that were cut at the time before, those that are to be looked at beside the ones that are cut now: none where
-/// the same nets are cut.
+/// Of the nets of which something was asked at the time before, those that are to be looked at beside the ones of now: none
+/// where they are the same.
 fn left_open<'a>(before: &'a [NodeId], asked: &[NodeId]) -> &'a [NodeId]
     ensures nodes { (nets : ℕ) → All (λ node. node.0 < nets) before.now
         → All (λ node. node.0 < nets) result.now }
@@ -199,8 +199,8 @@ fn left_open<'a>(before: &'a [NodeId], asked: &[NodeId]) -> &'a [NodeId]
 }
 
 /// Gives all nets that no gate drives their sets. `latches` are the sets of the latches that do not have theirs yet, and
-/// `before` are the nets that were cut at the time before; a net that nothing drives, and that is not among them nor cut
-/// now, has both bits already.
+/// `before` are the nets that were cut or weakened at the time before; a net that nothing drives, and that is not among them
+/// nor cut now, has both bits already.
 pub fn sources<N: Nodes>(
     ops: &Ops,
     nodes: &mut N,
@@ -222,15 +222,15 @@ pub fn sources<N: Nodes>(
     ensures refs { OnOk result (All (AreNetRefs (N.store nodes.new)) board.new.nets.items) }
     ensures follows { OnOk result (Follows board.old board.new) }
     ensures built { (ls : List SymbolicSet) (ds : List SymbolicCut) (sets : ℕ → SymbolicSet)
-        → AreGiven (N.store nodes.old) net.now.raw ls sets latches.now board.old.nets.items
-        → ArePossibleEach (N.store nodes.old).vars net.now.raw ls (asks ds) sets
+        → AreGiven (N.store nodes.old) net.now.raw demands.now.weak ls sets latches.now board.old.nets.items
+        → ArePossibleEach (N.store nodes.old).vars net.now.raw ls (asks demands.now.weak ds) sets
         → AllZip (IsCutBy (N.store nodes.old)) ds demands.now.cuts
-        → Built (time_work net.now.raw ls (asks ds) sets) Whatever
+        → Built (time_work net.now.raw ls (asks demands.now.weak ds) sets) Whatever
         (N.store nodes.old) (N.store nodes.new) result }
     ensures have { OnOk result (
         (ls : List SymbolicSet) (ds : List SymbolicCut) (sets : ℕ → SymbolicSet)
-        → AreGiven (N.store nodes.old) net.now.raw ls sets latches.now board.old.nets.items
-        → ArePossibleEach (N.store nodes.old).vars net.now.raw ls (asks ds) sets
+        → AreGiven (N.store nodes.old) net.now.raw demands.now.weak ls sets latches.now board.old.nets.items
+        → ArePossibleEach (N.store nodes.old).vars net.now.raw ls (asks demands.now.weak ds) sets
         → AllZip (IsCutBy (N.store nodes.old)) ds demands.now.cuts
         → HaveSources net.now.raw sets (N.store nodes.new) net.now.raw.nets board.new.nets.items) }
 {

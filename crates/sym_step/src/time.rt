@@ -6,12 +6,12 @@
 
 ghost use Rattle.std.specs.Prelude.{◌≡◌, ◌<◌, ◌∷◌, ◌++◌, [], ◌≤◌, ℕ, List, All, IfOk, None, OnOk, length, map};
 ghost use Rattle.std.specs.List.{AllZip};
-ghost use Rattle.dd_nodes.specs.Diagram.{Function};
+ghost use Rattle.dd_nodes.specs.Diagram.{Function, IsDiagram};
 ghost use Rattle.dd_nodes.specs.Stores.{Store, IsRef, Keeps, Means};
 ghost use Rattle.net_core.specs.Flat.{IsSettledOrder};
 ghost use Rattle.net_core.specs.Work.{ArePossibleEach, SymbolicSet, SymbolicAsked, disjunction, no_bit, some_bit, sum, sums, time_work};
 ghost use Rattle.dual_rail.specs.Rail.{AreRefs, AreRails, Built, HasFunction, Whatever};
-ghost use Rattle.sym_step.specs.Step.{IsCutOf, IsCutBy, IsPossibleStep, IsStep};
+ghost use Rattle.sym_step.specs.Step.{IsCutOf, IsCutBy, IsPossibleStep, IsStep, ids_of};
 ghost use Rattle.gate_sets.specs.Lists.{rows_of};
 ghost use Rattle.sym_step.specs.private.Boards.{Follows};
 ghost use Rattle.sym_step.specs.Frame.{AreOpen, IsFrame, input_rails, next_of, nets_of, step_of};
@@ -23,7 +23,7 @@ ghost use Rattle.sym_step.specs.private.Parts.{HaveNets};
 
 use crate::board::Board;
 use crate::cut::Cut;
-use crate::demands::{CutLinks, Demands, linked};
+use crate::demands::{CutLinks, Demands, linked, weak_flags};
 use crate::frame::{Frame, asked_nets, knows_full, make_due, own_sets};
 use crate::latches::{LatchSet, latch_sets};
 use crate::made::Step;
@@ -107,7 +107,7 @@ fn finished(
 }
 
 /// Gives all nets their sets: first those that no gate drives, and then the gates' outputs. `latches` are the sets of the
-/// latches that do not have theirs yet, and `before` are the nets that were cut at the time before.
+/// latches that do not have theirs yet, and `before` are the nets that were cut or weakened at the time before.
 fn set_nets<N: Nodes>(
     alloc: Global,
     ops: &Ops,
@@ -132,20 +132,22 @@ fn set_nets<N: Nodes>(
     requires due { length net.now.raw.gates ≤ length board.old.due.flags.items }
     requires order { IsSettledOrder net.now.raw board.old.due.order.items }
     requires spared { AreSpared (N.store nodes.old) net.now.raw
-        (nodes_of demands.now.cuts) board.old }
+        (nodes_of demands.now.weak demands.now.cuts) board.old }
     ensures room { OnOk result (length products.new ≡ length products.old) }
     ensures refs { OnOk result (All (AreNetRefs (N.store nodes.new)) board.new.nets.items) }
     ensures follows { OnOk result (Follows board.old board.new) }
     ensures built { (ls : List SymbolicSet) (asked : SymbolicAsked) (sets : ℕ → SymbolicSet)
-        → AreGiven (N.store nodes.old) net.now.raw ls sets latches.now board.old.nets.items
+        → AreGiven (N.store nodes.old) net.now.raw demands.now.weak ls sets latches.now board.old.nets.items
         → AllZip (IsCutBy (N.store nodes.old)) asked.cuts demands.now.cuts
+        → asked.weak ≡ ids_of demands.now.weak
         → ArePossibleEach (N.store nodes.old).vars net.now.raw ls asked sets
         → Built (time_work net.now.raw ls asked sets) Whatever
         (N.store nodes.old) (N.store nodes.new) result }
     ensures have { OnOk result (
         (ls : List SymbolicSet) (asked : SymbolicAsked) (sets : ℕ → SymbolicSet)
-        → AreGiven (N.store nodes.old) net.now.raw ls sets latches.now board.old.nets.items
+        → AreGiven (N.store nodes.old) net.now.raw demands.now.weak ls sets latches.now board.old.nets.items
         → AllZip (IsCutBy (N.store nodes.old)) asked.cuts demands.now.cuts
+        → asked.weak ≡ ids_of demands.now.weak
         → ArePossibleEach (N.store nodes.old).vars net.now.raw ls asked sets
         → HaveNets net.now.raw sets (N.store nodes.new) board.new.nets.items) }
 {
@@ -153,7 +155,7 @@ fn set_nets<N: Nodes>(
     place_gates(alloc, ops, nodes, net, demands, products, scratch, board)
 }
 
-/// Begins a time: the gates and latches whose outputs are cut now or were before are due, and the result is the sets of the
+/// Begins a time: the gates and latches whose outputs are cut or weakened now or were before are due, and the result is the sets of the
 /// latches that do not have theirs yet, in the memory of `used`. The frame is then no longer before a first time.
 fn begin_time(
     alloc: Global,
@@ -165,16 +167,17 @@ fn begin_time(
     requires over { demands.now.nets ≡ net.now.raw.nets }
     requires frame { (s : Store) × IsFrame s net.now.raw frame.old }
     ensures begins { OnOk result ((s : Store) → IsFrame s net.now.raw frame.old
-        → Begins s net.now.raw (nodes_of demands.now.cuts) frame.new) }
-    ensures held { IfOk result (λ sets. (s : Store) → IsFrame s net.now.raw frame.old
-        → All (IsLatchSet s net.now.raw) sets.items) }
+        → Begins s net.now.raw (nodes_of demands.now.weak demands.now.cuts) frame.new) }
+    ensures held { IfOk result (λ sets. (s : Store) → IsDiagram s.held s.vars
+        → IsFrame s net.now.raw frame.old → All (IsLatchSet s net.now.raw) sets.items) }
     ensures given { IfOk result (λ sets.
         (s : Store) (ls : List SymbolicSet) (asked : SymbolicAsked) (family : ℕ → SymbolicSet)
-        → IsFrame s net.now.raw frame.old
+        → IsDiagram s.held s.vars → IsFrame s net.now.raw frame.old
         → AllZip (AreRails s) ls (next_of net.now.raw frame.old)
         → AllZip (IsCutBy s) asked.cuts demands.now.cuts
+        → asked.weak ≡ ids_of demands.now.weak
         → ArePossibleEach s.vars net.now.raw ls asked family
-        → AreGiven s net.now.raw ls family sets.items frame.new.board.nets.items) }
+        → AreGiven s net.now.raw demands.now.weak ls family sets.items frame.new.board.nets.items) }
     ensures first { OnOk result (frame.new.first ≡ None) }
 {
     make_due(alloc, net, demands, frame)?;
@@ -187,10 +190,12 @@ fn renew_with<N: Nodes>(
     ops: &Ops,
     nodes: &mut N,
     net: &Compiled,
+    weak: &[NodeId],
     cuts: &[Cut],
     vectors: &mut Vectors,
     frame: &mut Frame,
 ) -> Result<(), OpFault>
+    requires weak { All (λ node. node.0 < net.now.raw.nets) weak.now }
     requires cuts { All (IsCutOf (N.store nodes.old) net.now.raw) cuts.now }
     requires frame { IsFrame (N.store nodes.old) net.now.raw frame.old }
     ensures frame { OnOk result (IsFrame (N.store nodes.new) net.now.raw frame.new) }
@@ -198,6 +203,7 @@ fn renew_with<N: Nodes>(
     ensures built { (ls : List SymbolicSet) (asked : SymbolicAsked) (sets : ℕ → SymbolicSet)
         → AllZip (AreRails (N.store nodes.old)) ls (next_of net.now.raw frame.old)
         → AllZip (IsCutBy (N.store nodes.old)) asked.cuts cuts.now
+        → asked.weak ≡ ids_of weak.now
         → ArePossibleEach (N.store nodes.old).vars net.now.raw ls asked sets
         → Built (time_work net.now.raw ls asked sets) Whatever
         (N.store nodes.old) (N.store nodes.new) result }
@@ -205,17 +211,22 @@ fn renew_with<N: Nodes>(
         (ls : List SymbolicSet) (asked : SymbolicAsked) (sets : ℕ → SymbolicSet)
         → AllZip (AreRails (N.store nodes.old)) ls (next_of net.now.raw frame.old)
         → AllZip (IsCutBy (N.store nodes.old)) asked.cuts cuts.now
+        → asked.weak ≡ ids_of weak.now
         → ArePossibleEach (N.store nodes.old).vars net.now.raw ls asked sets
         → HaveNets net.now.raw sets (N.store nodes.new) frame.new.board.nets.items) }
 {
     let links = replace(&mut vectors.links, CutLinks::none(alloc));
-    let links = linked(alloc, links, cuts, net.nets())?;
-    let asked = asked_nets(replace(&mut vectors.asked, Vec::new(alloc)), cuts)?;
+    let links = linked(alloc, links, weak, cuts, net.nets())?;
+    let flags = replace(&mut vectors.weak, Vec::new(alloc));
+    let flags = weak_flags(alloc, flags, weak, net.nets())?;
+    let asked = asked_nets(replace(&mut vectors.asked, Vec::new(alloc)), weak, cuts)?;
     let used = replace(&mut vectors.sets, Vec::new(alloc));
     let demands = Demands {
         cuts,
+        weak,
         nodes: &asked,
-        is_cut: &links.is_cut,
+        is_asked: &links.is_asked,
+        is_weak: &flags,
         first: &links.first,
         next: &links.next,
     };
@@ -234,6 +245,7 @@ fn renew_with<N: Nodes>(
     )?;
     frame.board.due.clear_gates();
     vectors.links = links;
+    vectors.weak = flags;
     vectors.asked = replace(&mut frame.asked, Vec::new(alloc));
     frame.asked = asked;
     vectors.sets = latches;
@@ -247,9 +259,11 @@ fn renew_frame<N: Nodes>(
     ops: &Ops,
     nodes: &mut N,
     net: &Compiled,
+    weak: &[NodeId],
     cuts: &[Cut],
     frame: &mut Frame,
 ) -> Result<(), OpFault>
+    requires weak { All (λ node. node.0 < net.now.raw.nets) weak.now }
     requires cuts { All (IsCutOf (N.store nodes.old) net.now.raw) cuts.now }
     requires frame { IsFrame (N.store nodes.old) net.now.raw frame.old }
     ensures frame { OnOk result (IsFrame (N.store nodes.new) net.now.raw frame.new) }
@@ -257,6 +271,7 @@ fn renew_frame<N: Nodes>(
     ensures built { (ls : List SymbolicSet) (asked : SymbolicAsked) (sets : ℕ → SymbolicSet)
         → AllZip (AreRails (N.store nodes.old)) ls (next_of net.now.raw frame.old)
         → AllZip (IsCutBy (N.store nodes.old)) asked.cuts cuts.now
+        → asked.weak ≡ ids_of weak.now
         → ArePossibleEach (N.store nodes.old).vars net.now.raw ls asked sets
         → Built (time_work net.now.raw ls asked sets) Whatever
         (N.store nodes.old) (N.store nodes.new) result }
@@ -264,11 +279,12 @@ fn renew_frame<N: Nodes>(
         (ls : List SymbolicSet) (asked : SymbolicAsked) (sets : ℕ → SymbolicSet)
         → AllZip (AreRails (N.store nodes.old)) ls (next_of net.now.raw frame.old)
         → AllZip (IsCutBy (N.store nodes.old)) asked.cuts cuts.now
+        → asked.weak ≡ ids_of weak.now
         → ArePossibleEach (N.store nodes.old).vars net.now.raw ls asked sets
         → HaveNets net.now.raw sets (N.store nodes.new) frame.new.board.nets.items) }
 {
     let mut vectors = replace(&mut frame.vectors, Vectors::none(alloc));
-    renew_with(alloc, ops, nodes, net, cuts, &mut vectors, frame)?;
+    renew_with(alloc, ops, nodes, net, weak, cuts, &mut vectors, frame)?;
     frame.vectors = vectors;
     Ok(())
 }
@@ -280,9 +296,11 @@ fn time_at<N: Nodes>(
     ops: &Ops,
     nodes: &mut N,
     net: &Compiled,
+    weak: &[NodeId],
     cuts: &[Cut],
     frame: &mut Frame,
 ) -> Result<Ref, OpFault>
+    requires weak { All (λ node. node.0 < net.now.raw.nets) weak.now }
     requires cuts { All (IsCutOf (N.store nodes.old) net.now.raw) cuts.now }
     requires frame { IsFrame (N.store nodes.old) net.now.raw frame.old }
     ensures frame { OnOk result (IsFrame (N.store nodes.new) net.now.raw frame.new) }
@@ -290,12 +308,13 @@ fn time_at<N: Nodes>(
     ensures built { (ls : List SymbolicSet) (asked : SymbolicAsked) (sets : ℕ → SymbolicSet)
         → AllZip (AreRails (N.store nodes.old)) ls (next_of net.now.raw frame.old)
         → AllZip (IsCutBy (N.store nodes.old)) asked.cuts cuts.now
+        → asked.weak ≡ ids_of weak.now
         → ArePossibleEach (N.store nodes.old).vars net.now.raw ls asked sets
         → Built (time_work net.now.raw ls asked sets)
         (λ t r. IsStep net.now.raw sets t (step_of net.now.raw frame.new r))
         (N.store nodes.old) (N.store nodes.new) result }
 {
-    renew_frame(alloc, ops, nodes, net, cuts, frame)?;
+    renew_frame(alloc, ops, nodes, net, weak, cuts, frame)?;
     frame.board.full = knows_full(frame.board.full, &frame.board.nets);
     if frame.board.full {
         return Ok(Ref::FALSE);
@@ -311,30 +330,34 @@ fn made_at<N: Nodes>(
     nodes: &mut N,
     net: &Compiled,
     latches: &[Rails],
+    weak: &[NodeId],
     cuts: &[Cut],
     frame: &mut Frame,
 ) -> Result<Step, OpFault>
     requires long { length latches.now ≡ length net.now.raw.latches }
     requires latches { All (AreRefs (N.store nodes.old)) latches.now }
+    requires weak { All (λ node. node.0 < net.now.raw.nets) weak.now }
     requires cuts { All (IsCutOf (N.store nodes.old) net.now.raw) cuts.now }
     requires frame { IsFrame (N.store nodes.old) net.now.raw frame.old }
     ensures frame { OnOk result (IsFrame (N.store nodes.new) net.now.raw frame.new) }
     ensures built { (ls : List SymbolicSet) (asked : SymbolicAsked) (sets : ℕ → SymbolicSet)
         → AllZip (AreRails (N.store nodes.old)) ls latches.now
         → AllZip (IsCutBy (N.store nodes.old)) asked.cuts cuts.now
+        → asked.weak ≡ ids_of weak.now
         → ArePossibleEach (N.store nodes.old).vars net.now.raw ls asked sets
         → Built (time_work net.now.raw ls asked sets) (IsStep net.now.raw sets)
         (N.store nodes.old) (N.store nodes.new) result }
 {
     frame.first = Some(Items::from(latches.to_vec(alloc)?));
-    let contradictory = time_at(alloc, ops, nodes, net, cuts, frame)?;
+    let contradictory = time_at(alloc, ops, nodes, net, weak, cuts, frame)?;
     let made = finished(alloc, net, frame, contradictory)?;
     Ok(made)
 }
 
 /// The possible sets of one time for every assignment at once, left in the frame, from what was kept of the time before:
 /// the result is where some set is empty. The latches have the sets of their inputs at the time before, or at a first time
-/// those that the frame starts with. `rows` are those of the net, `cuts` is what is asked. `StepsOut` comes only where all
+/// those that the frame starts with. `rows` are those of the net, and it is asked that the nets of
+/// `weak` are weakened, and cut by `cuts`. `StepsOut` comes only where all
 /// steps are spent and a node of the work functions of this time is not held; after any error what was held stays, and the
 /// frame is not to be used.
 pub fn renew<N: Nodes>(
@@ -343,10 +366,12 @@ pub fn renew<N: Nodes>(
     nodes: &mut N,
     net: &Net,
     rows: &GateRows,
+    weak: &[NodeId],
     cuts: &[Cut],
     frame: &mut Frame,
 ) -> Result<Ref, OpFault>
     requires rows { rows.now.covers ≡ map rows_of net.now.raw.covers }
+    requires weak { All (λ node. node.0 < net.now.raw.nets) weak.now }
     requires cuts { All (IsCutOf (N.store nodes.old) net.now.raw) cuts.now }
     requires frame { IsFrame (N.store nodes.old) net.now.raw frame.old }
     ensures keeps { Keeps (N.store nodes.old) (N.store nodes.new) }
@@ -354,6 +379,7 @@ pub fn renew<N: Nodes>(
     ensures built { (ls : List SymbolicSet) (asked : SymbolicAsked) (sets : ℕ → SymbolicSet)
         → AllZip (AreRails (N.store nodes.old)) ls (next_of net.now.raw frame.old)
         → AllZip (IsCutBy (N.store nodes.old)) asked.cuts cuts.now
+        → asked.weak ≡ ids_of weak.now
         → ArePossibleEach (N.store nodes.old).vars net.now.raw ls asked sets
         → Built (time_work net.now.raw ls asked sets)
         (λ t r. IsStep net.now.raw sets t (step_of net.now.raw frame.new r))
@@ -361,12 +387,12 @@ pub fn renew<N: Nodes>(
     ensures frame { OnOk result (IsFrame (N.store nodes.new) net.now.raw frame.new) }
 {
     let compiled = Compiled { net, rows };
-    time_at(alloc, ops, nodes, &compiled, cuts, frame)
+    time_at(alloc, ops, nodes, &compiled, weak, cuts, frame)
 }
 
 /// The possible sets of one time for every assignment at once, where some set is empty, and the next latch sets, from
 /// what was kept of the time before; the frame then keeps this time. `rows` are those of the net, `latches` are the
-/// latches' sets, `cuts` is what is asked. `StepsOut` comes only where all steps are spent and a node of the work
+/// latches' sets, and it is asked that the nets of `weak` are weakened, and cut by `cuts`. `StepsOut` comes only where all steps are spent and a node of the work
 /// functions of this time is not held; after any error what was held stays, and the frame is not to be used.
 pub fn advance<N: Nodes>(
     alloc: Global,
@@ -375,33 +401,37 @@ pub fn advance<N: Nodes>(
     net: &Net,
     rows: &GateRows,
     latches: &[Rails],
+    weak: &[NodeId],
     cuts: &[Cut],
     frame: &mut Frame,
 ) -> Result<Step, OpFault>
     requires rows { rows.now.covers ≡ map rows_of net.now.raw.covers }
     requires long { length latches.now ≡ length net.now.raw.latches }
     requires latches { All (AreRefs (N.store nodes.old)) latches.now }
+    requires weak { All (λ node. node.0 < net.now.raw.nets) weak.now }
     requires cuts { All (IsCutOf (N.store nodes.old) net.now.raw) cuts.now }
     requires frame { IsFrame (N.store nodes.old) net.now.raw frame.old }
     ensures keeps { Keeps (N.store nodes.old) (N.store nodes.new) }
     ensures refs { IfOk result (λ r. All (AreRefs (N.store nodes.new)) r.nets
         × IsRef (N.store nodes.new) r.contradictory × All (AreRefs (N.store nodes.new)) r.next) }
-    ensures possible { IfOk result (λ r. IsPossibleStep net.now.raw latches.now cuts.now
+    ensures possible { IfOk result (λ r. IsPossibleStep net.now.raw latches.now weak.now cuts.now
         (N.store nodes.old) (N.store nodes.new) r) }
     ensures built { (ls : List SymbolicSet) (asked : SymbolicAsked) (sets : ℕ → SymbolicSet)
         → AllZip (AreRails (N.store nodes.old)) ls latches.now
         → AllZip (IsCutBy (N.store nodes.old)) asked.cuts cuts.now
+        → asked.weak ≡ ids_of weak.now
         → ArePossibleEach (N.store nodes.old).vars net.now.raw ls asked sets
         → Built (time_work net.now.raw ls asked sets) (IsStep net.now.raw sets)
         (N.store nodes.old) (N.store nodes.new) result }
     ensures frame { OnOk result (IsFrame (N.store nodes.new) net.now.raw frame.new) }
 {
     let compiled = Compiled { net, rows };
-    made_at(alloc, ops, nodes, &compiled, latches, cuts, frame)
+    made_at(alloc, ops, nodes, &compiled, latches, weak, cuts, frame)
 }
 
 /// The possible sets of one time for every assignment at once, where some set is empty, and the next latch sets. `rows`
-/// are those of the net, `latches` are the latches' sets, `cuts` is what is asked. `StepsOut` comes only where all steps
+/// are those of the net, `latches` are the latches' sets, and it is asked that the nets of `weak` are
+/// weakened, and cut by `cuts`. `StepsOut` comes only where all steps
 /// are spent and a node of the work functions of this time is not held; after any error what was held stays.
 pub fn step<N: Nodes>(
     alloc: Global,
@@ -410,24 +440,29 @@ pub fn step<N: Nodes>(
     net: &Net,
     rows: &GateRows,
     latches: &[Rails],
+    weak: &[NodeId],
     cuts: &[Cut],
 ) -> Result<Step, OpFault>
     requires rows { rows.now.covers ≡ map rows_of net.now.raw.covers }
     requires long { length latches.now ≡ length net.now.raw.latches }
     requires latches { All (AreRefs (N.store nodes.old)) latches.now }
+    requires weak { All (λ node. node.0 < net.now.raw.nets) weak.now }
     requires cuts { All (IsCutOf (N.store nodes.old) net.now.raw) cuts.now }
     ensures keeps { Keeps (N.store nodes.old) (N.store nodes.new) }
     ensures refs { IfOk result (λ r. All (AreRefs (N.store nodes.new)) r.nets
         × IsRef (N.store nodes.new) r.contradictory × All (AreRefs (N.store nodes.new)) r.next) }
-    ensures possible { IfOk result (λ r. IsPossibleStep net.now.raw latches.now cuts.now
+    ensures possible { IfOk result (λ r. IsPossibleStep net.now.raw latches.now weak.now cuts.now
         (N.store nodes.old) (N.store nodes.new) r) }
     ensures built { (ls : List SymbolicSet) (asked : SymbolicAsked) (sets : ℕ → SymbolicSet)
         → AllZip (AreRails (N.store nodes.old)) ls latches.now
         → AllZip (IsCutBy (N.store nodes.old)) asked.cuts cuts.now
+        → asked.weak ≡ ids_of weak.now
         → ArePossibleEach (N.store nodes.old).vars net.now.raw ls asked sets
         → Built (time_work net.now.raw ls asked sets) (IsStep net.now.raw sets)
         (N.store nodes.old) (N.store nodes.new) result }
 {
     let mut frame = Frame::blank(alloc, net)?;
-    advance(alloc, ops, nodes, net, rows, latches, cuts, &mut frame)
+    advance(
+        alloc, ops, nodes, net, rows, latches, weak, cuts, &mut frame,
+    )
 }

@@ -24,7 +24,7 @@ use plain_check::verdict;
 use std::alloc::{AllocError, Global};
 use std::test::Fail;
 use ste_base::{Items, Name, NodeId, Time};
-use ste_model::{Assertion, Quint, Verdict};
+use ste_model::{Assertion, Quint, Verdict, Weakening};
 use sym_step::{Cut, Frame, GateRows, Step, advance, renew, step};
 
 /// A bit, or one of two variables.
@@ -246,17 +246,19 @@ fn step_of<N: Nodes>(
     net: &Net,
     rows: &GateRows,
     latches: &[Rails],
+    weak: &[NodeId],
     cuts: &[Cut],
 ) -> Result<Step, Fail>
     requires rows { rows.now.covers ≡ map rows_of net.now.raw.covers }
     requires long { length latches.now ≡ length net.now.raw.latches }
     requires latches { All (AreRefs (N.store nodes.old)) latches.now }
+    requires weak { All (λ node. node.0 < net.now.raw.nets) weak.now }
     requires cuts { All (IsCutOf (N.store nodes.old) net.now.raw) cuts.now }
     ensures keeps { Keeps (N.store nodes.old) (N.store nodes.new) }
     ensures refs { IfOk result (λ r. All (AreRefs (N.store nodes.new)) r.nets) }
     ensures next { IfOk result (λ r. All (AreRefs (N.store nodes.new)) r.next) }
 {
-    match step(alloc, ops, nodes, net, rows, latches, cuts) {
+    match step(alloc, ops, nodes, net, rows, latches, weak, cuts) {
         Ok(made) => Ok(made),
         Err(_) => Err("no step".into()),
     }
@@ -305,7 +307,7 @@ fn table_without_cuts<N: Nodes>(
     if latches.len() != net.latches().len() {
         return Err("not a set for each latch".into());
     }
-    let then = step_of(alloc, ops, nodes, net, rows, latches, &[])?;
+    let then = step_of(alloc, ops, nodes, net, rows, latches, &[], &[])?;
     Ok(table_of(alloc, nodes, then.nets.as_slice())?)
 }
 
@@ -340,7 +342,7 @@ fn tables_with<N: Nodes>(
     requires cuts { All (IsCutOf (N.store nodes.old) net.now.raw) cuts.now }
 {
     let latches = unknowns(alloc, net.latches().len())?;
-    let made = step_of(alloc, ops, nodes, net, rows, &latches, cuts)?;
+    let made = step_of(alloc, ops, nodes, net, rows, &latches, &[], cuts)?;
     tables_after(alloc, ops, nodes, net, rows, &made)
 }
 
@@ -419,15 +421,35 @@ fn given_of(
     asked: &[Asked],
     bits: (bool, bool),
     spans: Spans,
+    times: Time,
 ) -> Result<Items<Quint>, AllocError>
     requires { All (λ a. a.node.0 < net.now.raw.nets) asked.now }
     ensures { IfOk result (λ quints. All (λ quint. quint.node.0 < net.now.raw.nets) quints) }
 {
     let mut quints = Items::new(alloc);
     for span in spans {
-        add_given(&mut quints, net, asked, bits, *span)?;
+        add_given(&mut quints, net, asked, bits, (span.0, span.1.min(times)))?;
     }
     Ok(quints)
+}
+
+/// The weakenings of these nets, at the times at which `weak_at` gives them, up to so many times.
+fn weakenings_of(
+    alloc: Global,
+    weak: &[NodeId],
+    times: Time,
+) -> Result<Items<Weakening>, AllocError> {
+    let mut weakenings = Items::new(alloc);
+    for (from, to) in WEAKENED {
+        for node in weak {
+            weakenings.push(Weakening {
+                node: *node,
+                from: *from,
+                to: (*to).min(times),
+            })?;
+        }
+    }
+    Ok(weakenings)
 }
 
 /// The plain checker's verdict on the claim that the net has 1 at the time.
@@ -435,6 +457,7 @@ fn plain_verdict(
     alloc: Global,
     net: &Net,
     given: Items<Quint>,
+    weak: Items<Weakening>,
     id: u32,
     time: Time,
 ) -> Result<Verdict, AllocError>
@@ -453,6 +476,7 @@ fn plain_verdict(
         reset: false,
         ant: given,
         con: Items::from(Vec::from_array(alloc, [claim])?),
+        weak,
     };
     verdict(alloc, net, 0, &task)
 }
@@ -474,12 +498,14 @@ fn wanted(sets: &[BitSet], is_vacuous: bool, id: usize) -> Verdict {
     }
 }
 
-/// What is asked of a net, under which assignment, and when.
+/// What is asked of a net, under which assignment, and when, over so many times.
 #[derive(Clone, Copy, Drop)]
 struct Plan<'a> {
     asked: &'a [Asked],
+    weak: &'a [NodeId],
     bits: (bool, bool),
     spans: Spans,
+    times: Time,
 }
 
 /// Whether the plain checker's verdict on each net at a time is what these sets give.
@@ -495,8 +521,10 @@ fn agrees_at(
     requires asked { All (λ a. a.node.0 < net.now.raw.nets) plan.asked.now }
 {
     for id in 0..net.nets() {
-        let given = given_of(alloc, net, plan.asked, plan.bits, plan.spans)?;
-        if plain_verdict(alloc, net, given, id, time)? != wanted(sets, is_vacuous, id as usize) {
+        let given = given_of(alloc, net, plan.asked, plan.bits, plan.spans, plan.times)?;
+        let weak = weakenings_of(alloc, plan.weak, plan.times)?;
+        let verdict = plain_verdict(alloc, net, given, weak, id, time)?;
+        if verdict != wanted(sets, is_vacuous, id as usize) {
             return Ok(false);
         }
     }
@@ -511,8 +539,10 @@ fn agrees(alloc: Global, net: &Net, asked: &[Asked], tables: &Tables) -> Result<
     for (bits, (now, later)) in ASSIGNMENTS.iter().zip(tables.now.iter().zip(&tables.later)) {
         let plan = Plan {
             asked,
+            weak: &[],
             bits: *bits,
             spans: AT_FIRST,
+            times: 2,
         };
         let empty = has_empty(now);
         if !agrees_at(alloc, net, plan, now, empty, 0)?
@@ -757,12 +787,14 @@ fn advance_of<N: Nodes>(
     net: &Net,
     rows: &GateRows,
     latches: &[Rails],
+    weak: &[NodeId],
     cuts: &[Cut],
     frame: &mut Frame,
 ) -> Result<Step, Fail>
     requires rows { rows.now.covers ≡ map rows_of net.now.raw.covers }
     requires long { length latches.now ≡ length net.now.raw.latches }
     requires latches { All (AreRefs (N.store nodes.old)) latches.now }
+    requires weak { All (λ node. node.0 < net.now.raw.nets) weak.now }
     requires cuts { All (IsCutOf (N.store nodes.old) net.now.raw) cuts.now }
     requires frame { IsFrame (N.store nodes.old) net.now.raw frame.old }
     ensures keeps { Keeps (N.store nodes.old) (N.store nodes.new) }
@@ -771,7 +803,7 @@ fn advance_of<N: Nodes>(
     ensures long { IfOk result (λ r. length r.next ≡ length net.now.raw.latches) }
     ensures frame { OnOk result (IsFrame (N.store nodes.new) net.now.raw frame.new) }
 {
-    let Ok(made) = advance(alloc, ops, nodes, net, rows, latches, cuts, frame) else {
+    let Ok(made) = advance(alloc, ops, nodes, net, rows, latches, weak, cuts, frame) else {
         return Err("no step".into());
     };
     if made.next.len() != net.latches().len() {
@@ -792,6 +824,50 @@ fn cuts_at(cuts: &[Cut], time: u32) -> &[Cut]
     }
 }
 
+/// The nets that are weakened at a time: none at some times.
+fn weak_at(weak: &[NodeId], time: u32) -> &[NodeId]
+    ensures { (n : ℕ) → All (λ node. node.0 < n) weak.now → All (λ node. node.0 < n) result.now }
+{
+    match time {
+        2 => &[],
+        _ => weak,
+    }
+}
+
+/// Which nets are weakened.
+#[derive(Clone, Copy, Drop)]
+enum Weakened {
+    /// None.
+    None,
+    /// Every second one, from the first on.
+    Even,
+    /// Every second one, from the second on.
+    Odd,
+    /// All.
+    All,
+}
+
+const WHICH: &[Weakened] = &[Weakened::None, Weakened::Even, Weakened::Odd, Weakened::All];
+
+/// The nets that are weakened.
+fn weak_nets(alloc: Global, net: &Net, which: Weakened) -> Result<Vec<NodeId>, AllocError>
+    ensures { IfOk result (λ nodes. All (λ node. node.0 < net.now.raw.nets) nodes.items) }
+{
+    let mut nodes = Vec::new(alloc);
+    for id in 0..net.nets() {
+        let is_one = match which {
+            Weakened::None => false,
+            Weakened::Even => id & 1 == 0,
+            Weakened::Odd => id & 1 == 1,
+            Weakened::All => true,
+        };
+        if is_one {
+            nodes.push(NodeId(id))?;
+        }
+    }
+    Ok(nodes)
+}
+
 /// Whether two steps gave the same.
 fn are_one(one: &Step, other: &Step) -> bool {
     one.nets.as_slice() == other.nets.as_slice()
@@ -799,26 +875,29 @@ fn are_one(one: &Step, other: &Step) -> bool {
         && one.contradictory == other.contradictory
 }
 
-/// Whether steps that go on from one another give what steps of their own give, over five times at which the cuts come
-/// and go.
+/// Whether steps that go on from one another give what steps of their own give, over five times at which the cuts and the
+/// weakened nets come and go.
 fn frames_with<N: Nodes>(
     alloc: Global,
     ops: &Ops,
     nodes: &mut N,
     net: &Net,
     rows: &GateRows,
+    weak: &[NodeId],
     cuts: &[Cut],
 ) -> Result<bool, Fail>
     requires rows { rows.now.covers ≡ map rows_of net.now.raw.covers }
+    requires weak { All (λ node. node.0 < net.now.raw.nets) weak.now }
     requires cuts { All (IsCutOf (N.store nodes.old) net.now.raw) cuts.now }
 {
     let mut latches = Items::from(unknowns(alloc, net.latches().len())?);
     let mut frame = Frame::blank(alloc, net)?;
     for time in 0..5 {
         let now = cuts_at(cuts, time);
+        let free = weak_at(weak, time);
         let held = latches.as_slice();
-        let kept = advance_of(alloc, ops, nodes, net, rows, held, now, &mut frame)?;
-        let anew = step_of(alloc, ops, nodes, net, rows, held, now)?;
+        let kept = advance_of(alloc, ops, nodes, net, rows, held, free, now, &mut frame)?;
+        let anew = step_of(alloc, ops, nodes, net, rows, held, free, now)?;
         if !are_one(&kept, &anew) {
             return Ok(false);
         }
@@ -834,27 +913,36 @@ fn frames_agree<N: Nodes>(
     nodes: &mut N,
     net: &Net,
     rows: &GateRows,
+    weak: &[NodeId],
     asked: &[Asked],
 ) -> Result<bool, Fail>
+    requires weak { All (λ node. node.0 < net.now.raw.nets) weak.now }
     requires vars { 2 ≤ (N.store nodes.old).vars }
     requires rows { rows.now.covers ≡ map rows_of net.now.raw.covers }
     requires asked { All (λ a. a.node.0 < net.now.raw.nets) asked.now }
 {
     let cuts = cuts_on(alloc, ops, nodes, net, asked)?;
-    frames_with(alloc, ops, nodes, net, rows, &cuts)
+    frames_with(alloc, ops, nodes, net, rows, weak, &cuts)
 }
 
 /// The same in a store of its own.
-fn frames_alone(alloc: Global, net: &Net, rows: &GateRows, asked: &[Asked]) -> Result<bool, Fail>
+fn frames_alone(
+    alloc: Global,
+    net: &Net,
+    rows: &GateRows,
+    weak: &[NodeId],
+    asked: &[Asked],
+) -> Result<bool, Fail>
+    requires weak { All (λ node. node.0 < net.now.raw.nets) weak.now }
     requires rows { rows.now.covers ≡ map rows_of net.now.raw.covers }
     requires asked { All (λ a. a.node.0 < net.now.raw.nets) asked.now }
 {
     let ops = Ops::new(alloc);
     let mut nodes = PlainNodes::new(alloc, 2, 100)?;
-    frames_agree(alloc, &ops, &mut nodes, net, rows, asked)
+    frames_agree(alloc, &ops, &mut nodes, net, rows, weak, asked)
 }
 
-/// The same, where what is asked has names.
+/// The same, where what is asked has names, with each list of weakened nets.
 fn named_frames_agree(
     alloc: Global,
     named: &Named,
@@ -862,7 +950,13 @@ fn named_frames_agree(
 ) -> Result<bool, Fail> {
     let asked = asked_of(alloc, &named.names, named.net.nets(), asked)?;
     let rows = rows_of_net(alloc, &named.net)?;
-    frames_alone(alloc, &named.net, &rows, &asked)
+    for which in WHICH {
+        let weak = weak_nets(alloc, &named.net, *which)?;
+        if !frames_alone(alloc, &named.net, &rows, &weak, &asked)? {
+            return Ok(false);
+        }
+    }
+    Ok(true)
 }
 
 /// The same of the net of a text.
@@ -886,8 +980,13 @@ fn steps_with_a_frame_agree_with_steps_without(rt: HostRuntime) -> Result<(), Fa
 /// The number of times at which frames are renewed.
 const TIMES: Time = 4;
 
-/// The times below it at which `cuts_at` gives cuts.
-const COME_AND_GO: Spans = &[(0, 1), (2, TIMES)];
+/// The same of nets that are drawn.
+const MORE_TIMES: Time = 6;
+
+/// The times up to it at which `cuts_at` gives cuts, and those at which `weak_at` gives nets.
+const COME_AND_GO: Spans = &[(0, 1), (2, 4), (5, MORE_TIMES)];
+
+const WEAKENED: Spans = &[(0, 2), (3, MORE_TIMES)];
 
 /// Renews a frame; an error where nodes are wanting.
 fn renewed<N: Nodes>(
@@ -896,16 +995,18 @@ fn renewed<N: Nodes>(
     nodes: &mut N,
     net: &Net,
     rows: &GateRows,
+    weak: &[NodeId],
     cuts: &[Cut],
     frame: &mut Frame,
 ) -> Result<(), Fail>
     requires rows { rows.now.covers ≡ map rows_of net.now.raw.covers }
+    requires weak { All (λ node. node.0 < net.now.raw.nets) weak.now }
     requires cuts { All (IsCutOf (N.store nodes.old) net.now.raw) cuts.now }
     requires frame { IsFrame (N.store nodes.old) net.now.raw frame.old }
     ensures keeps { Keeps (N.store nodes.old) (N.store nodes.new) }
     ensures frame { OnOk result (IsFrame (N.store nodes.new) net.now.raw frame.new) }
 {
-    match renew(alloc, ops, nodes, net, rows, cuts, frame) {
+    match renew(alloc, ops, nodes, net, rows, weak, cuts, frame) {
         Ok(_) => Ok(()),
         Err(_) => Err("no step".into()),
     }
@@ -945,20 +1046,24 @@ fn tables_renewed<N: Nodes>(
     nodes: &mut N,
     net: &Net,
     rows: &GateRows,
+    weak: &[NodeId],
     cuts: &[Cut],
+    times: Time,
 ) -> Result<Vec<Vec<Vec<BitSet>>>, Fail>
     requires rows { rows.now.covers ≡ map rows_of net.now.raw.covers }
+    requires weak { All (λ node. node.0 < net.now.raw.nets) weak.now }
     requires cuts { All (IsCutOf (N.store nodes.old) net.now.raw) cuts.now }
 {
     let mut frame = Frame::blank(alloc, net)?;
     let mut tables = Vec::new(alloc);
-    for time in 0..TIMES {
+    for time in 0..times {
         renewed(
             alloc,
             ops,
             nodes,
             net,
             rows,
+            weak_at(weak, time),
             cuts_at(cuts, time),
             &mut frame,
         )?;
@@ -972,15 +1077,18 @@ fn tables_of_renew(
     alloc: Global,
     net: &Net,
     rows: &GateRows,
+    weak: &[NodeId],
     asked: &[Asked],
+    times: Time,
 ) -> Result<Vec<Vec<Vec<BitSet>>>, Fail>
+    requires weak { All (λ node. node.0 < net.now.raw.nets) weak.now }
     requires rows { rows.now.covers ≡ map rows_of net.now.raw.covers }
     requires asked { All (λ a. a.node.0 < net.now.raw.nets) asked.now }
 {
     let ops = Ops::new(alloc);
     let mut nodes = PlainNodes::new(alloc, 2, 100)?;
     let cuts = cuts_on(alloc, &ops, &mut nodes, net, asked)?;
-    tables_renewed(alloc, &ops, &mut nodes, net, rows, &cuts)
+    tables_renewed(alloc, &ops, &mut nodes, net, rows, weak, &cuts, times)
 }
 
 /// The sets of the nets under the assignment of this number at a time.
@@ -1005,9 +1113,11 @@ fn is_empty_once(tables: &[Vec<Vec<BitSet>>], number: usize) -> Result<bool, Fai
 fn times_agree(
     alloc: Global,
     net: &Net,
+    weak: &[NodeId],
     asked: &[Asked],
     tables: &[Vec<Vec<BitSet>>],
     number: usize,
+    times: Time,
 ) -> Result<bool, Fail>
     requires widths { All (λ gate. length gate.inputs ≤ 8) net.now.raw.gates }
     requires asked { All (λ a. a.node.0 < net.now.raw.nets) asked.now }
@@ -1015,11 +1125,13 @@ fn times_agree(
 {
     let plan = Plan {
         asked,
+        weak,
         bits: ASSIGNMENTS[number],
         spans: COME_AND_GO,
+        times,
     };
     let empty = is_empty_once(tables, number)?;
-    for time in 0..TIMES {
+    for time in 0..times {
         let sets = sets_then(tables, time as usize, number)?;
         if !agrees_at(alloc, net, plan, sets, empty, time)? {
             return Ok(false);
@@ -1028,15 +1140,23 @@ fn times_agree(
     Ok(true)
 }
 
-/// Whether a frame that goes on agrees with the plain checker, net by net, at each time, where cuts come and go.
-fn renew_agrees(alloc: Global, net: &Net, asked: &[Asked]) -> Result<bool, Fail>
+/// Whether a frame that goes on agrees with the plain checker, net by net, at each time, where cuts and weakened nets come
+/// and go.
+fn renew_agrees(
+    alloc: Global,
+    net: &Net,
+    weak: &[NodeId],
+    asked: &[Asked],
+    times: Time,
+) -> Result<bool, Fail>
+    requires weak { All (λ node. node.0 < net.now.raw.nets) weak.now }
     requires widths { All (λ gate. length gate.inputs ≤ 8) net.now.raw.gates }
     requires asked { All (λ a. a.node.0 < net.now.raw.nets) asked.now }
 {
     let rows = rows_of_net(alloc, net)?;
-    let tables = tables_of_renew(alloc, net, &rows, asked)?;
+    let tables = tables_of_renew(alloc, net, &rows, weak, asked, times)?;
     for number in 0..4 {
-        if !times_agree(alloc, net, asked, &tables, number)? {
+        if !times_agree(alloc, net, weak, asked, &tables, number, times)? {
             return Ok(false);
         }
     }
@@ -1044,7 +1164,12 @@ fn renew_agrees(alloc: Global, net: &Net, asked: &[Asked]) -> Result<bool, Fail>
 }
 
 /// The same of the net of a text.
-fn case_renew_agrees(alloc: Global, text: &[u8], asked: &[(&str, Bit, Bit)]) -> Result<bool, Fail>
+fn case_renew_agrees(
+    alloc: Global,
+    text: &[u8],
+    asked: &[(&str, Bit, Bit)],
+    which: Weakened,
+) -> Result<bool, Fail>
     requires { length text.now ≤ 10000 }
 {
     let named = net_of(alloc, text)?;
@@ -1052,7 +1177,8 @@ fn case_renew_agrees(alloc: Global, text: &[u8], asked: &[(&str, Bit, Bit)]) -> 
         return Err("a wide gate".into());
     }
     let asked = asked_of(alloc, &named.names, named.net.nets(), asked)?;
-    renew_agrees(alloc, &named.net, &asked)
+    let weak = weak_nets(alloc, &named.net, which)?;
+    renew_agrees(alloc, &named.net, &weak, &asked, TIMES)
 }
 
 #[test]
@@ -1060,7 +1186,134 @@ fn a_frame_that_is_renewed_agrees_with_the_plain_checker(rt: HostRuntime) -> Res
     for (text, asked) in gates().iter().chain(others()) {
         let bytes = text.as_bytes();
         assert!(rt; bytes.len() <= 10000);
-        assert!(rt; case_renew_agrees(rt.alloc(), bytes, asked)?, "{text}");
+        assert!(rt;
+            case_renew_agrees(rt.alloc(), bytes, asked, Weakened::None)?,
+            "{text}"
+        );
+    }
+    Ok(())
+}
+
+#[test]
+fn a_frame_with_weakened_nets_agrees_with_the_plain_checker(rt: HostRuntime) -> Result<(), Fail> {
+    for (number, (text, asked)) in others().iter().enumerate() {
+        let bytes = text.as_bytes();
+        assert!(rt; bytes.len() <= 10000);
+        let which = match number % 3 {
+            0 => Weakened::Even,
+            1 => Weakened::Odd,
+            _ => Weakened::All,
+        };
+        assert!(rt;
+            case_renew_agrees(rt.alloc(), bytes, asked, which)?,
+            "{text}"
+        );
+    }
+    Ok(())
+}
+
+/// Draws a number below 128; the numbers are the same each time.
+fn drawn(seed: &mut u32) -> u8 {
+    *seed = seed.wrapping_mul(1664525).wrapping_add(1013904223);
+    (*seed >> 25) as u8
+}
+
+/// A net that is drawn: inputs `a` and `b`, latches `c` and `d`, and gates `e` to `h` of two inputs each.
+fn drawn_text(alloc: Global, seed: &mut u32) -> Result<Vec<u8>, AllocError> {
+    let mut text = ".model r\n.inputs a b\n.outputs h\n"
+        .as_bytes()
+        .to_vec(alloc)?;
+    for latch in [b'c', b'd'] {
+        let input = b'e'.wrapping_add(drawn(seed) & 3);
+        text.extend_from_slice(".latch ".as_bytes())?;
+        text.extend_from_slice(&[input, b' ', latch, b'\n'])?;
+    }
+    for gate in [b'e', b'f', b'g', b'h'] {
+        let left = b'a'.wrapping_add(drawn(seed) & 3);
+        let right = gate.wrapping_sub(1).wrapping_sub(drawn(seed) & 1);
+        text.extend_from_slice(".names ".as_bytes())?;
+        text.extend_from_slice(&[left, b' ', right, b' ', gate, b'\n'])?;
+        for row in ["00 1\n", "01 1\n", "10 1\n", "11 1\n"] {
+            if drawn(seed) & 1 == 1 {
+                text.extend_from_slice(row.as_bytes())?;
+            }
+        }
+    }
+    text.extend_from_slice(".end\n".as_bytes())?;
+    Ok(text)
+}
+
+/// A bit that is drawn.
+fn drawn_bit(seed: &mut u32) -> Bit {
+    match drawn(seed) & 3 {
+        0 => Bit::Zero,
+        1 => Bit::One,
+        2 => Bit::P,
+        _ => Bit::Q,
+    }
+}
+
+/// Adds what is asked of one of the first eight nets, drawn.
+fn add_drawn(found: &mut Vec<Asked>, net: &Net, seed: &mut u32) -> Result<(), AllocError>
+    ensures { OnOk result (All (λ a. a.node.0 < net.now.raw.nets) found.old.items
+        → All (λ a. a.node.0 < net.now.raw.nets) found.new.items) }
+{
+    let id = u32::from(drawn(seed) & 7);
+    let guard = drawn_bit(seed);
+    let value = drawn_bit(seed);
+    if id < net.nets() {
+        found.push(Asked {
+            node: NodeId(id),
+            guard,
+            value,
+        })?;
+    }
+    Ok(())
+}
+
+/// What is asked, drawn.
+fn drawn_asked(alloc: Global, net: &Net, seed: &mut u32) -> Result<Vec<Asked>, AllocError>
+    ensures { IfOk result (λ found. All (λ a. a.node.0 < net.now.raw.nets) found.items) }
+{
+    let mut found = Vec::new(alloc);
+    add_drawn(&mut found, net, seed)?;
+    add_drawn(&mut found, net, seed)?;
+    Ok(found)
+}
+
+/// Which nets are weakened, drawn.
+fn drawn_weak(alloc: Global, net: &Net, seed: &mut u32) -> Result<Vec<NodeId>, AllocError>
+    ensures { IfOk result (λ nodes. All (λ node. node.0 < net.now.raw.nets) nodes.items) }
+{
+    let mut nodes = Vec::new(alloc);
+    for id in 0..net.nets() {
+        if drawn(seed) & 3 == 0 {
+            nodes.push(NodeId(id))?;
+        }
+    }
+    Ok(nodes)
+}
+
+/// Whether a frame agrees with the plain checker on a net, with what is asked and weakened, that are drawn.
+fn drawn_agrees(alloc: Global, seed: &mut u32) -> Result<bool, Fail> {
+    let text = drawn_text(alloc, seed)?;
+    if text.len() > 10000 {
+        return Err("a long text".into());
+    }
+    let named = net_of(alloc, &text)?;
+    if !all_narrow(named.net.gates()) {
+        return Err("a wide gate".into());
+    }
+    let asked = drawn_asked(alloc, &named.net, seed)?;
+    let weak = drawn_weak(alloc, &named.net, seed)?;
+    renew_agrees(alloc, &named.net, &weak, &asked, MORE_TIMES)
+}
+
+#[test]
+fn drawn_nets_with_weakened_nets_agree_with_the_plain_checker(rt: HostRuntime) -> Result<(), Fail> {
+    let mut seed = 1;
+    for number in 0..6u32 {
+        assert!(rt; drawn_agrees(rt.alloc(), &mut seed)?, "{number}");
     }
     Ok(())
 }

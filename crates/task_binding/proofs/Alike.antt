@@ -8,17 +8,19 @@ use Rattle.ste_model.specs.Trees as model
 use Rattle.ste_model.specs.declared.task.Tasks.{Tasks}
 use Rattle.assert_syntax.specs.declared.tasks.RawBind.{RawBind}
 use Rattle.assert_syntax.specs.declared.tasks.RawEdge.{RawEdge}
+use Rattle.assert_syntax.specs.declared.tasks.RawMark.{RawMark}
 use Rattle.assert_syntax.specs.declared.tasks.RawQuint.{RawQuint}
 use Rattle.assert_syntax.specs.declared.tasks.RawTask.{RawTask}
 use Rattle.assert_syntax.specs.declared.tasks.RawTask.TheVariants.{Ste, Gste}
 use Rattle.assert_syntax.specs.declared.tasks.RawTasks.{RawTasks}
-use Rattle.assert_syntax.specs.Spelled.{BindTree, EdgeTree, QuintTree, TaskTree, assertion, graph, bind_tree, edge_tree, quint_tree, task_tree}
+use Rattle.assert_syntax.specs.declared.tasks.RawWeak.{RawWeak}
+use Rattle.assert_syntax.specs.Spelled.{BindTree, EdgeTree, MarkTree, QuintTree, TaskTree, WeakTree, assertion, graph, bind_tree, edge_tree, mark_tree, quint_tree, task_tree, weak_tree}
 use Rattle.task_binding.specs.declared.fault.BindFault.{BindFault}
 use Rattle.task_binding.specs.declared.fault.BindFault.TheVariants.{UnknownNode, TooLarge, OutOfMemory}
 use Rattle.task_binding.specs.declared.unknown.Mention.{Mention}
 use Rattle.task_binding.specs.Answer.{IsAnswer}
-use Rattle.task_binding.specs.Bound.{bind_bound, edge_bound, net_by, quint_bound, task_bound}
-use Rattle.task_binding.specs.Mentions.{AllNamed, IsFirstUnknown, bind_mention, edge_mentions, mentions_of, quint_mention, task_mentions}
+use Rattle.task_binding.specs.Bound.{bind_bound, edge_bound, mark_bound, net_by, quint_bound, task_bound, weak_bound}
+use Rattle.task_binding.specs.Mentions.{AllNamed, IsFirstUnknown, bind_mention, edge_mentions, mark_mention, mentions_of, quint_mention, task_mentions, weak_mention}
 use Rattle.task_binding.specs.Sizes.{AllFit, IsFirstLarge, cells, head_line, latest, most_cells}
 
 -- a map over trees, and the same map over what has the trees
@@ -41,11 +43,18 @@ quint_said quint = record { line = quint.line; node = quint.node }
 abbrev bind_said : BindTree → Mention
 bind_said bind = record { line = bind.line; node = bind.node }
 
+abbrev weak_said : WeakTree → Mention
+weak_said weak = record { line = weak.line; node = weak.node }
+
+abbrev mark_said : MarkTree → Mention
+mark_said mark = record { line = mark.line; node = mark.node }
+
 abbrev edge_said : EdgeTree → List Mention
-edge_said edge = map bind_said edge.ant ++ map bind_said edge.con
+edge_said edge = map bind_said edge.ant ++ (map bind_said edge.con ++ map mark_said edge.weak)
 
 abbrev task_said : TaskTree → List Mention
-task_said (assertion line name reset ant con) = map quint_said ant ++ map quint_said con
+task_said (assertion line name reset ant con weak) =
+    map quint_said ant ++ (map quint_said con ++ map weak_said weak)
 task_said (graph line name reset vertices edges) = flat_map edge_said edges
 
 quints_said : (quints : List RawQuint) → map quint_mention quints ≡ map quint_said (map quint_tree quints)
@@ -54,11 +63,23 @@ quints_said quints = over_trees quint_tree quint_mention quint_said (λ quint. r
 binds_said : (binds : List RawBind) → map bind_mention binds ≡ map bind_said (map bind_tree binds)
 binds_said binds = over_trees bind_tree bind_mention bind_said (λ bind. refl) binds
 
+weaks_said : (weaks : List RawWeak) → map weak_mention weaks ≡ map weak_said (map weak_tree weaks)
+weaks_said weaks = over_trees weak_tree weak_mention weak_said (λ weak. refl) weaks
+
+marks_said : (marks : List RawMark) → map mark_mention marks ≡ map mark_said (map mark_tree marks)
+marks_said marks = over_trees mark_tree mark_mention mark_said (λ mark. refl) marks
+
+-- three lists, one behind the other
+three : {one one2 other other2 third third2 : List Mention} → one ≡ one2 → other ≡ other2 →
+    third ≡ third2 → one ++ (other ++ third) ≡ one2 ++ (other2 ++ third2)
+three e f g = rw e (rw f (rw g refl))
+
 edge_is : (edge : RawEdge) → edge_mentions edge ≡ edge_said (edge_tree edge)
-edge_is edge = ap (λ l. l ++ map bind_mention edge.con) (binds_said edge.ant) ∙ ap (λ l. map bind_said (map bind_tree edge.ant) ++ l) (binds_said edge.con)
+edge_is edge = three (binds_said edge.ant) (binds_said edge.con) (marks_said edge.weak)
 
 task_is : (task : RawTask) → task_mentions task ≡ task_said (task_tree task)
-task_is (Ste line name reset ant con) = ap (λ l. l ++ map quint_mention con) (quints_said ant) ∙ ap (λ l. map quint_said (map quint_tree ant) ++ l) (quints_said con)
+task_is (Ste line name reset ant con weak) =
+    three (quints_said ant) (quints_said con) (weaks_said weak)
 task_is (Gste line name reset vertices edges) = flat_over_trees edge_tree edge_mentions edge_said edge_is edges
 
 mentions_alike : (one other : List RawTask) → map task_tree one ≡ map task_tree other → mentions_of one ≡ mentions_of other
@@ -69,7 +90,8 @@ abbrev latest_said : List QuintTree → ℕ
 latest_said quints = fold max 0 (map (λ quint. quint.to) quints)
 
 abbrev cells_said : ℕ → TaskTree → ℕ
-cells_said nets (assertion line name reset ant con) = nets * max (latest_said ant) (latest_said con)
+cells_said nets (assertion line name reset ant con weak) =
+    nets * max (latest_said ant) (latest_said con)
 cells_said nets (graph line name reset vertices edges) = nets * (length vertices + length edges)
 
 latest_is : (quints : List RawQuint) → latest quints ≡ latest_said (map quint_tree quints)
@@ -80,7 +102,7 @@ as_long f [] = refl
 as_long f (x ∷ xs) = ap suc (as_long f xs)
 
 cells_are : (nets : ℕ) (task : RawTask) → cells nets task ≡ cells_said nets (task_tree task)
-cells_are nets (Ste line name reset ant con) =
+cells_are nets (Ste line name reset ant con weak) =
     ap (λ n. nets * max n (latest con)) (latest_is ant) ∙ ap (λ n. nets * max (latest_said (map quint_tree ant)) n) (latest_is con)
 cells_are nets (Gste line name reset vertices edges) = ap (λ n. nets * (length vertices + n)) (as_long edge_tree edges)
 
@@ -101,11 +123,11 @@ leading_sums nets n one other e =
 
 -- the first lines, by trees
 abbrev line_said : TaskTree → ℕ
-line_said (assertion line name reset ant con) = line
+line_said (assertion line name reset ant con weak) = line
 line_said (graph line name reset vertices edges) = line
 
 line_is : (task : RawTask) → head_line task ≡ line_said (task_tree task)
-line_is (Ste line name reset ant con) = refl
+line_is (Ste line name reset ant con weak) = refl
 line_is (Gste line name reset vertices edges) = refl
 
 abbrev maybe : {A B : Type 0} → (A → B) → Option A → Option B
@@ -134,11 +156,25 @@ quint_over net quint = record { guard = quint.guard; node = net quint.node; valu
 abbrev bind_over : (List ℕ → ℕ) → BindTree → model.BindTree
 bind_over net bind = record { guard = bind.guard; node = net bind.node; value = bind.value }
 
+abbrev weak_over : (List ℕ → ℕ) → WeakTree → model.WeakTree
+weak_over net weak = record { node = net weak.node; from = weak.from; to = weak.to }
+
+abbrev mark_over : (List ℕ → ℕ) → MarkTree → ℕ
+mark_over net mark = net mark.node
+
+abbrev edge_of : ℕ → ℕ → List model.BindTree → List model.BindTree → List ℕ → model.EdgeTree
+edge_of from to ant con weak =
+    record { from = from; to = to; ant = ant; con = con; weak = weak }
+
 abbrev edge_over : (List ℕ → ℕ) → EdgeTree → model.EdgeTree
-edge_over net edge = record { from = edge.from; to = edge.to; ant = map (bind_over net) edge.ant; con = map (bind_over net) edge.con }
+edge_over net edge =
+    edge_of edge.from edge.to (map (bind_over net) edge.ant) (map (bind_over net) edge.con)
+    (map (mark_over net) edge.weak)
 
 abbrev task_over : (List ℕ → ℕ) → TaskTree → model.TaskTree
-task_over net (assertion line name reset ant con) = model.assertion name reset (map (quint_over net) ant) (map (quint_over net) con)
+task_over net (assertion line name reset ant con weak) =
+    model.assertion name reset (map (quint_over net) ant) (map (quint_over net) con)
+    (map (weak_over net) weak)
 task_over net (graph line name reset vertices edges) = model.graph name reset vertices (map (edge_over net) edges)
 
 quints_over : (net : List ℕ → ℕ) (quints : List RawQuint) → map (quint_bound net) quints ≡ map (quint_over net) (map quint_tree quints)
@@ -147,15 +183,32 @@ quints_over net quints = over_trees quint_tree (quint_bound net) (quint_over net
 binds_over : (net : List ℕ → ℕ) (binds : List RawBind) → map (bind_bound net) binds ≡ map (bind_over net) (map bind_tree binds)
 binds_over net binds = over_trees bind_tree (bind_bound net) (bind_over net) (λ bind. refl) binds
 
+weaks_over : (net : List ℕ → ℕ) (weaks : List RawWeak) →
+    map (weak_bound net) weaks ≡ map (weak_over net) (map weak_tree weaks)
+weaks_over net weaks = over_trees weak_tree (weak_bound net) (weak_over net) (λ weak. refl) weaks
+
+marks_over : (net : List ℕ → ℕ) (marks : List RawMark) →
+    map (mark_bound net) marks ≡ map (mark_over net) (map mark_tree marks)
+marks_over net marks = over_trees mark_tree (mark_bound net) (mark_over net) (λ mark. refl) marks
+
 edge_bound_is : (net : List ℕ → ℕ) (edge : RawEdge) → edge_bound net edge ≡ edge_over net (edge_tree edge)
 edge_bound_is net edge =
-    ap (λ l. record { from = edge.from; to = edge.to; ant = l; con = map (bind_bound net) edge.con }) (binds_over net edge.ant)
-    ∙ ap (λ l. record { from = edge.from; to = edge.to; ant = map (bind_over net) (map bind_tree edge.ant); con = l }) (binds_over net edge.con)
+    let given = map (bind_over net) (map bind_tree edge.ant) in
+    let asked = map (bind_over net) (map bind_tree edge.con) in
+    let marks = map (mark_bound net) edge.weak in
+    ap (λ l. edge_of edge.from edge.to l (map (bind_bound net) edge.con) marks)
+    (binds_over net edge.ant)
+    ∙ ap (λ l. edge_of edge.from edge.to given l marks) (binds_over net edge.con)
+    ∙ ap (edge_of edge.from edge.to given asked) (marks_over net edge.weak)
 
 task_bound_is : (net : List ℕ → ℕ) (task : RawTask) → task_bound net task ≡ task_over net (task_tree task)
-task_bound_is net (Ste line name reset ant con) =
-    ap (λ l. model.assertion name reset l (map (quint_bound net) con)) (quints_over net ant)
-    ∙ ap (λ l. model.assertion name reset (map (quint_over net) (map quint_tree ant)) l) (quints_over net con)
+task_bound_is net (Ste line name reset ant con weak) =
+    let given = map (quint_over net) (map quint_tree ant) in
+    let asked = map (quint_over net) (map quint_tree con) in
+    let weaks = map (weak_bound net) weak in
+    ap (λ l. model.assertion name reset l (map (quint_bound net) con) weaks) (quints_over net ant)
+    ∙ ap (λ l. model.assertion name reset given l weaks) (quints_over net con)
+    ∙ ap (model.assertion name reset given asked) (weaks_over net weak)
 task_bound_is net (Gste line name reset vertices edges) =
     ap (λ l. model.graph name reset vertices l) (over_trees edge_tree (edge_bound net) (edge_over net) (edge_bound_is net) edges)
 

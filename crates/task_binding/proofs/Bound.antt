@@ -18,7 +18,7 @@ latest quints = fold max 0 (map (λ quint. quint.to) quints)
 
 -- the cells of what a task says
 abbrev said_cells : ℕ → TaskTree → ℕ
-said_cells nets (assertion name reset ant con) = nets * max (latest ant) (latest con)
+said_cells nets (assertion name reset ant con weak) = nets * max (latest ant) (latest con)
 said_cells nets (graph name reset vertices edges) = nets * (length vertices + length edges)
 
 tos : (quints : List Quint) → map (λ (quint : QuintTree). quint.to) (map quint_tree quints) ≡ map (λ (quint : Quint). quint.to) quints
@@ -39,7 +39,7 @@ of_task nets (task.Ste t) =
 of_task nets (task.Gste t) = ap (λ n. nets * (length t.vertices + n)) (same_length edge_tree t.edges)
 
 of_raw : (nets : ℕ) (net : List ℕ → ℕ) (raw : RawTask) → said_cells nets (task_bound net raw) ≡ cells nets raw
-of_raw nets net (Ste line name reset ant con) =
+of_raw nets net (Ste line name reset ant con weak) =
     ap (λ k. nets * max (fold max 0 k) (latest (map (quint_bound net) con))) (raw_tos net ant) ∙ ap (λ k. nets * max (fold max 0 (map (λ quint. quint.to) ant)) (fold max 0 k)) (raw_tos net con)
 of_raw nets net (Gste line name reset vertices edges) = ap (λ n. nets * (length vertices + n)) (same_length (edge_bound net) edges)
 

@@ -6,9 +6,10 @@ use Rattle.assert_syntax.specs.declared.tasks.RawEdge.{RawEdge}
 use Rattle.assert_syntax.specs.declared.tasks.RawQuint.{RawQuint}
 use Rattle.assert_syntax.specs.declared.tasks.RawTask.{RawTask}
 use Rattle.assert_syntax.specs.declared.tasks.RawTask.TheVariants.{Ste, Gste}
+use Rattle.assert_syntax.specs.declared.tasks.RawWeak.{RawWeak}
 use Rattle.task_binding.specs.declared.unknown.Mention.{Mention}
-use Rattle.task_binding.specs.Mentions.{AllNamed, quint_mention, bind_mention, edge_mentions, task_mentions, mentions_of}
-use Rattle.task_binding.specs.private.Known.{quint_known, bind_known, edge_known, task_known}
+use Rattle.task_binding.specs.Mentions.{AllNamed, quint_mention, bind_mention, weak_mention, mark_mention, edge_mentions, task_mentions, mentions_of}
+use Rattle.task_binding.specs.private.Known.{quint_known, bind_known, weak_known, mark_known, edge_known, task_known}
 
 both : (a b : Bool) → (a && b) ≡ true → (a ≡ true) × (b ≡ true)
 both true b e = (refl, e)
@@ -34,15 +35,34 @@ lists_named net_of known f one (x ∷ xs) e =
     let h = both (known x) (list_all known xs) e in
     together net_of (f x) (flat_map f xs) (one x h.0) (lists_named net_of known f one xs h.1)
 
-edge_named : (net_of : NetOf) (edge : RawEdge) → edge_known net_of edge ≡ true → AllNamed net_of (edge_mentions edge)
+edge_named : (net_of : NetOf) (edge : RawEdge) → edge_known net_of edge ≡ true →
+    AllNamed net_of (edge_mentions edge)
 edge_named net_of edge e =
-    let h = both (list_all (bind_known net_of) edge.ant) (list_all (bind_known net_of) edge.con) e in
-    together net_of (map bind_mention edge.ant) (map bind_mention edge.con) (nodes_named net_of (bind_known net_of) bind_mention (λ x k. k) edge.ant h.0) (nodes_named net_of (bind_known net_of) bind_mention (λ x k. k) edge.con h.1)
+    let given = list_all (bind_known net_of) edge.ant in
+    let asked = list_all (bind_known net_of) edge.con in
+    let weakened = list_all (mark_known net_of) edge.weak in
+    let h = both given (asked && weakened) e in
+    let k = both asked weakened h.1 in
+    together net_of (map bind_mention edge.ant)
+    (map bind_mention edge.con ++ map mark_mention edge.weak)
+    (nodes_named net_of (bind_known net_of) bind_mention (λ x k. k) edge.ant h.0)
+    (together net_of (map bind_mention edge.con) (map mark_mention edge.weak)
+    (nodes_named net_of (bind_known net_of) bind_mention (λ x k. k) edge.con k.0)
+    (nodes_named net_of (mark_known net_of) mark_mention (λ x k. k) edge.weak k.1))
 
-task_named : (net_of : NetOf) (task : RawTask) → task_known net_of task ≡ true → AllNamed net_of (task_mentions task)
-task_named net_of (Ste line name reset ant con) e =
-    let h = both (list_all (quint_known net_of) ant) (list_all (quint_known net_of) con) e in
-    together net_of (map quint_mention ant) (map quint_mention con) (nodes_named net_of (quint_known net_of) quint_mention (λ x k. k) ant h.0) (nodes_named net_of (quint_known net_of) quint_mention (λ x k. k) con h.1)
+task_named : (net_of : NetOf) (task : RawTask) → task_known net_of task ≡ true →
+    AllNamed net_of (task_mentions task)
+task_named net_of (Ste line name reset ant con weak) e =
+    let given = list_all (quint_known net_of) ant in
+    let asked = list_all (quint_known net_of) con in
+    let weakened = list_all (weak_known net_of) weak in
+    let h = both given (asked && weakened) e in
+    let k = both asked weakened h.1 in
+    together net_of (map quint_mention ant) (map quint_mention con ++ map weak_mention weak)
+    (nodes_named net_of (quint_known net_of) quint_mention (λ x k. k) ant h.0)
+    (together net_of (map quint_mention con) (map weak_mention weak)
+    (nodes_named net_of (quint_known net_of) quint_mention (λ x k. k) con k.0)
+    (nodes_named net_of (weak_known net_of) weak_mention (λ x k. k) weak k.1))
 task_named net_of (Gste line name reset vertices edges) e = lists_named net_of (edge_known net_of) edge_mentions (edge_named net_of) edges e
 
 -- of all tasks
@@ -53,12 +73,27 @@ grouped : (a b c : Bool) → ((a && b) && c) ≡ (a && (b && c))
 grouped true b c = refl
 grouped false b c = refl
 
+-- what is known behind three lists, one after the other
+three_known : (old given asked weakened next more last : Bool) → next ≡ (old && given) →
+    more ≡ (next && asked) → last ≡ (more && weakened) →
+    last ≡ (old && (given && (asked && weakened)))
+three_known old given asked weakened next more last n m l =
+    l ∙ ap (λ k. k && weakened) m ∙ ap (λ k. (k && asked) && weakened) n
+    ∙ grouped (old && given) asked weakened ∙ grouped old given (asked && weakened)
+
 -- what is known behind an assertion, and behind a graph
-pub ste_known : (net_of : NetOf) (task : RawTask) (line : ℕ) (name : List ℕ) (reset : Bool) (ant con one other : List RawQuint) (old next last : Bool) → task ≡ Ste line name reset ant con → one ≡ ant → other ≡ con → next ≡ (old && list_all (quint_known net_of) one) → last ≡ (next && list_all (quint_known net_of) other) → last ≡ (old && task_known net_of task)
-ste_known net_of task line name reset ant con one other old next last t a b n l =
-    let p = quint_known net_of in
-    l ∙ ap (λ k. k && list_all p other) n ∙ grouped old (list_all p one) (list_all p other)
-    ∙ ap (λ xs. old && (list_all p xs && list_all p other)) a ∙ ap (λ ys. old && (list_all p ant && list_all p ys)) b
+pub ste_known : (net_of : NetOf) (task : RawTask) (line : ℕ) (name : List ℕ) (reset : Bool)
+    (ant con one other : List RawQuint) (weak third : List RawWeak) (old next more last : Bool) →
+    task ≡ Ste line name reset ant con weak → one ≡ ant → other ≡ con → third ≡ weak →
+    next ≡ (old && list_all (quint_known net_of) one) →
+    more ≡ (next && list_all (quint_known net_of) other) →
+    last ≡ (more && list_all (weak_known net_of) third) → last ≡ (old && task_known net_of task)
+ste_known net_of task line name reset ant con one other weak third old next more last
+    t a b c n m l =
+    let p = list_all (quint_known net_of) in
+    let q = list_all (weak_known net_of) in
+    three_known old (p ant) (p con) (q weak) next more last
+    (n ∙ ap (λ xs. old && p xs) a) (m ∙ ap (λ xs. next && p xs) b) (l ∙ ap (λ xs. more && q xs) c)
     ∙ sym (ap (λ k. old && task_known net_of k) t)
 
 pub gste_known : (net_of : NetOf) (task : RawTask) (line : ℕ) (name : List ℕ) (reset : Bool) (vertices : List (List ℕ)) (edges one : List RawEdge) (old last : Bool) → task ≡ Gste line name reset vertices edges → one ≡ edges → last ≡ (old && list_all (edge_known net_of) one) → last ≡ (old && task_known net_of task)

@@ -119,6 +119,16 @@ both_result net_of one other one2 other2 found then (Ok next) e f a b =
     both_on net_of one other found then next (subst (λ all. GoesOn net_of all found then) e a) (subst (λ all. GoesOn net_of all then next) f b)
 both_result net_of one other one2 other2 found then (Err fault) e f a b = tt
 
+-- three lists of mentions, looked at one after the other
+pub three_result : (net_of : NetOf) (one other third one2 other2 third2 : List Mention)
+    (found then more : Option Mention) (answer : Result (Option Mention) AllocError) →
+    one2 ≡ one → other2 ≡ other → third2 ≡ third → GoesOn net_of one2 found then →
+    GoesOn net_of other2 then more → IfOk answer (λ next. GoesOn net_of third2 more next) →
+    IfOk answer (λ next. GoesOn net_of (one ++ (other ++ third)) found next)
+three_result net_of one other third one2 other2 third2 found then more answer e f g a b c =
+    both_result net_of one (other ++ third) one2 (other ++ third) found then answer e refl a
+    (both_result net_of other third other2 third2 then more answer f g b c)
+
 -- one turn of a loop over items, each with its mentions
 pub item_on : {T : Type 0} (net_of : NetOf) (f : T → List Mention) (items : List T) (i : ℕ) (item : T) (found then next : Option Mention) → i < length items → item ≡ get_or items i item → GoesOn net_of (flat_map f (take i items)) found then → GoesOn net_of (f item) then next → GoesOn net_of (flat_map f (take (i + 1) items)) found next
 item_on net_of f items i item found then next h g before here =

@@ -3,8 +3,10 @@ use Rattle.std.specs.Prelude.{◌≡◌, ◌<◌, ◌≤◌, ℕ, ◌++◌, List
 use Rattle.std.specs.List.{flat_map}
 use Rattle.assert_syntax.specs.declared.tasks.RawBind.{RawBind}
 use Rattle.assert_syntax.specs.declared.tasks.RawEdge.{RawEdge}
+use Rattle.assert_syntax.specs.declared.tasks.RawMark.{RawMark}
 use Rattle.assert_syntax.specs.declared.tasks.RawQuint.{RawQuint}
 use Rattle.assert_syntax.specs.declared.tasks.RawTask.{RawTask}
+use Rattle.assert_syntax.specs.declared.tasks.RawWeak.{RawWeak}
 use Rattle.assert_syntax.specs.declared.tasks.RawTask.TheVariants.{Ste, Gste}
 use Rattle.task_binding.specs.declared.unknown.Mention.{Mention}
 
@@ -15,13 +17,20 @@ quint_mention quint = record { line = quint.line; node = quint.node }
 abbrev pub bind_mention : RawBind → Mention
 bind_mention bind = record { line = bind.line; node = bind.node }
 
+-- the node of a weakening, with its line
+abbrev pub weak_mention : RawWeak → Mention
+weak_mention weak = record { line = weak.line; node = weak.node }
+
+abbrev pub mark_mention : RawMark → Mention
+mark_mention mark = record { line = mark.line; node = mark.node }
+
 -- the nodes of an edge
 abbrev pub edge_mentions : RawEdge → List Mention
-edge_mentions edge = map bind_mention edge.ant ++ map bind_mention edge.con
+edge_mentions edge = map bind_mention edge.ant ++ (map bind_mention edge.con ++ map mark_mention edge.weak)
 
 -- the nodes of a task
 abbrev pub task_mentions : RawTask → List Mention
-task_mentions (Ste line name reset ant con) = map quint_mention ant ++ map quint_mention con
+task_mentions (Ste line name reset ant con weak) = map quint_mention ant ++ (map quint_mention con ++ map weak_mention weak)
 task_mentions (Gste line name reset vertices edges) = flat_map edge_mentions edges
 
 -- the nodes of all tasks

@@ -11,12 +11,12 @@ latest quints = fold max 0 (map (λ quint. quint.to) quints)
 -- the cells of a task over so many nets: one for each net and each time below the depth, which is the greatest `to`; or for
 -- each net and each vertex and edge
 abbrev pub cells : ℕ → RawTask → ℕ
-cells nets (Ste line name reset ant con) = nets * max (latest ant) (latest con)
+cells nets (Ste line name reset ant con weak) = nets * max (latest ant) (latest con)
 cells nets (Gste line name reset vertices edges) = nets * (length vertices + length edges)
 
 -- the number of a task's first line
 abbrev pub head_line : RawTask → ℕ
-head_line (Ste line name reset ant con) = line
+head_line (Ste line name reset ant con weak) = line
 head_line (Gste line name reset vertices edges) = line
 
 -- the cells of all tasks together may be no more than this

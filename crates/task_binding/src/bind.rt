@@ -3,16 +3,18 @@
 ghost use Rattle.std.specs.Prelude.{◌≡◌, ◌&&◌, is_some, map, IfOk, OnOk};
 ghost use Rattle.std.specs.List.{list_all};
 ghost use Rattle.bool_expr.specs.Tree.{tree_of};
-ghost use Rattle.ste_model.specs.Trees.{quint_tree, bind_tree, edge_tree, task_tree};
+ghost use Rattle.ste_model.specs.Trees.{quint_tree, bind_tree, weak_tree, edge_tree, task_tree};
 ghost use Rattle.task_binding.specs.Bound.{net_by, quint_bound, bind_bound, edge_bound, task_bound};
+ghost use Rattle.task_binding.specs.Bound.{weak_bound, mark_bound};
 ghost use Rattle.task_binding.specs.private.Known.{quint_known, bind_known, edge_known, task_known};
+ghost use Rattle.task_binding.specs.private.Known.{weak_known, mark_known};
 
-use assert_syntax::tasks::{RawBind, RawEdge, RawQuint, RawTask};
+use assert_syntax::tasks::{RawBind, RawEdge, RawMark, RawQuint, RawTask, RawWeak};
 use bool_expr::{Expr, copy_expr};
 use net_core::Resolve;
 use std::alloc::{AllocError, Global};
 use ste_base::{Items, Name, NodeId, copies};
-use ste_model::{Assertion, Bind, Edge, Graph, Quint, Task};
+use ste_model::{Assertion, Bind, Edge, Graph, Quint, Task, Weakening};
 
 /// The net that a name names; where it names none, net 0, and `known` becomes false.
 fn named_net<N: Resolve>(names: &N, known: &mut bool, node: &Name) -> NodeId
@@ -116,6 +118,56 @@ fn bind_binds<N: Resolve>(
     Ok(bound.into())
 }
 
+/// A weakening over nets; `known` becomes false where its node names none.
+fn bind_weak<N: Resolve>(names: &N, known: &mut bool, weak: &RawWeak) -> Weakening
+    ensures bound { weak_tree result ≡ weak_bound (net_by (N.net_of names.now)) weak.now }
+    ensures known { known.new ≡ (known.old && weak_known (N.net_of names.now) weak.now) }
+{
+    Weakening {
+        node: named_net(names, known, &weak.node),
+        from: weak.from,
+        to: weak.to,
+    }
+}
+
+/// Weakenings over nets, in order; `known` becomes false where a node names none.
+fn bind_weaks<N: Resolve>(
+    alloc: Global,
+    names: &N,
+    known: &mut bool,
+    weaks: &[RawWeak],
+) -> Result<Items<Weakening>, AllocError>
+    ensures bound { IfOk result (λ bound. map weak_tree bound
+        ≡ map (weak_bound (net_by (N.net_of names.now))) weaks.now) }
+    ensures known { OnOk result (known.new
+        ≡ (known.old && list_all (weak_known (N.net_of names.now)) weaks.now)) }
+{
+    let mut bound = Vec::with_capacity(alloc, weaks.len())?;
+    for weak in weaks {
+        bound.push(bind_weak(names, known, weak))?;
+    }
+    Ok(bound.into())
+}
+
+/// The nets that an edge weakens, in order; `known` becomes false where a node names none.
+fn bind_marks<N: Resolve>(
+    alloc: Global,
+    names: &N,
+    known: &mut bool,
+    marks: &[RawMark],
+) -> Result<Items<NodeId>, AllocError>
+    ensures bound { IfOk result (λ bound. map (λ node. node.0) bound
+        ≡ map (mark_bound (net_by (N.net_of names.now))) marks.now) }
+    ensures known { OnOk result (known.new
+        ≡ (known.old && list_all (mark_known (N.net_of names.now)) marks.now)) }
+{
+    let mut bound = Vec::with_capacity(alloc, marks.len())?;
+    for mark in marks {
+        bound.push(named_net(names, known, &mark.node))?;
+    }
+    Ok(bound.into())
+}
+
 /// An edge over nets; `known` becomes false where a node names none.
 fn bind_edge<N: Resolve>(
     alloc: Global,
@@ -133,6 +185,7 @@ fn bind_edge<N: Resolve>(
         to: edge.to,
         ant: bind_binds(alloc, names, known, edge.ant.as_slice())?,
         con: bind_binds(alloc, names, known, edge.con.as_slice())?,
+        weak: bind_marks(alloc, names, known, edge.weak.as_slice())?,
     })
 }
 
@@ -173,12 +226,14 @@ pub fn bind_task<N: Resolve>(
             reset,
             ant,
             con,
+            weak,
             ..
         } => Ok(Task::Ste(Assertion {
             name: name.clone()?,
             reset: *reset,
             ant: bind_quints(alloc, names, known, ant.as_slice())?,
             con: bind_quints(alloc, names, known, con.as_slice())?,
+            weak: bind_weaks(alloc, names, known, weak.as_slice())?,
         })),
         RawTask::Gste {
             name,

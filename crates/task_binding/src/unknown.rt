@@ -3,14 +3,15 @@
 ghost use Rattle.std.specs.Prelude.{◌∷◌, ◌++◌, [], map, IfOk};
 ghost use Rattle.std.specs.List.{flat_map};
 ghost use Rattle.task_binding.specs.Mentions.{quint_mention, bind_mention, edge_mentions, task_mentions, mentions_of};
+ghost use Rattle.task_binding.specs.Mentions.{weak_mention, mark_mention};
 ghost use Rattle.task_binding.specs.private.Leading.{GoesOn, Leads};
 
-use assert_syntax::tasks::{RawBind, RawEdge, RawQuint, RawTask};
+use assert_syntax::tasks::{RawBind, RawEdge, RawMark, RawQuint, RawTask, RawWeak};
 use net_core::Resolve;
 use std::alloc::AllocError;
 use ste_base::{Items, Name};
 
-/// The node of a clause, by name, and the number of the clause's line.
+/// The node of a clause or of a weakening, by name, and the number of its line.
 #[derive(Drop)]
 pub struct Mention {
     pub line: u32,
@@ -74,6 +75,38 @@ fn in_binds<N: Resolve>(
     Ok(found)
 }
 
+/// What is found, where the nodes of these weakenings are looked at too.
+fn in_weaks<N: Resolve>(
+    names: &N,
+    found: Option<Mention>,
+    weaks: &[RawWeak],
+) -> Result<Option<Mention>, AllocError>
+    ensures { IfOk result (λ next. GoesOn (N.net_of names.now)
+        (map weak_mention weaks.now) found next) }
+{
+    let mut found = found;
+    for weak in weaks {
+        found = with_mention(names, found, weak.line, &weak.node)?;
+    }
+    Ok(found)
+}
+
+/// What is found, where the nodes that an edge weakens are looked at too.
+fn in_marks<N: Resolve>(
+    names: &N,
+    found: Option<Mention>,
+    marks: &[RawMark],
+) -> Result<Option<Mention>, AllocError>
+    ensures { IfOk result (λ next. GoesOn (N.net_of names.now)
+        (map mark_mention marks.now) found next) }
+{
+    let mut found = found;
+    for mark in marks {
+        found = with_mention(names, found, mark.line, &mark.node)?;
+    }
+    Ok(found)
+}
+
 /// What is found, where the nodes of an edge are looked at too.
 fn in_edge<N: Resolve>(
     names: &N,
@@ -84,7 +117,8 @@ fn in_edge<N: Resolve>(
         (edge_mentions edge.now) found next) }
 {
     let found = in_binds(names, found, edge.ant.as_slice())?;
-    in_binds(names, found, edge.con.as_slice())
+    let found = in_binds(names, found, edge.con.as_slice())?;
+    in_marks(names, found, edge.weak.as_slice())
 }
 
 /// What is found, where the nodes of these edges are looked at too.
@@ -109,12 +143,15 @@ fn in_assertion<N: Resolve>(
     found: Option<Mention>,
     ant: &[RawQuint],
     con: &[RawQuint],
+    weak: &[RawWeak],
 ) -> Result<Option<Mention>, AllocError>
     ensures { IfOk result (λ next. GoesOn (N.net_of names.now)
-        (map quint_mention ant.now ++ map quint_mention con.now) found next) }
+        (map quint_mention ant.now ++ (map quint_mention con.now ++ map weak_mention weak.now))
+        found next) }
 {
     let found = in_quints(names, found, ant)?;
-    in_quints(names, found, con)
+    let found = in_quints(names, found, con)?;
+    in_weaks(names, found, weak)
 }
 
 /// What is found, where the nodes of a task are looked at too.
@@ -127,9 +164,13 @@ fn in_task<N: Resolve>(
         (task_mentions task.now) found next) }
 {
     match task {
-        RawTask::Ste { ant, con, .. } => {
-            in_assertion(names, found, ant.as_slice(), con.as_slice())
-        }
+        RawTask::Ste { ant, con, weak, .. } => in_assertion(
+            names,
+            found,
+            ant.as_slice(),
+            con.as_slice(),
+            weak.as_slice(),
+        ),
         RawTask::Gste { edges, .. } => in_edges(names, found, edges.as_slice()),
     }
 }

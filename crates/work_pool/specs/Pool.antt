@@ -20,11 +20,12 @@ abbrev pub IsTaskKept : RawNet → Task → Store → Type 0
 IsTaskKept net (Ste task) t = IsKept net task t
 IsTaskKept net (Gste graph) t = IsGraphKept net graph t
 
--- a task speaks of nets of the net and of variables below this number, and a graph is sound
+-- a task speaks of nets of the net, in its weakenings too, and of variables below this number, and a graph is sound
 abbrev pub IsTaskOver : RawNet → ℕ → Task → Type 0
 IsTaskOver net vars (Ste task) =
     All (λ quint. quint.node.0 < net.nets) task.ant × All (λ quint. quint.node.0 < net.nets) task.con
     × ReadBelow vars task.ant × ReadBelow vars task.con
+    × All (λ weakening. weakening.node.0 < net.nets) task.weak
 IsTaskOver net vars (Gste graph) = IsGraphOver net vars graph × AreConsequentsOver net vars graph
 
 -- What the check of tasks gives, where t is the store in which all that they made is united: for each task, in order, what may be told

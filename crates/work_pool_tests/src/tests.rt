@@ -108,6 +108,7 @@ fn task_of(alloc: Global, case: &Case) -> Result<Task, AllocError>
         reset: false,
         ant,
         con: has(alloc, case.1, case.2)?,
+        weak: Items::new(alloc),
     }))
 }
 

@@ -19,9 +19,11 @@ use Rattle.assert_syntax.specs.declared.form.Span.TheVariants as span
 use Rattle.assert_syntax.specs.declared.known.Known.{Known}
 use Rattle.assert_syntax.specs.declared.tasks.RawBind.{RawBind}
 use Rattle.assert_syntax.specs.declared.tasks.RawEdge.{RawEdge}
+use Rattle.assert_syntax.specs.declared.tasks.RawMark.{RawMark}
 use Rattle.assert_syntax.specs.declared.tasks.RawQuint.{RawQuint}
 use Rattle.assert_syntax.specs.declared.tasks.RawTask.{RawTask}
 use Rattle.assert_syntax.specs.declared.tasks.RawTask.TheVariants.{Ste, Gste}
+use Rattle.assert_syntax.specs.declared.tasks.RawWeak.{RawWeak}
 use Rattle.assert_syntax.specs.Forms.{Clause}
 use Rattle.assert_syntax.specs.Parses.{tree_over}
 use Rattle.assert_syntax.specs.Places.{Context, clause_fault}
@@ -93,15 +95,34 @@ abbrev pub edge_with : Option RawEdge → Side → RawBind → Option RawEdge
 edge_with None side bind = None
 edge_with (Some edge) side bind =
     let both = side_added side edge.ant edge.con bind in
-    Some (record { line = edge.line; from = edge.from; to = edge.to; ant = both.0; con = both.1 })
+    Some (record edge { ant = both.0; con = both.1 })
 
 -- the open task, with a clause more
 abbrev pub clause_added : OpenTask → ℕ → Clause → Expr → Expr → OpenTask
 clause_added task.Closed line clause value guard = task.Closed
-clause_added (task.Ste head name reset ant con) line clause value guard =
-    let both = side_added clause.side ant con (quint_of line clause value guard) in task.Ste head name reset both.0 both.1
+clause_added (task.Ste head name reset ant con weak) line clause value guard =
+    let both = side_added clause.side ant con (quint_of line clause value guard) in
+    task.Ste head name reset both.0 both.1 weak
 clause_added (task.Gste head name reset edges edge) line clause value guard =
     task.Gste head name reset edges (edge_with edge clause.side (bind_of line clause value guard))
+
+-- the edge, with a weakened node more
+abbrev pub mark_added : Option RawEdge → RawMark → Option RawEdge
+mark_added None mark = None
+mark_added (Some edge) mark = Some (record edge { weak = edge.weak ++ mark ∷ [] })
+
+-- the weakening of a line
+abbrev pub weakening_of : ℕ → List ℕ → Span → RawWeak
+weakening_of line node times =
+    record { line = line; node = node; from = from_of times; to = to_of times }
+
+-- the open task, with a weakening more
+abbrev pub weak_added : OpenTask → ℕ → List ℕ → Span → OpenTask
+weak_added task.Closed line node times = task.Closed
+weak_added (task.Ste head name reset ant con weak) line node times =
+    task.Ste head name reset ant con (weak ++ weakening_of line node times ∷ [])
+weak_added (task.Gste head name reset edges edge) line node times =
+    task.Gste head name reset edges (mark_added edge (record { line = line; node = node }))
 
 -- the edges, and the one that was open
 abbrev pub edges_closed : List RawEdge → Option RawEdge → List RawEdge
@@ -111,12 +132,14 @@ edges_closed edges (Some edge) = edges ++ edge ∷ []
 -- the open task, with an edge more
 abbrev pub edge_added : OpenTask → ℕ → ℕ → ℕ → OpenTask
 edge_added (task.Gste head name reset edges edge) line from to =
-    task.Gste head name reset (edges_closed edges edge) (Some (record { line = line; from = from; to = to; ant = []; con = [] }))
+    task.Gste head name reset (edges_closed edges edge)
+    (Some (record { line = line; from = from; to = to; ant = []; con = []; weak = [] }))
 edge_added other line from to = other
 
 -- the tasks, and the one that was open, whose vertices are these
 abbrev pub tasks_closed : List RawTask → OpenTask → List (List ℕ) → List RawTask
 tasks_closed tasks task.Closed vertices = tasks
-tasks_closed tasks (task.Ste line name reset ant con) vertices = tasks ++ Ste line name reset ant con ∷ []
+tasks_closed tasks (task.Ste line name reset ant con weak) vertices =
+    tasks ++ Ste line name reset ant con weak ∷ []
 tasks_closed tasks (task.Gste line name reset edges edge) vertices =
     tasks ++ Gste line name reset vertices (edges_closed edges edge) ∷ []

@@ -3,7 +3,7 @@ use Rattle.std.specs.Prelude.{ℕ, List, codes}
 use Rattle.blif_lines.specs.Laws.{spaced}
 use Rattle.assert_syntax.specs.declared.form.Clause as held_clause
 use Rattle.assert_syntax.specs.declared.form.Form as held_form
-use Rattle.assert_syntax.specs.declared.form.Form.TheVariants.{Vars, Ste, Gste, Edge, Clause, End, Wrong}
+use Rattle.assert_syntax.specs.declared.form.Form.TheVariants.{Vars, Ste, Gste, Edge, Clause, Weak, End, Wrong}
 use Rattle.assert_syntax.specs.declared.form.Guard.{Guard}
 use Rattle.assert_syntax.specs.declared.form.Guard.TheVariants.{Absent, Words}
 use Rattle.assert_syntax.specs.Forms as said
@@ -30,5 +30,6 @@ form_held (Ste name reset) = said.ste name.now reset
 form_held (Gste name vertex reset) = said.gste name.now vertex.now reset
 form_held (Edge from to) = said.edge from.now to.now
 form_held (Clause clause) = said.clause (clause_held clause)
+form_held (Weak node times) = said.weak node.now times
 form_held End = said.ending
 form_held Wrong = said.wrong

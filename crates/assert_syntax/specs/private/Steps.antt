@@ -9,10 +9,10 @@ use Rattle.assert_syntax.specs.declared.tasks.RawEdge.{RawEdge}
 use Rattle.assert_syntax.specs.Forms.{Entry}
 use Rattle.assert_syntax.specs.Parses.{Parse}
 use Rattle.assert_syntax.specs.Places.{Context, context_behind, form_fault}
-use Rattle.assert_syntax.specs.Spelled.{TaskTree, EdgeTree, assertion, graph, bind_tree, edge_tree, quint_tree, task_tree, binds_of, edges_of, quints_of, tasks_of, vertices_of}
+use Rattle.assert_syntax.specs.Spelled.{TaskTree, EdgeTree, assertion, graph, bind_tree, edge_tree, mark_tree, quint_tree, task_tree, weak_tree, binds_of, edges_of, marks_of, quints_of, tasks_of, vertices_of, weaks_of}
 use Rattle.assert_syntax.specs.private.Drafts.{IsFault}
 
--- the open edge with the bindings to come
+-- the open edge with the bindings and the weakened nodes to come
 abbrev pub grown_edge : Parse → List (List ℕ) → Option RawEdge → List Entry → List EdgeTree
 grown_edge parse vars None rest = []
 grown_edge parse vars (Some edge) rest = record {
@@ -21,13 +21,16 @@ grown_edge parse vars (Some edge) rest = record {
   to = edge.to;
   ant = map bind_tree edge.ant ++ binds_of parse Antecedent vars rest;
   con = map bind_tree edge.con ++ binds_of parse Consequent vars rest;
+  weak = map mark_tree edge.weak ++ marks_of rest;
 } ∷ []
 
 -- the open task with all that still belongs to it
 abbrev pub grown : Parse → List (List ℕ) → List (List ℕ) → OpenTask → List Entry → List TaskTree
 grown parse vars vertices Closed rest = []
-grown parse vars vertices (Ste head name reset ant con) rest =
-    assertion head name reset (map quint_tree ant ++ quints_of parse Antecedent vars rest) (map quint_tree con ++ quints_of parse Consequent vars rest) ∷ []
+grown parse vars vertices (Ste head name reset ant con weak) rest =
+    assertion head name reset (map quint_tree ant ++ quints_of parse Antecedent vars rest)
+    (map quint_tree con ++ quints_of parse Consequent vars rest)
+    (map weak_tree weak ++ weaks_of rest) ∷ []
 grown parse vars vertices (Gste head name reset edges edge) rest =
     graph head name reset (vertices_of vertices rest)
     (map edge_tree edges ++ (grown_edge parse vars edge rest ++ edges_of parse vars vertices rest)) ∷ []

@@ -1,5 +1,5 @@
 -- For private functions. The possible sets of one time, as the plain checker comes to them net by net.
-use Rattle.std.specs.Prelude.{◌≡◌, ◌≢◌, ◌&&◌, ℕ, ◌<◌, ◌≤◌, ◌↔◌, Bool, not, List, length, All, IsTrue, slice_index, slice_index_or}
+use Rattle.std.specs.Prelude.{◌≡◌, ◌≢◌, ◌&&◌, ℕ, ◌<◌, ◌≤◌, ◌↔◌, Bool, false, not, List, length, All, IsTrue, slice_index, slice_index_or}
 use Rattle.std.specs.List.{list_all, list_any, zip}
 use Rattle.net_core.specs.declared.bit_set.BitSet.{BitSet}
 use Rattle.net_core.specs.declared.cover.Cover.{Cover}
@@ -8,6 +8,7 @@ use Rattle.net_core.specs.declared.raw.Latch.{Latch}
 use Rattle.net_core.specs.declared.raw.RawNet.{RawNet}
 use Rattle.net_core.specs.Cover.{cover_bit}
 use Rattle.net_core.specs.Run.{Cut}
+use Rattle.net_core.specs.Possible.{is_weakened}
 use Rattle.net_core.specs.Sets.{IsIn, both, has}
 
 -- the set of a net in a list of sets, one for each net; what stands behind the list is both bits
@@ -19,6 +20,11 @@ abbrev pub Allows : List Cut → List BitSet → Type 0
 Allows cuts allowed =
     (id : ℕ) (bit : Bool) → id < length allowed →
     IsIn bit (set_at allowed id) ↔ All (λ cut. IsTrue cut.on → cut.node ≡ id → cut.value ≡ bit) cuts
+
+-- each of so many nets has a flag just where it is weakened; a net that the flags lack has none
+abbrev pub AreFlags : ℕ → List ℕ → List Bool → Type 0
+AreFlags nets weak flags =
+    (id : ℕ) → id < nets → slice_index_or flags id false ≡ is_weakened weak id
 
 -- no gate drives the net
 abbrev pub NoGate : RawNet → ℕ → Type 0

@@ -20,9 +20,9 @@ use Rattle.ste_engine.specs.private.Asks.{AreAsks}
 use Rattle.ste_engine.specs.private.Finds.{AreFound, AreFoundRefs, found_work, more_strong, more_weak}
 use Rattle.ste_engine.specs.private.Times.{IsTimeline}
 
--- what these cuts ask
-abbrev pub asked_by : List SymbolicCut → SymbolicAsked
-asked_by cuts = record { cuts = cuts }
+-- what is asked, where these nets are weakened and these cuts are made
+abbrev pub asked_by : List ℕ → List SymbolicCut → SymbolicAsked
+asked_by weak cuts = record { cuts = cuts; weak = weak }
 
 -- the timeline of quintuples at time t, by references of this store
 pub record IsLine (s : Store) (quints : List Quint) (depth t : ℕ) (line : Timeline) : Type 0 where
@@ -36,9 +36,9 @@ pub record AreTurnedRefs (s : Store) (before : Turned) : Type 0 where
   pub found : AreFoundRefs s before.found
 
 -- the functions for one time, with the sums so far
-abbrev pub turned_work : RawNet → List SymbolicSet → List SymbolicCut → List SymbolicCut → (ℕ → SymbolicSet) → Function → Function → Function → List Function
-turned_work net ls ds es sets c f h =
-    time_work net ls (asked_by ds) sets ++ (disjunction c (some_empty net sets) ∷ found_work sets es f h)
+abbrev pub turned_work : RawNet → List SymbolicSet → List ℕ → List SymbolicCut → List SymbolicCut → (ℕ → SymbolicSet) → Function → Function → Function → List Function
+turned_work net ls weak ds es sets c f h =
+    time_work net ls (asked_by weak ds) sets ++ (disjunction c (some_empty net sets) ∷ found_work sets es f h)
 
 -- one time has been dealt with: each net's set has references, and the latches' next sets and the sums are these
 pub record IsTurned (net : RawNet) (es : List SymbolicCut) (sets : ℕ → SymbolicSet) (c f h : Function) (held : List Rails) (t : Store) (r : Turned) : Type 0 where

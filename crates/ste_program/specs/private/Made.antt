@@ -19,6 +19,7 @@ use Rattle.ste_model.specs.declared.task.Edge.{Edge}
 use Rattle.ste_model.specs.declared.task.Graph.{Graph}
 use Rattle.ste_model.specs.declared.task.Quint.{Quint}
 use Rattle.ste_model.specs.declared.task.Task.{Task}
+use Rattle.ste_model.specs.declared.task.Weakening.{Weakening}
 use Rattle.ste_model.specs.declared.task.Task.TheVariants.{Ste, Gste}
 use Rattle.ste_model.specs.GraphNeed.{BindsReadBelow}
 use Rattle.ste_model.specs.Need.{ReadBelow}
@@ -62,10 +63,11 @@ AreBindsIn nets binds = All (λ bind. bind.node.0 < nets) binds
 abbrev pub IsBetween : ℕ → Edge → Type 0
 IsBetween vertices edge = (edge.from < vertices) × (edge.to < vertices)
 
--- the bindings of an edge name nets, and read variables, below these numbers
+-- the bindings of an edge name nets, and read variables, below these numbers, and so do its weakenings name nets
 abbrev pub IsEdgeFit : ℕ → ℕ → Edge → Type 0
 IsEdgeFit nets vars edge =
     AreBindsIn nets edge.ant × AreBindsIn nets edge.con × BindsReadBelow vars edge.ant × BindsReadBelow vars edge.con
+    × All (λ node. node.0 < nets) edge.weak
 
 -- a graph has a vertex, and each of its edges lies between its vertices, and is fit
 abbrev pub IsGraphFit : ℕ → ℕ → Graph → Type 0
@@ -78,6 +80,11 @@ abbrev pub quints_in : Task → List Quint
 quints_in (Ste task) = task.ant ++ task.con
 quints_in (Gste graph) = []
 
+-- the weakenings of an assertion; a graph has none of its own
+abbrev pub weak_in : Task → List Weakening
+weak_in (Ste task) = task.weak
+weak_in (Gste graph) = []
+
 -- the graph that a task is; an assertion is none
 abbrev pub graphs_in : Task → List Graph
 graphs_in (Ste task) = []
@@ -86,7 +93,8 @@ graphs_in (Gste graph) = graph ∷ []
 -- the task may be checked: what it names there is, over nets and variables below these numbers
 abbrev pub IsCheckable : ℕ → ℕ → Task → Type 0
 IsCheckable nets vars task =
-    All (λ quint. quint.node.0 < nets) (quints_in task) × ReadBelow vars (quints_in task) × All (IsGraphFit nets vars) (graphs_in task)
+    All (λ quint. quint.node.0 < nets) (quints_in task) × ReadBelow vars (quints_in task)
+    × All (IsGraphFit nets vars) (graphs_in task) × All (λ weakening. weakening.node.0 < nets) (weak_in task)
 
 -- the report that a command asks for, with what its files were asked for
 pub record IsMade (command : Option Command) (files files' : FilesState) (passes : Bool) (bytes : List ℕ) : Type 0 where

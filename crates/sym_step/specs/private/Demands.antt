@@ -1,16 +1,20 @@
--- For private functions. What is asked of one time, and where the cuts of each net stand in the list of cuts.
-use Rattle.std.specs.Prelude.{◌≡◌, ◌≢◌, ◌≤◌, ◌<◌, ◌+◌, ℕ, Bool, true, false, List, length, map, slice_index_or}
+-- For private functions. What is asked of one time, and where the cuts of each net stand in their list.
+use Rattle.std.specs.Prelude.{◌≡◌, ◌≢◌, ◌≤◌, ◌<◌, ◌+◌, ◌++◌, ℕ, All, Bool, true, false, List, length, map, slice_index_or}
 use Rattle.ste_base.specs.declared.id.NodeId.{NodeId}
+use Rattle.net_core.specs.Possible.{is_weakened}
 use Rattle.sym_step.specs.declared.cut.Cut.{Cut}
+use Rattle.sym_step.specs.Frame.{is_listed}
+use Rattle.sym_step.specs.Step.{ids_of}
 
--- what is asked of one time, of so many nets
+-- what is asked of one time: cuts, and which nets are weakened, of so many nets
 pub record Demanded : Type 0 where
   pub cuts : List Cut
+  pub weak : List NodeId
   pub nets : ℕ
 
--- the nets of which there is a cut
-abbrev pub nodes_of : List Cut → List NodeId
-nodes_of cuts = map (λ c. c.node) cuts
+-- the nets of which something is asked: the weakened ones, and then those of the cuts
+abbrev pub nodes_of : List NodeId → List Cut → List NodeId
+nodes_of weak cuts = weak ++ map (λ c. c.node) cuts
 
 -- a cut that stands in no list
 abbrev pub no_cut : Cut
@@ -27,7 +31,7 @@ pub record IsNearest (cuts : List Cut) (id i k : ℕ) : Type 0 where
   pub absent : (j : ℕ) → i ≤ j → j < k → node_at cuts j ≢ id
   pub here : k < length cuts → node_at cuts k ≡ id
 
--- the place that is told of a net: its own where it is cut, and else the number of cuts
+-- the place that is told of a net: its own where it has a flag, and else the number of cuts
 abbrev pub told_place : Bool → ℕ → ℕ → ℕ
 told_place true own count = own
 told_place false own count = count
@@ -39,7 +43,19 @@ pub record AreLinked (cuts : List Cut) (i : ℕ) (flags : List Bool) (first next
   pub firsts : (id : ℕ) → IsNearest cuts id i (told_place (slice_index_or flags id false) (slice_index_or first id 0) (length cuts))
   pub nexts : (k : ℕ) → i ≤ k → k < length cuts → IsNearest cuts (node_at cuts k) (k + 1) (slice_index_or next k 0)
 
--- the cuts have these nets, and are linked
-pub record AreDemands (cuts : List Cut) (nodes : List NodeId) (flags : List Bool) (first next : List ℕ) : Type 0 where
-  pub nodes_are : nodes ≡ nodes_of cuts
+-- a weakened net has a flag
+abbrev pub AreFlaggedNets : List NodeId → List Bool → Type 0
+AreFlaggedNets weak flags = (id : ℕ) → slice_index_or flags id false ≡ false → is_listed weak id ≡ false
+
+-- the weakened nets are those with a flag
+abbrev pub HaveFlags : List NodeId → List Bool → Type 0
+HaveFlags weak flags = (id : ℕ) → slice_index_or flags id false ≡ is_weakened (ids_of weak) id
+
+-- What is asked: these are its nets, the cuts are linked, and flags tell of which nets something is asked, and which ones are
+-- weakened.
+pub record AreDemands (cuts : List Cut) (weak nodes : List NodeId) (flags weak_flags : List Bool) (first next : List ℕ) : Type 0 where
+  pub nodes_are : nodes ≡ nodes_of weak cuts
   pub linked : AreLinked cuts 0 flags first next
+  pub flagged : AreFlaggedNets weak flags
+  pub inside : All (λ node. node.0 < length flags) weak
+  pub weakened : HaveFlags weak weak_flags

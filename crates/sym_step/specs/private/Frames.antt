@@ -34,7 +34,7 @@ abbrev pub StayRight : (ℕ → SymbolicSet) → Store → List NetRails → Sto
 StayRight sets t old u new =
     (id : ℕ) → AreNetRails t (sets id) (net_at old id) → AreNetRails u (sets id) (net_at new id)
 
--- a gate that is not due: its output is not cut, and has the set that it gives, and it stands in its lists
+-- a gate that is not due: nothing is asked of its output, which has the set that it gives, and it stands in its lists
 pub record IsSpared (s : Store) (net : RawNet) (asked : List NodeId) (board : Board) (k : ℕ) (gate : Gate) : Type 0 where
   pub uncut : is_listed asked gate.output.0 ≡ false
   pub given : IsGiven s net board.nets.items gate
@@ -44,7 +44,7 @@ abbrev pub AreSpared : Store → RawNet → List NodeId → Board → Type 0
 AreSpared s net asked board =
     (k : ℕ) (d : Gate) → k < length net.gates → flag_at board.due.flags.items k ≡ false → IsSpared s net asked board k (slice_index_or net.gates k d)
 
--- a latch that is not due: its output is not cut, and has the references of its input, and it stands in its lists
+-- a latch that is not due: nothing is asked of its output, which has the references of its input, and it stands in its lists
 pub record IsCarried (asked : List NodeId) (board : Board) (k : ℕ) (latch : Latch) : Type 0 where
   pub uncut : is_listed asked latch.output.0 ≡ false
   pub same : net_at board.nets.items latch.output.0 ≡ net_at board.nets.items latch.input.0

@@ -1,17 +1,28 @@
 -- For private functions. How far a step is.
 use Rattle.std.specs.Prelude.{◌≡◌, Bool, true, ◌≢◌, ◌≤◌, ◌<◌, ℕ, List, length, slice_index, slice_index_or}
+use Rattle.ste_base.specs.declared.id.NodeId.{NodeId}
 use Rattle.dd_nodes.specs.Stores.{Store}
 use Rattle.net_core.specs.declared.raw.Gate.{Gate}
 use Rattle.net_core.specs.declared.raw.RawNet.{RawNet}
 use Rattle.net_core.specs.declared.source.Source.TheVariants.{Gate as OfGate}
 use Rattle.net_core.specs.Source.{source_of}
-use Rattle.net_core.specs.Work.{Function, SymbolicSet, SymbolicCut, SymbolicAsked}
+use Rattle.net_core.specs.Possible.{is_weakened}
+use Rattle.net_core.specs.Work.{Function, SymbolicSet, SymbolicCut, SymbolicAsked, one_gate_work, output_set, unless_weakened}
 use Rattle.gate_sets.specs.declared.net_rails.NetRails.{NetRails}
 use Rattle.gate_sets.specs.NetSets.{AreNetRails, net_at}
+use Rattle.sym_step.specs.Step.{ids_of}
 
--- what these cuts ask
-abbrev pub asks : List SymbolicCut → SymbolicAsked
-asks cuts = record { cuts = cuts }
+-- what is asked, where these nets are weakened and these cuts are made
+abbrev pub asks : List NodeId → List SymbolicCut → SymbolicAsked
+asks weak cuts = record { cuts = cuts; weak = ids_of weak }
+
+-- the set of a gate's output before its cuts, where these nets are weakened, and the functions for it
+abbrev pub placed_set : List NodeId → RawNet → (ℕ → SymbolicSet) → Gate → SymbolicSet
+placed_set weak net sets gate =
+    unless_weakened (is_weakened (ids_of weak) gate.output.0) (output_set net sets gate)
+
+abbrev pub placed_work : List NodeId → RawNet → (ℕ → SymbolicSet) → Gate → List Function
+placed_work weak net sets gate = one_gate_work (is_weakened (ids_of weak) gate.output.0) net sets gate
 
 -- no gate drives the net
 abbrev pub IsSource : RawNet → ℕ → Type 0

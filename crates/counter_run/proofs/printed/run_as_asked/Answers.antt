@@ -32,7 +32,7 @@ pub returns-clause-rows : goal.returns-clause-rows
 returns-clause-rows c = subst (λ (n : ℕ). HasRows c.args.net.now.raw.nets n c.in_ok-made.made) c.depth-times.ensures c.in_ok-made.ensures.rows
 
 pub returns-clause-printed : goal.returns-clause-printed
-returns-clause-printed c possible =
+returns-clause-printed c possible begins =
     let net = c.args.net.now in
     let task = c.args.task.now in
     let bits = c.args.bits.now in
@@ -43,5 +43,8 @@ returns-clause-printed c possible =
     let each : (t id : ℕ) → IsAskedOr (cuts_at task.ant bits t) id (cell start t id) (cell asked t id) = λ t id.
     subst (λ (rows : List (List Bool)). IsAskedOr (cuts_at task.ant bits t) id (cell rows t id) (cell asked t id)) c.as_mut_slice.ensures.value
     (subst (λ (quints : List Quint). IsAskedOr (cuts_at quints bits t) id (cell old t id) (cell asked t id)) c.as_slice.ensures (c.put_quints.ensures.each t id)) in
-    printed_as net.raw task bits (settled_by_order net.raw net.settled net.in_order) net.in_range possible start asked _ c.depth-times.result (run_of c.in_ok-made.made)
+    let settled = settled_by_order net.raw net.settled net.in_order in
+    let run = run_of c.in_ok-made.made in
+    printed_as net.raw task bits settled net.in_range possible begins start asked _
+    c.depth-times.result run
     c.depth-times.ensures back c.in_ok-rows.ensures.latches c.in_ok-rows.ensures.others each c.in_ok-made.ensures.run

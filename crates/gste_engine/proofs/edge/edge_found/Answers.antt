@@ -1,4 +1,4 @@
-use Rattle.std.proofs.Common.{ℕ, List, sym, subst, All, Ok, Err, Vec, Global}
+use Rattle.std.proofs.Common.{ℕ, List, ap, sym, subst, All, Ok, Err, Vec, Global}
 use Rattle.std.specs.List.{AllZip}
 use Rattle.dd_nodes.specs.Diagram.{Function}
 use Rattle.dd_nodes.specs.Stores.{Store}
@@ -18,7 +18,7 @@ use Rattle.dual_rail.proofs.Turns.{Zip-keep}
 use Rattle.dual_rail.proofs.Works.{Built-wider, So-start, first, last, lost, more, pass}
 use Rattle.sym_step.specs.declared.cut.Cut.{Cut}
 use Rattle.sym_step.specs.declared.frame.Frame.{Frame}
-use Rattle.sym_step.specs.Step.{IsCutBy, IsCutOf, IsStep}
+use Rattle.sym_step.specs.Step.{IsCutBy, IsCutOf, IsStep, ids_of}
 use Rattle.sym_step.specs.Frame.{IsFrame, step_of}
 use Rattle.sym_step.proofs.Framing.{frame_keeps}
 use Rattle.sym_step.proofs.Whole.{sets_exist}
@@ -86,13 +86,13 @@ returns-in_err-empty-clause-found g c = λ r ls sets mr zip family.
     let u : Store = g.N.Nodes.store c.renew.new.nodes in
     let gu = g.met.N.Nodes.diagram c.renew.new.nodes in
     let latches = subst (λ (xs : List Rails). AllZip (AreRails t) ls xs) (sym (c.in_ok-begun.ensures.next net.raw)) (Zip-keep s t ls source.latches gs gt a.spends.keeps zip) in
-    let asks : AllZip (IsCutBy t) (symbolic_binds edge.ant) c.as_slice-2.result.now = subst (λ (xs : List Cut). AllZip (IsCutBy t) (symbolic_binds edge.ant) xs) (sym c.as_slice-2.ensures.value) a.ok in
+    let asks : AllZip (IsCutBy t) (symbolic_binds edge.ant) c.as_slice-3.result.now = subst (λ (xs : List Cut). AllZip (IsCutBy t) (symbolic_binds edge.ant) xs) (sym c.as_slice-3.ensures.value) a.ok in
     let here = subst (λ v. ArePossibleEach v net.raw ls (symbolic_asked_on edge) sets) (sym a.spends.keeps.vars) family in
     let time : List Function = time_work net.raw ls (symbolic_asked_on edge) sets in
     let Step : Store → Ref → Type 0 = HasStep net.raw sets c.renew.new.frame in
     let fault = c.in_err-empty.field-0.0 in
     pass work Step (IsEdgeFound net.raw (state_of r ls) sets) s t u fault c.from_residual-in_err-empty.result gt gu so1
-    (Built-wider work time Step t u (Err fault) (time_in net.raw (state_of r ls) sets edge) (c.in_err-empty.ensures.built ls (symbolic_asked_on edge) sets latches asks here)) c.from_residual-in_err-empty.ensures.1
+    (Built-wider work time Step t u (Err fault) (time_in net.raw (state_of r ls) sets edge) (c.in_err-empty.ensures.built ls (symbolic_asked_on edge) sets latches asks (ap ids_of (sym c.as_slice-2.ensures)) here)) c.from_residual-in_err-empty.ensures.1
 
 pub returns-in_err-found-clause-found : goal.returns-in_err-found-clause-found
 returns-in_err-found-clause-found g c = λ r ls sets mr zip family.
@@ -110,12 +110,12 @@ returns-in_err-found-clause-found g c = λ r ls sets mr zip family.
     let u : Store = g.N.Nodes.store c.renew.new.nodes in
     let gu = g.met.N.Nodes.diagram c.renew.new.nodes in
     let latches = subst (λ (xs : List Rails). AllZip (AreRails t) ls xs) (sym (c.in_ok-begun.ensures.next net.raw)) (Zip-keep s t ls source.latches gs gt a.spends.keeps zip) in
-    let asks : AllZip (IsCutBy t) (symbolic_binds edge.ant) c.as_slice-2.result.now = subst (λ (xs : List Cut). AllZip (IsCutBy t) (symbolic_binds edge.ant) xs) (sym c.as_slice-2.ensures.value) a.ok in
+    let asks : AllZip (IsCutBy t) (symbolic_binds edge.ant) c.as_slice-3.result.now = subst (λ (xs : List Cut). AllZip (IsCutBy t) (symbolic_binds edge.ant) xs) (sym c.as_slice-3.ensures.value) a.ok in
     let here = subst (λ v. ArePossibleEach v net.raw ls (symbolic_asked_on edge) sets) (sym a.spends.keeps.vars) family in
     let time : List Function = time_work net.raw ls (symbolic_asked_on edge) sets in
     let Step : Store → Ref → Type 0 = HasStep net.raw sets c.renew.new.frame in
     let empty : Ref = c.in_ok-empty.empty in
-    let b : Built work Step t u (Ok empty) = Built-wider work time Step t u (Ok empty) (time_in net.raw (state_of r ls) sets edge) (c.in_ok-empty.ensures.built ls (symbolic_asked_on edge) sets latches asks here) in
+    let b : Built work Step t u (Ok empty) = Built-wider work time Step t u (Ok empty) (time_in net.raw (state_of r ls) sets edge) (c.in_ok-empty.ensures.built ls (symbolic_asked_on edge) sets latches asks (ap ids_of (sym c.as_slice-2.ensures)) here) in
     let so2 = more work Step s t u (Ok empty) gt gu so1 b in
     let v : Store = g.N.Nodes.store c.given.new.nodes in
     let gv = g.met.N.Nodes.diagram c.given.new.nodes in
@@ -140,12 +140,12 @@ returns-clause-found g c = λ r ls sets mr zip family.
     let u : Store = g.N.Nodes.store c.renew.new.nodes in
     let gu = g.met.N.Nodes.diagram c.renew.new.nodes in
     let latches = subst (λ (xs : List Rails). AllZip (AreRails t) ls xs) (sym (c.in_ok-begun.ensures.next net.raw)) (Zip-keep s t ls source.latches gs gt a.spends.keeps zip) in
-    let asks : AllZip (IsCutBy t) (symbolic_binds edge.ant) c.as_slice-2.result.now = subst (λ (xs : List Cut). AllZip (IsCutBy t) (symbolic_binds edge.ant) xs) (sym c.as_slice-2.ensures.value) a.ok in
+    let asks : AllZip (IsCutBy t) (symbolic_binds edge.ant) c.as_slice-3.result.now = subst (λ (xs : List Cut). AllZip (IsCutBy t) (symbolic_binds edge.ant) xs) (sym c.as_slice-3.ensures.value) a.ok in
     let here = subst (λ v. ArePossibleEach v net.raw ls (symbolic_asked_on edge) sets) (sym a.spends.keeps.vars) family in
     let time : List Function = time_work net.raw ls (symbolic_asked_on edge) sets in
     let Step : Store → Ref → Type 0 = HasStep net.raw sets c.renew.new.frame in
     let empty : Ref = c.in_ok-empty.empty in
-    let b : Built work Step t u (Ok empty) = Built-wider work time Step t u (Ok empty) (time_in net.raw (state_of r ls) sets edge) (c.in_ok-empty.ensures.built ls (symbolic_asked_on edge) sets latches asks here) in
+    let b : Built work Step t u (Ok empty) = Built-wider work time Step t u (Ok empty) (time_in net.raw (state_of r ls) sets edge) (c.in_ok-empty.ensures.built ls (symbolic_asked_on edge) sets latches asks (ap ids_of (sym c.as_slice-2.ensures)) here) in
     let so2 = more work Step s t u (Ok empty) gt gu so1 b in
     let v : Store = g.N.Nodes.store c.given.new.nodes in
     let gv = g.met.N.Nodes.diagram c.given.new.nodes in
@@ -165,7 +165,7 @@ renew-requires-clause-cuts g c =
     let source : State = c.args.source.now in
     let cuts : Vec Cut Global = c.in_ok-cuts.cuts in
     let a : Built (binds_work edge.ant) (AreCuts edge.ant) s t (Ok cuts) = subst (λ (xs : List Bind). Built (binds_work xs) (AreCuts xs) s t (Ok cuts)) c.as_slice.ensures c.in_ok-cuts.ensures in
-    subst (λ (xs : List Cut). All (IsCutOf t net.raw) xs) (sym c.as_slice-2.ensures.value) (cuts_of_net t net.raw edge.ant cuts.items a.ok c.requires.nets)
+    subst (λ (xs : List Cut). All (IsCutOf t net.raw) xs) (sym c.as_slice-3.ensures.value) (cuts_of_net t net.raw edge.ant cuts.items a.ok c.requires.nets)
 
 pub renew-requires-clause-frame : goal.renew-requires-clause-frame
 renew-requires-clause-frame g c =
@@ -206,7 +206,7 @@ returns-clause-frame g c =
     let is : IsState t x source = own_is t net.raw source refs in
     let family = sets_exist net.raw t.vars x.latches (symbolic_asked_on edge) settled (own_long t net.raw source refs) in
     let latches = subst (λ (xs : List Rails). AllZip (AreRails t) x.latches xs) (sym (c.in_ok-begun.ensures.next net.raw)) is.latches in
-    let asks : AllZip (IsCutBy t) (symbolic_binds edge.ant) c.as_slice-2.result.now = subst (λ (xs : List Cut). AllZip (IsCutBy t) (symbolic_binds edge.ant) xs) (sym c.as_slice-2.ensures.value) a.ok in
-    let b = c.in_ok-empty.ensures.built x.latches (symbolic_asked_on edge) family.0 latches asks family.1 in
+    let asks : AllZip (IsCutBy t) (symbolic_binds edge.ant) c.as_slice-3.result.now = subst (λ (xs : List Cut). AllZip (IsCutBy t) (symbolic_binds edge.ant) xs) (sym c.as_slice-3.ensures.value) a.ok in
+    let b = c.in_ok-empty.ensures.built x.latches (symbolic_asked_on edge) family.0 latches asks (ap ids_of (sym c.as_slice-2.ensures)) family.1 in
     let d = c.in_ok-found.ensures.found x family.0 (Means-keeps t u x.reached source.reached gt gu b.spends.keeps is.reached) b.ok in
     subst (λ (frame : Frame). IsFrame v net.raw frame) (sym c.in_ok-found.ensures.frame) (frame_keeps u v net.raw c.renew.new.frame net.in_range gu gv d.spends.keeps c.in_ok-empty.ensures.frame)

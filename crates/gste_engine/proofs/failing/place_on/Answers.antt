@@ -65,6 +65,25 @@ taken_on-requires-clause-ant g c =
     let inside : edge.from < length table = subst (λ n. edge.from < n) (sym c.requires.table.has.long) over.start in
     over.nets
 
+pub taken_on-requires-clause-weak : goal.taken_on-requires-clause-weak
+taken_on-requires-clause-weak g c =
+    let s : Store = g.N.Nodes.store c.args.nodes.now in
+    let net : RawNet = c.args.net.now.raw in
+    let graph : Graph = c.args.graph.now in
+    let edges : List Edge = graph.edges in
+    let bits = c.args.bits.now in
+    let numbers : List ℕ = c.args.path.now in
+    let table : List State = c.args.table.now in
+    let time = length numbers - 1 in
+    let k = get_or numbers time 0 in
+    let here : slice_get edges k ≡ Some c.requires.path.candidate.edge = last_at c.args.failure net graph bits numbers c.requires.path time refl in
+    let within : k < length edges = slice_get_within edges k c.requires.path.candidate.edge here in
+    let edge : Edge = c.index-as_slice-path.result in
+    let is : edge ≡ get_or edges k edge = c.index-as_slice-path.is ∙ ap (λ (xs : List Edge). get_or xs k edge) c.as_slice.ensures in
+    let over : IsEdgeOver net s.vars (length graph.vertices) edge = subst (IsEdgeOver net s.vars (length graph.vertices)) (sym is) (c.requires.graph.edges k edge within) in
+    let inside : edge.from < length table = subst (λ n. edge.from < n) (sym c.requires.table.has.long) over.start in
+    over.weak
+
 pub taken_on-requires-clause-con : goal.taken_on-requires-clause-con
 taken_on-requires-clause-con g c =
     let s : Store = g.N.Nodes.store c.args.nodes.now in

@@ -1,13 +1,14 @@
-use Rattle.std.proofs.Common.{List, ◌<◌, subst, sym}
+use Rattle.std.proofs.Common.{ℕ, List, ◌<◌, map, subst, sym}
 use Rattle.std.specs.Prelude.{All}
 use Rattle.std.proofs.lemmas.Result.{IfOk-weaker}
 use Rattle.std.proofs.lemmas.List.Elements.{All-map}
+use Rattle.ste_base.specs.declared.id.NodeId.{NodeId}
 use Rattle.net_core.specs.declared.bit_set.BitSet.{BitSet}
 use Rattle.net_core.specs.Run.{Cut}
 use Rattle.net_core.specs.Possible.{ArePossible, Asked}
 use Rattle.ste_model.specs.declared.task.Bind.{Bind}
 use Rattle.ste_model.specs.Edges.{asked_on, bind_at, bind_cuts}
-use Rattle.plain_check.specs.private.Sets.{set_at, Allows}
+use Rattle.plain_check.specs.private.Sets.{set_at, Allows, AreFlags}
 use Rattle.plain_check.proofs.table.sets_on.Goals as goal
 
 pub returns-clause-possible : goal.returns-clause-possible
@@ -17,7 +18,18 @@ returns-clause-possible c =
     let below = All-map (λ (cut : Cut). cut.node < net.nets) (bind_at c.args.bits.now) c.args.edge.now.ant c.requires.in_range in
     let allowed = c.in_ok-allowed.allowed.items in
     let allows = subst (λ (binds : List Bind). Allows (bind_cuts binds c.args.bits.now) allowed) c.as_slice.ensures c.in_ok-allowed.ensures.allows in
+    let weak = c.in_ok-weak.weak.items in
+    let there =
+    subst (λ (n : ℕ). AreFlags n (map (λ node. node.0) c.as_slice-2.result.now) weak) c.nets-2.ensures
+    c.in_ok-weak.ensures in
+    let flags =
+    subst (λ (nodes : List NodeId). AreFlags net.nets (map (λ node. node.0) nodes) weak) c.as_slice-2.ensures
+    there in
     IfOk-weaker c.possible_sets.result
-    (λ (row : List BitSet). (asked : Asked) → All (λ cut. cut.node < net.nets) asked.cuts → Allows asked.cuts c.deref.result.now → ArePossible net c.args.held.now asked (set_at row))
+    (λ (row : List BitSet). (asked : Asked) → All (λ cut. cut.node < net.nets) asked.cuts →
+    Allows asked.cuts c.deref-2.result.now → AreFlags net.nets asked.weak c.deref.result.now →
+    ArePossible net c.args.held.now asked (set_at row))
     (λ row. ArePossible net c.args.held.now asks (set_at row))
-    (λ row h. h asks below (subst (Allows asks.cuts) (sym c.deref.ensures.value) allows)) c.possible_sets.ensures.possible
+    (λ row h. h asks below (subst (Allows asks.cuts) (sym c.deref-2.ensures.value) allows)
+    (subst (AreFlags net.nets asks.weak) (sym c.deref.ensures.value) flags))
+    c.possible_sets.ensures.possible

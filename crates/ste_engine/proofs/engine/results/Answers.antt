@@ -35,6 +35,12 @@ use Rattle.ste_engine.proofs.Lines.{IsNextLine, Line-keeps, ant_within, con_with
 use Rattle.ste_engine.proofs.Asked.{Asks-keep}
 use Rattle.engine_parts.proofs.FirstSets.{firsts_are}
 use Rattle.ste_engine.proofs.Times.{IsTurnedAt, ReachedAt, ant_in, con_in, empty_sum, last_in, reached_next, strong_sum, time_call, time_turn, turned_refs, weak_sum}
+use Rattle.ste_model.specs.declared.task.Weakening.{Weakening}
+use Rattle.ste_model.specs.Asked.{weakened_at}
+use Rattle.sym_step.specs.Step.{ids_of}
+use Rattle.ste_engine.specs.private.Times.{IsTimeline}
+use Rattle.ste_engine.specs.private.Weakened.{HasWeakened, weak_asks}
+use Rattle.ste_engine.proofs.WeakLines.{nets_inside}
 use Rattle.ste_engine.proofs.engine.results.Goals as goal
 
 on_ok : {T E P : Type 0} (r : Result T E) → P → OnOk r P
@@ -85,6 +91,25 @@ returns-in_err-con-clause-built g c = λ table whole.
     let b : Built (quints_work task.con) ConLine t1 t2 (Err fault) = subst (λ (xs : List Quint). Built (quints_work xs) (λ t line. IsLine t xs n 0 line) t1 t2 (Err fault)) c.as_slice-2.ensures c.in_err-con.ensures in
     pass work ConLine (AreResults net.raw task table) s t1 t2 fault c.from_residual-in_err-con.result g1 g2 (first work AntLine s t1 (Ok c.in_ok-ant.ant) (Built-wider work (quints_work task.ant) AntLine s t1 (Ok c.in_ok-ant.ant) (ant_in net.raw task table) a)) (Built-wider work (quints_work task.con) ConLine t1 t2 (Err fault) (con_in net.raw task table) b) c.from_residual-in_err-con.ensures.1
 
+pub returns-in-Err-clause-built : goal.returns-in-Err-clause-built
+returns-in-Err-clause-built g c = λ table whole.
+    let s : Store = g.N.Nodes.store c.args.nodes.now in
+    let gs = g.met.N.Nodes.diagram c.args.nodes.now in
+    let net = c.args.net.now in
+    let task : Assertion = c.args.task.now in
+    let n = c.depth-depth.result in
+    let t1 : Store = g.N.Nodes.store c.line_of.new.nodes in
+    let g1 = g.met.N.Nodes.diagram c.line_of.new.nodes in
+    let AntLine : Store → Timeline → Type 0 = λ t line. IsLine t task.ant n 0 line in
+    let a : Built (quints_work task.ant) AntLine s t1 (Ok c.in_ok-ant.ant) = subst (λ (xs : List Quint). Built (quints_work xs) (λ t line. IsLine t xs n 0 line) s t1 (Ok c.in_ok-ant.ant)) c.as_slice.ensures c.in_ok-ant.ensures in
+    let t2 : Store = g.N.Nodes.store c.line_of-2.new.nodes in
+    let g2 = g.met.N.Nodes.diagram c.line_of-2.new.nodes in
+    let ConLine : Store → Timeline → Type 0 = λ t line. IsLine t task.con n 0 line in
+    let b : Built (quints_work task.con) ConLine t1 t2 (Ok c.in_ok-con.con) = subst (λ (xs : List Quint). Built (quints_work xs) (λ t line. IsLine t xs n 0 line) t1 t2 (Ok c.in_ok-con.con)) c.as_slice-2.ensures c.in_ok-con.ensures in
+    let work : List Function = task_work net.raw task table in
+    let so = more work ConLine s t1 t2 (Ok c.in_ok-con.con) g1 g2 (first work AntLine s t1 (Ok c.in_ok-ant.ant) (Built-wider work (quints_work task.ant) AntLine s t1 (Ok c.in_ok-ant.ant) (ant_in net.raw task table) a)) (Built-wider work (quints_work task.con) ConLine t1 t2 (Ok c.in_ok-con.con) (con_in net.raw task table) b) in
+    Built-lost work (AreResults net.raw task table) s t2 so
+
 pub loop-t-init : goal.loop-t-init
 loop-t-init g c =
     let s : Store = g.N.Nodes.store c.args.nodes.now in
@@ -104,6 +129,7 @@ loop-t-init g c =
     record {
       ant = Line-keeps t1 t2 task.ant n 0 c.in_ok-ant.ant g1 g2 b.spends.keeps a.ok;
       con = b.ok;
+      weak = subst (λ (ws : List Weakening). IsTimeline (weak_asks n 0 ws) n 0 c.in-Ok.weak.line) c.as_slice-3.ensures c.in-Ok.ensures;
       frame = frame_keeps s t2 net.raw c.args.frame.now net.in_range gs g2 (Keeps-trans s t1 t2 a.spends.keeps b.spends.keeps) c.requires.frame;
       firsts = c.requires.firsts;
       reached = λ table whole.
@@ -117,17 +143,26 @@ loop-t-init g c =
           };
     }
 
-pub returns-in-Err-clause-built : goal.returns-in-Err-clause-built
-returns-in-Err-clause-built g c = λ table whole.
-    let s : Store = g.N.Nodes.store c.args.nodes.now in
-    let t : Store = g.N.Nodes.store c.loop-t.nodes in
-    Built-lost (task_work c.args.net.now.raw c.args.task.now table) (AreResults c.args.net.now.raw c.args.task.now table) s t (c.loop-t.invariant.reached table whole).so
-
 pub returns-in-Err-advance-clause-built : goal.returns-in-Err-advance-clause-built
 returns-in-Err-advance-clause-built g c = λ table whole.
     let s : Store = g.N.Nodes.store c.args.nodes.now in
     let t : Store = g.N.Nodes.store c.loop-t.nodes in
     Built-lost (task_work c.args.net.now.raw c.args.task.now table) (AreResults c.args.net.now.raw c.args.task.now table) s t (c.loop-t.invariant.reached table whole).so
+
+pub returns-in-Err-advance-2-clause-built : goal.returns-in-Err-advance-2-clause-built
+returns-in-Err-advance-2-clause-built g c = λ table whole.
+    let s : Store = g.N.Nodes.store c.args.nodes.now in
+    let t : Store = g.N.Nodes.store c.loop-t.nodes in
+    Built-lost (task_work c.args.net.now.raw c.args.task.now table) (AreResults c.args.net.now.raw c.args.task.now table) s t (c.loop-t.invariant.reached table whole).so
+
+pub returns-in-Err-advance-3-clause-built : goal.returns-in-Err-advance-3-clause-built
+returns-in-Err-advance-3-clause-built g c = λ table whole.
+    let s : Store = g.N.Nodes.store c.args.nodes.now in
+    let t : Store = g.N.Nodes.store c.loop-t.nodes in
+    Built-lost (task_work c.args.net.now.raw c.args.task.now table) (AreResults c.args.net.now.raw c.args.task.now table) s t (c.loop-t.invariant.reached table whole).so
+
+pub advance-requires-in-loop-t-2 : goal.advance-requires-in-loop-t-2
+advance-requires-in-loop-t-2 g c = let long = c.loop-t.invariant.weak.starts.long in omega (arith, long, c.loop-t-test.true)
 
 pub loop-t-preserved : goal.loop-t-preserved
 loop-t-preserved g c =
@@ -141,25 +176,28 @@ loop-t-preserved g c =
     let p = c.loop-t.invariant in
     let k = c.loop-t.t in
     let below : k < depth task = subst (λ m. k < m) c.depth-depth.ensures c.loop-t-test.true in
-    let ant : IsNextLine t net.raw task.ant n k c.advance.new.self c.cuts.result.now = next_line t net.raw task.ant n k c.loop-t.ant c.advance.new.self c.advance.new.self.cuts.items c.cuts.result.now p.ant c.loop-t-test.true c.requires.ant c.cuts.ensures c.in-Ok.ensures in
-    let con : IsNextLine t net.raw task.con n k c.advance-in-loop-t.new.self c.cuts-in-loop-t.result.now = next_line t net.raw task.con n k c.loop-t.con c.advance-in-loop-t.new.self c.advance-in-loop-t.new.self.cuts.items c.cuts-in-loop-t.result.now p.con c.loop-t-test.true c.requires.con c.cuts-in-loop-t.ensures c.in-Ok-advance.ensures in
+    let ant : IsNextLine t net.raw task.ant n k c.advance.new.self c.cuts.result.now = next_line t net.raw task.ant n k c.loop-t.ant c.advance.new.self c.advance.new.self.cuts.items c.cuts.result.now p.ant c.loop-t-test.true c.requires.ant c.cuts.ensures c.in-Ok-advance.ensures in
+    let con : IsNextLine t net.raw task.con n k c.advance-in-loop-t.new.self c.cuts-in-loop-t.result.now = next_line t net.raw task.con n k c.loop-t.con c.advance-in-loop-t.new.self c.advance-in-loop-t.new.self.cuts.items c.cuts-in-loop-t.result.now p.con c.loop-t-test.true c.requires.con c.cuts-in-loop-t.ensures c.in-Ok-advance-2.ensures in
+    let weak : HasWeakened task.weak n k c.advance-in-loop-t-2.new.self = c.in-Ok-advance-3.ensures task.weak n p.weak c.loop-t-test.true in
+    let weak_is : weakened_at task.weak k ≡ ids_of c.nets.result.now = weak.given ∙ ap ids_of (sym c.nets.ensures) in
     let u : Store = g.N.Nodes.store c.turn.new.nodes in
     let gu = g.met.N.Nodes.diagram c.turn.new.nodes in
     let settled : IsSettled net.raw = settled_by_order net.raw net.settled net.in_order in
     let w = whole_exists net.raw s.vars task settled in
     let after : Turned = c.in_ok-reached.reached in
-    let mine = time_call net.raw task w.0 s t u k c.cuts.result.now c.cuts-in-loop-t.result.now (next_of net.raw c.loop-t.frame) (next_of net.raw c.turn.new.frame) c.loop-t.reached (Ok after) w.1 below ant.by con.by (p.reached w.0 w.1) c.in_ok-reached.ensures.built in
+    let mine = time_call net.raw task w.0 s t u k c.nets.result.now c.cuts.result.now c.cuts-in-loop-t.result.now (next_of net.raw c.loop-t.frame) (next_of net.raw c.turn.new.frame) c.loop-t.reached (Ok after) w.1 below weak_is ant.by con.by (p.reached w.0 w.1) c.in_ok-reached.ensures.built in
     let keeps = mine.spends.keeps in
     record {
       ant = Line-keeps t u task.ant n (k + 1) c.advance.new.self gt gu keeps ant.is;
       con = Line-keeps t u task.con n (k + 1) c.advance-in-loop-t.new.self gt gu keeps con.is;
+      weak = weak.is;
       frame = c.in_ok-reached.ensures.frame;
       firsts =
           let q = p.reached w.0 w.1 in
           let tv = q.so.keeps.vars in
           let uv = keeps.vars ∙ tv in
-          let last : IsNextLine t net.raw task.con n k c.advance-in-loop-t.new.self c.cuts-in-loop-t-2.result.now = next_line t net.raw task.con n k c.loop-t.con c.advance-in-loop-t.new.self c.advance-in-loop-t.new.self.cuts.items c.cuts-in-loop-t-2.result.now p.con c.loop-t-test.true c.requires.con c.cuts-in-loop-t-2.ensures c.in-Ok-advance.ensures in
-          let have = c.in_ok-reached.ensures.have (latches_at net.raw task w.0 k) (symbolic_cuts_at task.ant k) (w.0 k) q.next ant.by (subst (λ v. ArePossibleEach v net.raw (latches_at net.raw task w.0 k) (symbolic_asked_at task k) (w.0 k)) (sym tv) (family_at net.raw s.vars task w.0 k w.1 below)) in
+          let last : IsNextLine t net.raw task.con n k c.advance-in-loop-t.new.self c.cuts-in-loop-t-2.result.now = next_line t net.raw task.con n k c.loop-t.con c.advance-in-loop-t.new.self c.advance-in-loop-t.new.self.cuts.items c.cuts-in-loop-t-2.result.now p.con c.loop-t-test.true c.requires.con c.cuts-in-loop-t-2.ensures c.in-Ok-advance-2.ensures in
+          let have = c.in_ok-reached.ensures.have (latches_at net.raw task w.0 k) (weakened_at task.weak k) (symbolic_cuts_at task.ant k) (w.0 k) q.next weak_is ant.by (subst (λ v. ArePossibleEach v net.raw (latches_at net.raw task w.0 k) (symbolic_asked_at task k) (w.0 k)) (sym tv) (family_at net.raw s.vars task w.0 k w.1 below)) in
           let zip = Demands-keep t u (symbolic_cuts_at task.con k) c.cuts-in-loop-t-2.result.now gt gu keeps last.by in
           let nets : List Rails = nets_of c.turn.new.frame in
           let found = c.loop-t.reached.found in
@@ -171,7 +209,7 @@ loop-t-preserved g c =
           };
       reached = λ table whole.
           let before : ReachedAt net.raw task table s t k (next_of net.raw c.loop-t.frame) c.loop-t.reached = p.reached table whole in
-          let b = time_turn net.raw task table s t u k (next_of net.raw c.loop-t.frame) (next_of net.raw c.turn.new.frame) c.loop-t.reached (Ok after) gt gu below before (time_call net.raw task table s t u k c.cuts.result.now c.cuts-in-loop-t.result.now (next_of net.raw c.loop-t.frame) (next_of net.raw c.turn.new.frame) c.loop-t.reached (Ok after) whole below ant.by con.by before c.in_ok-reached.ensures.built) in
+          let b = time_turn net.raw task table s t u k (next_of net.raw c.loop-t.frame) (next_of net.raw c.turn.new.frame) c.loop-t.reached (Ok after) gt gu below before (time_call net.raw task table s t u k c.nets.result.now c.cuts.result.now c.cuts-in-loop-t.result.now (next_of net.raw c.loop-t.frame) (next_of net.raw c.turn.new.frame) c.loop-t.reached (Ok after) whole below weak_is ant.by con.by before c.in_ok-reached.ensures.built) in
           reached_next net.raw task table s t u k (next_of net.raw c.loop-t.frame) (next_of net.raw c.turn.new.frame) c.loop-t.reached after gt gu keeps before (first (task_work net.raw task table) (IsTurnedAt net.raw task table k (next_of net.raw c.turn.new.frame)) s u (Ok after) b) b.ok;
     }
 
@@ -187,14 +225,16 @@ returns-in_err-reached-clause-built g c = λ table whole.
     let p = c.loop-t.invariant in
     let k = c.loop-t.t in
     let below : k < depth task = subst (λ m. k < m) c.depth-depth.ensures c.loop-t-test.true in
-    let ant : IsNextLine t net.raw task.ant n k c.advance.new.self c.cuts.result.now = next_line t net.raw task.ant n k c.loop-t.ant c.advance.new.self c.advance.new.self.cuts.items c.cuts.result.now p.ant c.loop-t-test.true c.requires.ant c.cuts.ensures c.in-Ok.ensures in
-    let con : IsNextLine t net.raw task.con n k c.advance-in-loop-t.new.self c.cuts-in-loop-t.result.now = next_line t net.raw task.con n k c.loop-t.con c.advance-in-loop-t.new.self c.advance-in-loop-t.new.self.cuts.items c.cuts-in-loop-t.result.now p.con c.loop-t-test.true c.requires.con c.cuts-in-loop-t.ensures c.in-Ok-advance.ensures in
+    let ant : IsNextLine t net.raw task.ant n k c.advance.new.self c.cuts.result.now = next_line t net.raw task.ant n k c.loop-t.ant c.advance.new.self c.advance.new.self.cuts.items c.cuts.result.now p.ant c.loop-t-test.true c.requires.ant c.cuts.ensures c.in-Ok-advance.ensures in
+    let con : IsNextLine t net.raw task.con n k c.advance-in-loop-t.new.self c.cuts-in-loop-t.result.now = next_line t net.raw task.con n k c.loop-t.con c.advance-in-loop-t.new.self c.advance-in-loop-t.new.self.cuts.items c.cuts-in-loop-t.result.now p.con c.loop-t-test.true c.requires.con c.cuts-in-loop-t.ensures c.in-Ok-advance-2.ensures in
+    let weak : HasWeakened task.weak n k c.advance-in-loop-t-2.new.self = c.in-Ok-advance-3.ensures task.weak n p.weak c.loop-t-test.true in
+    let weak_is : weakened_at task.weak k ≡ ids_of c.nets.result.now = weak.given ∙ ap ids_of (sym c.nets.ensures) in
     let u : Store = g.N.Nodes.store c.turn.new.nodes in
     let gu = g.met.N.Nodes.diagram c.turn.new.nodes in
     let work : List Function = task_work net.raw task table in
     let fault = c.in_err-reached.field-0.0 in
     let before : ReachedAt net.raw task table s t k (next_of net.raw c.loop-t.frame) c.loop-t.reached = p.reached table whole in
-    let b = time_turn net.raw task table s t u k (next_of net.raw c.loop-t.frame) (next_of net.raw c.turn.new.frame) c.loop-t.reached (Err fault) gt gu below before (time_call net.raw task table s t u k c.cuts.result.now c.cuts-in-loop-t.result.now (next_of net.raw c.loop-t.frame) (next_of net.raw c.turn.new.frame) c.loop-t.reached (Err fault) whole below ant.by con.by before c.in_err-reached.ensures.built) in
+    let b = time_turn net.raw task table s t u k (next_of net.raw c.loop-t.frame) (next_of net.raw c.turn.new.frame) c.loop-t.reached (Err fault) gt gu below before (time_call net.raw task table s t u k c.nets.result.now c.cuts.result.now c.cuts-in-loop-t.result.now (next_of net.raw c.loop-t.frame) (next_of net.raw c.turn.new.frame) c.loop-t.reached (Err fault) whole below weak_is ant.by con.by before c.in_err-reached.ensures.built) in
     pass work (IsTurnedAt net.raw task table k (next_of net.raw c.turn.new.frame)) (AreResults net.raw task table) s s u fault c.from_residual-in_err-reached.result gs gu (So-start work s) b c.from_residual-in_err-reached.ensures.1
 
 pub turn-requires-clause-ant : goal.turn-requires-clause-ant
@@ -209,8 +249,16 @@ turn-requires-clause-ant g c =
     let p = c.loop-t.invariant in
     let k = c.loop-t.t in
     let below : k < depth task = subst (λ m. k < m) c.depth-depth.ensures c.loop-t-test.true in
-    let ant : IsNextLine t net.raw task.ant n k c.advance.new.self c.cuts.result.now = next_line t net.raw task.ant n k c.loop-t.ant c.advance.new.self c.advance.new.self.cuts.items c.cuts.result.now p.ant c.loop-t-test.true c.requires.ant c.cuts.ensures c.in-Ok.ensures in
+    let ant : IsNextLine t net.raw task.ant n k c.advance.new.self c.cuts.result.now = next_line t net.raw task.ant n k c.loop-t.ant c.advance.new.self c.advance.new.self.cuts.items c.cuts.result.now p.ant c.loop-t-test.true c.requires.ant c.cuts.ensures c.in-Ok-advance.ensures in
     ant.of
+
+pub turn-requires-clause-weak : goal.turn-requires-clause-weak
+turn-requires-clause-weak g c =
+    let task : Assertion = c.args.task.now in
+    let n = c.depth-depth.result in
+    let k = c.loop-t.t in
+    let weak : HasWeakened task.weak n k c.advance-in-loop-t-2.new.self = c.in-Ok-advance-3.ensures task.weak n c.loop-t.invariant.weak c.loop-t-test.true in
+    nets_inside c.args.net.now.raw.nets k task.weak c.nets.result.now c.requires.weak (weak.given ∙ ap ids_of (sym c.nets.ensures))
 
 pub turn-requires-clause-con : goal.turn-requires-clause-con
 turn-requires-clause-con g c =
@@ -224,7 +272,7 @@ turn-requires-clause-con g c =
     let p = c.loop-t.invariant in
     let k = c.loop-t.t in
     let below : k < depth task = subst (λ m. k < m) c.depth-depth.ensures c.loop-t-test.true in
-    let con : IsNextLine t net.raw task.con n k c.advance-in-loop-t.new.self c.cuts-in-loop-t.result.now = next_line t net.raw task.con n k c.loop-t.con c.advance-in-loop-t.new.self c.advance-in-loop-t.new.self.cuts.items c.cuts-in-loop-t.result.now p.con c.loop-t-test.true c.requires.con c.cuts-in-loop-t.ensures c.in-Ok-advance.ensures in
+    let con : IsNextLine t net.raw task.con n k c.advance-in-loop-t.new.self c.cuts-in-loop-t.result.now = next_line t net.raw task.con n k c.loop-t.con c.advance-in-loop-t.new.self c.advance-in-loop-t.new.self.cuts.items c.cuts-in-loop-t.result.now p.con c.loop-t-test.true c.requires.con c.cuts-in-loop-t.ensures c.in-Ok-advance-2.ensures in
     con.of
 
 pub turn-requires-clause-before : goal.turn-requires-clause-before
@@ -251,7 +299,7 @@ with_time-requires g c =
     let t : Store = g.N.Nodes.store c.loop-t.nodes in
     let p = c.loop-t.invariant in
     let k = c.loop-t.t in
-    let con : IsNextLine t net.raw task.con n k c.advance-in-loop-t.new.self c.cuts-in-loop-t-2.result.now = next_line t net.raw task.con n k c.loop-t.con c.advance-in-loop-t.new.self c.advance-in-loop-t.new.self.cuts.items c.cuts-in-loop-t-2.result.now p.con c.loop-t-test.true c.requires.con c.cuts-in-loop-t-2.ensures c.in-Ok-advance.ensures in
+    let con : IsNextLine t net.raw task.con n k c.advance-in-loop-t.new.self c.cuts-in-loop-t-2.result.now = next_line t net.raw task.con n k c.loop-t.con c.advance-in-loop-t.new.self c.advance-in-loop-t.new.self.cuts.items c.cuts-in-loop-t-2.result.now p.con c.loop-t-test.true c.requires.con c.cuts-in-loop-t-2.ensures c.in-Ok-advance-2.ensures in
     let frame : Frame = c.turn.new.frame in
     let nets : length (nets_of frame) ≡ net.raw.nets = length-map frame.board.nets.items bare ∙ c.in_ok-reached.ensures.frame.long in
     λ i d l. let inside = (con.of i d l).node in omega (arith, nets, inside)

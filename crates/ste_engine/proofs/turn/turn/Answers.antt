@@ -31,54 +31,54 @@ abbrev Good : RawNet → (ℕ → SymbolicSet) → Frame → Store → Ref → T
 Good net sets frame t r = IsStep net sets t (step_of net frame r)
 
 pub returns-in_err-empty-clause-built : goal.returns-in_err-empty-clause-built
-returns-in_err-empty-clause-built g c = λ ls ds es sets k f h zip asked others family mk sums.
+returns-in_err-empty-clause-built g c = λ ls weakened ds es sets k f h zip weak asked others family mk sums.
     let s : Store = g.N.Nodes.store c.args.nodes.now in
     let t : Store = g.N.Nodes.store c.renew.new.nodes in
     let gs = g.met.N.Nodes.diagram c.args.nodes.now in
     let gt = g.met.N.Nodes.diagram c.renew.new.nodes in
     let net = c.args.net.now in
     let before : Turned = c.args.before.now in
-    let work : List Function = turned_work net.raw ls ds es sets k f h in
+    let work : List Function = turned_work net.raw ls weakened ds es sets k f h in
     let fault = c.in_err-empty.field-0.0 in
     pass work (Good net.raw sets c.renew.new.frame) (IsTurned net.raw es sets k f h (next_of net.raw c.renew.new.frame)) s s t fault c.from_residual.result gs gt (So-start work s)
-    (Built-wider work (time_work net.raw ls (asked_by ds) sets) (Good net.raw sets c.renew.new.frame) s t (Err fault) (time_in net.raw ls ds es sets k f h) (c.in_err-empty.ensures.built ls (asked_by ds) sets zip asked family)) c.from_residual.ensures.1
+    (Built-wider work (time_work net.raw ls (asked_by weakened ds) sets) (Good net.raw sets c.renew.new.frame) s t (Err fault) (time_in net.raw ls weakened ds es sets k f h) (c.in_err-empty.ensures.built ls (asked_by weakened ds) sets zip asked weak family)) c.from_residual.ensures.1
 
 pub returns-in_err-contradictory-clause-built : goal.returns-in_err-contradictory-clause-built
-returns-in_err-contradictory-clause-built g c = λ ls ds es sets k f h zip asked others family mk sums.
+returns-in_err-contradictory-clause-built g c = λ ls weakened ds es sets k f h zip weak asked others family mk sums.
     let s : Store = g.N.Nodes.store c.args.nodes.now in
     let t : Store = g.N.Nodes.store c.renew.new.nodes in
     let gs = g.met.N.Nodes.diagram c.args.nodes.now in
     let gt = g.met.N.Nodes.diagram c.renew.new.nodes in
     let net = c.args.net.now in
     let before : Turned = c.args.before.now in
-    let work : List Function = turned_work net.raw ls ds es sets k f h in
+    let work : List Function = turned_work net.raw ls weakened ds es sets k f h in
     let made : Step = step_of net.raw c.renew.new.frame c.in_ok-empty.empty in
-    let a : Built work (Good net.raw sets c.renew.new.frame) s t (Ok c.in_ok-empty.empty) = Built-wider work (time_work net.raw ls (asked_by ds) sets) (Good net.raw sets c.renew.new.frame) s t (Ok c.in_ok-empty.empty) (time_in net.raw ls ds es sets k f h) (c.in_ok-empty.ensures.built ls (asked_by ds) sets zip asked family) in
+    let a : Built work (Good net.raw sets c.renew.new.frame) s t (Ok c.in_ok-empty.empty) = Built-wider work (time_work net.raw ls (asked_by weakened ds) sets) (Good net.raw sets c.renew.new.frame) s t (Ok c.in_ok-empty.empty) (time_in net.raw ls weakened ds es sets k f h) (c.in_ok-empty.ensures.built ls (asked_by weakened ds) sets zip asked weak family) in
     let so1 = first work (Good net.raw sets c.renew.new.frame) s t (Ok c.in_ok-empty.empty) a in
     let u : Store = g.N.Nodes.store c.either.new.nodes in
     let gu = g.met.N.Nodes.diagram c.either.new.nodes in
     let e : Function = some_empty net.raw sets in
     let fault = c.in_err-contradictory.field-0.0 in
     pass work (HasFunction (disjunction k e)) (IsTurned net.raw es sets k f h (next_of net.raw c.renew.new.frame)) s t u fault c.from_residual-in_err-contradictory.result gt gu so1
-    (or_built work k e t u before.contradictory made.contradictory (Err fault) (empty_in net.raw ls ds es sets k f h) (Means-keeps s t k before.contradictory gs gt a.spends.keeps mk) a.ok.contradictory c.in_err-contradictory.ensures) c.from_residual-in_err-contradictory.ensures.1
+    (or_built work k e t u before.contradictory made.contradictory (Err fault) (empty_in net.raw ls weakened ds es sets k f h) (Means-keeps s t k before.contradictory gs gt a.spends.keeps mk) a.ok.contradictory c.in_err-contradictory.ensures) c.from_residual-in_err-contradictory.ensures.1
 
 pub returns-in_err-found-clause-built : goal.returns-in_err-found-clause-built
-returns-in_err-found-clause-built g c = λ ls ds es sets k f h zip asked others family mk sums.
+returns-in_err-found-clause-built g c = λ ls weakened ds es sets k f h zip weak asked others family mk sums.
     let s : Store = g.N.Nodes.store c.args.nodes.now in
     let t : Store = g.N.Nodes.store c.renew.new.nodes in
     let gs = g.met.N.Nodes.diagram c.args.nodes.now in
     let gt = g.met.N.Nodes.diagram c.renew.new.nodes in
     let net = c.args.net.now in
     let before : Turned = c.args.before.now in
-    let work : List Function = turned_work net.raw ls ds es sets k f h in
+    let work : List Function = turned_work net.raw ls weakened ds es sets k f h in
     let made : Step = step_of net.raw c.renew.new.frame c.in_ok-empty.empty in
-    let a : Built work (Good net.raw sets c.renew.new.frame) s t (Ok c.in_ok-empty.empty) = Built-wider work (time_work net.raw ls (asked_by ds) sets) (Good net.raw sets c.renew.new.frame) s t (Ok c.in_ok-empty.empty) (time_in net.raw ls ds es sets k f h) (c.in_ok-empty.ensures.built ls (asked_by ds) sets zip asked family) in
+    let a : Built work (Good net.raw sets c.renew.new.frame) s t (Ok c.in_ok-empty.empty) = Built-wider work (time_work net.raw ls (asked_by weakened ds) sets) (Good net.raw sets c.renew.new.frame) s t (Ok c.in_ok-empty.empty) (time_in net.raw ls weakened ds es sets k f h) (c.in_ok-empty.ensures.built ls (asked_by weakened ds) sets zip asked weak family) in
     let so1 = first work (Good net.raw sets c.renew.new.frame) s t (Ok c.in_ok-empty.empty) a in
     let u : Store = g.N.Nodes.store c.either.new.nodes in
     let gu = g.met.N.Nodes.diagram c.either.new.nodes in
     let e : Function = some_empty net.raw sets in
     let con = c.in_ok-contradictory.contradictory in
-    let b : Built work (HasFunction (disjunction k e)) t u (Ok con) = or_built work k e t u before.contradictory made.contradictory (Ok con) (empty_in net.raw ls ds es sets k f h) (Means-keeps s t k before.contradictory gs gt a.spends.keeps mk) a.ok.contradictory c.in_ok-contradictory.ensures in
+    let b : Built work (HasFunction (disjunction k e)) t u (Ok con) = or_built work k e t u before.contradictory made.contradictory (Ok con) (empty_in net.raw ls weakened ds es sets k f h) (Means-keeps s t k before.contradictory gs gt a.spends.keeps mk) a.ok.contradictory c.in_ok-contradictory.ensures in
     let so2 = more work (HasFunction (disjunction k e)) s t u (Ok con) gt gu so1 b in
     let v : Store = g.N.Nodes.store c.find_all.new.nodes in
     let gv = g.met.N.Nodes.diagram c.find_all.new.nodes in
@@ -90,25 +90,25 @@ returns-in_err-found-clause-built g c = λ ls ds es sets k f h zip asked others 
     let Sums : Store → Found → Type 0 = AreFound (more_strong sets es f) (more_weak sets es h) in
     let fault = c.in_err-found.field-0.0 in
     pass work Sums (IsTurned net.raw es sets k f h (next_of net.raw c.renew.new.frame)) s u v fault c.from_residual-in_err-found.result gu gv so2
-    (Built-wider work (found_work sets es f h) Sums u v (Err fault) (found_in net.raw ls ds es sets k f h) (c.in_err-found.ensures sets es f h have wanted begun)) c.from_residual-in_err-found.ensures.1
+    (Built-wider work (found_work sets es f h) Sums u v (Err fault) (found_in net.raw ls weakened ds es sets k f h) (c.in_err-found.ensures sets es f h have wanted begun)) c.from_residual-in_err-found.ensures.1
 
 pub returns-clause-built : goal.returns-clause-built
-returns-clause-built g c = λ ls ds es sets k f h zip asked others family mk sums.
+returns-clause-built g c = λ ls weakened ds es sets k f h zip weak asked others family mk sums.
     let s : Store = g.N.Nodes.store c.args.nodes.now in
     let t : Store = g.N.Nodes.store c.renew.new.nodes in
     let gs = g.met.N.Nodes.diagram c.args.nodes.now in
     let gt = g.met.N.Nodes.diagram c.renew.new.nodes in
     let net = c.args.net.now in
     let before : Turned = c.args.before.now in
-    let work : List Function = turned_work net.raw ls ds es sets k f h in
+    let work : List Function = turned_work net.raw ls weakened ds es sets k f h in
     let made : Step = step_of net.raw c.renew.new.frame c.in_ok-empty.empty in
-    let a : Built work (Good net.raw sets c.renew.new.frame) s t (Ok c.in_ok-empty.empty) = Built-wider work (time_work net.raw ls (asked_by ds) sets) (Good net.raw sets c.renew.new.frame) s t (Ok c.in_ok-empty.empty) (time_in net.raw ls ds es sets k f h) (c.in_ok-empty.ensures.built ls (asked_by ds) sets zip asked family) in
+    let a : Built work (Good net.raw sets c.renew.new.frame) s t (Ok c.in_ok-empty.empty) = Built-wider work (time_work net.raw ls (asked_by weakened ds) sets) (Good net.raw sets c.renew.new.frame) s t (Ok c.in_ok-empty.empty) (time_in net.raw ls weakened ds es sets k f h) (c.in_ok-empty.ensures.built ls (asked_by weakened ds) sets zip asked weak family) in
     let so1 = first work (Good net.raw sets c.renew.new.frame) s t (Ok c.in_ok-empty.empty) a in
     let u : Store = g.N.Nodes.store c.either.new.nodes in
     let gu = g.met.N.Nodes.diagram c.either.new.nodes in
     let e : Function = some_empty net.raw sets in
     let con = c.in_ok-contradictory.contradictory in
-    let b : Built work (HasFunction (disjunction k e)) t u (Ok con) = or_built work k e t u before.contradictory made.contradictory (Ok con) (empty_in net.raw ls ds es sets k f h) (Means-keeps s t k before.contradictory gs gt a.spends.keeps mk) a.ok.contradictory c.in_ok-contradictory.ensures in
+    let b : Built work (HasFunction (disjunction k e)) t u (Ok con) = or_built work k e t u before.contradictory made.contradictory (Ok con) (empty_in net.raw ls weakened ds es sets k f h) (Means-keeps s t k before.contradictory gs gt a.spends.keeps mk) a.ok.contradictory c.in_ok-contradictory.ensures in
     let so2 = more work (HasFunction (disjunction k e)) s t u (Ok con) gt gu so1 b in
     let v : Store = g.N.Nodes.store c.find_all.new.nodes in
     let gv = g.met.N.Nodes.diagram c.find_all.new.nodes in
@@ -119,7 +119,7 @@ returns-clause-built g c = λ ls ds es sets k f h zip asked others family mk sum
     let begun : AreFound f h u before.found = record { strong = Means-keeps s u f before.found.strong gs gu so2.keeps sums.strong; weak = Means-keeps s u h before.found.weak gs gu so2.keeps sums.weak } in
     let Sums : Store → Found → Type 0 = AreFound (more_strong sets es f) (more_weak sets es h) in
     let found = c.in_ok-found.found in
-    let d : Built work Sums u v (Ok found) = Built-wider work (found_work sets es f h) Sums u v (Ok found) (found_in net.raw ls ds es sets k f h) (c.in_ok-found.ensures sets es f h have wanted begun) in
+    let d : Built work Sums u v (Ok found) = Built-wider work (found_work sets es f h) Sums u v (Ok found) (found_in net.raw ls weakened ds es sets k f h) (c.in_ok-found.ensures sets es f h have wanted begun) in
     let so3 = more work Sums s u v (Ok found) gu gv so2 d in
     let keeps = Keeps-trans t u v b.spends.keeps d.spends.keeps in
     Built-made work (IsTurned net.raw es sets k f h (next_of net.raw c.renew.new.frame)) s v (record { contradictory = con; found = found }) so3
@@ -176,7 +176,7 @@ returns-clause-frame g c =
     frame_keeps t v net.raw frame net.in_range gt gv (Keeps-trans t u v stu d.spends.keeps) c.in_ok-empty.ensures.frame
 
 pub returns-clause-have : goal.returns-clause-have
-returns-clause-have g c = λ ls ds wanted_sets zip asks family id inside.
+returns-clause-have g c = λ ls weakened ds wanted_sets zip weak asks family id inside.
     let s : Store = g.N.Nodes.store c.args.nodes.now in
     let t : Store = g.N.Nodes.store c.renew.new.nodes in
     let u : Store = g.N.Nodes.store c.either.new.nodes in
@@ -202,5 +202,5 @@ returns-clause-have g c = λ ls ds wanted_sets zip asks family id inside.
       weak = own u before.found.weak (IsFrom-grows s.held u.held 0 _ ksu.grows c.requires.before.found.weak);
     } in
     let d = c.in_ok-found.ensures sets asked f h have wanted begun in
-    let a = c.in_ok-empty.ensures.built ls (asked_by ds) wanted_sets zip asks family in
+    let a = c.in_ok-empty.ensures.built ls (asked_by weakened ds) wanted_sets zip asks weak family in
     Rails-keep t v (wanted_sets id) (rails_at nets id) gt gv (Keeps-trans t u v stu d.spends.keeps) (a.ok.nets id inside)

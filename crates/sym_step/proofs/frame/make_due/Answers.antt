@@ -13,7 +13,7 @@ mark_drivers-requires c = subst (All (λ (node : NodeId). node.0 < c.args.net.no
 pub returns-clause-frame : goal.returns-clause-frame
 returns-clause-frame c = λ s f.
     let net = c.args.net.now in
-    let asked : List NodeId = nodes_of c.args.demands.now.cuts in
+    let asked : List NodeId = nodes_of c.args.demands.now.weak c.args.demands.now.cuts in
     let p = c.in_ok-with_lists.ensures.frame s f in
     let frame : Frame = c.with_lists.new.frame in
     let mid = c.mark_drivers.new.due in

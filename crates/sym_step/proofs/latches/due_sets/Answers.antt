@@ -17,13 +17,16 @@ use Rattle.sym_step.specs.private.Latches.{IsCopied, IsInPlace, IsSetOf, latch_s
 use Rattle.gate_sets.specs.NetSets.{net_at}
 use Rattle.sym_step.specs.private.Readers.{AreReaders, flag_at}
 use Rattle.sym_step.proofs.Latched.{Grows, carried_next, in_place, next_at, own_next, own_set, places_next, places_to}
+use Rattle.net_core.specs.Possible.{is_weakened}
+use Rattle.sym_step.specs.Step.{ids_of}
+use Rattle.sym_step.specs.private.Latches.{rails_unless}
 use Rattle.sym_step.proofs.latches.due_sets.Goals as goal
 use Rattle.sym_step.proofs.latches.due_sets.Goals.{in-Some+in_ok-push, in_default}
 
 pub loop-l-init : goal.loop-l-init
 loop-l-init c =
     let net = c.args.net.now in
-    let asked : List NodeId = nodes_of c.args.demands.now.cuts in
+    let asked : List NodeId = nodes_of c.args.demands.now.weak c.args.demands.now.cuts in
     let first : Board = c.args.board.now in
     let next : List Rails = map (input_rails (map bare first.nets.items)) net.raw.latches in
     let q = c.next_latch-l.ensures in
@@ -36,7 +39,7 @@ loop-l-init c =
       order = refl;
       long = refl;
       rest = λ k away. refl;
-      own = subst (All (IsSetOf net.raw next first.nets.items)) (sym c.no_sets-sets.ensures) (λ k d lt. absurd (omega (arith, lt)));
+      own = subst (All (IsSetOf net.raw next c.args.demands.now.weak first.nets.items)) (sym c.no_sets-sets.ensures) (λ k d lt. absurd (omega (arith, lt)));
       each = λ was.
           places_to net.raw asked first c.no_sets-sets.result.items 0 c.next_latch-l.result net.in_range c.requires.nets was
           (λ k le lt. subst (λ (m : ℕ). flag_at first.due.flags.items (m + k) ≡ false) c.requires.gates (q.unmarked k le lt)) (λ k d lt. absurd (omega (arith, lt)));
@@ -46,7 +49,7 @@ loop-l-init c =
 pub loop-l-preserved : goal.loop-l-preserved
 loop-l-preserved c =
     let net = c.args.net.now in
-    let asked : List NodeId = nodes_of c.args.demands.now.cuts in
+    let asked : List NodeId = nodes_of c.args.demands.now.weak c.args.demands.now.cuts in
     let latches : List Latch = net.raw.latches in
     let zeroth : Latch = record { input = record { 0 = 0 }; output = record { 0 = 0 }; init = Zero } in
     let n : ℕ = c.loop-l.l in
@@ -68,8 +71,8 @@ loop-l-preserved c =
     ] in
     let gates : ℕ = length net.raw.gates in
     let same_gates : length c.gates-gates.result.now ≡ gates = ap (λ (xs : List Gate). length xs) c.gates-gates.ensures in
-    let some_is : (set : LatchSet) → c.due_set.result ≡ Some set → set ≡ latch_set nets latch =
-    λ set e. subst (λ (o : Option LatchSet). IfSome o (λ x. x ≡ latch_set old.nets.items latch)) e p.some ∙ ap (λ (v : Vec NetRails). latch_set v.items latch) inv.nets in
+    let some_is : (set : LatchSet) → c.due_set.result ≡ Some set → set ≡ latch_set c.args.demands.now.weak nets latch =
+    λ set e. subst (λ (o : Option LatchSet). IfSome o (λ x. x ≡ latch_set c.args.demands.now.weak old.nets.items latch)) e p.some ∙ ap (λ (v : Vec NetRails). latch_set c.args.demands.now.weak v.items latch) inv.nets in
     let place : AreCarried net.raw asked first → c.due_set.result ≡ None → IsInPlace next asked nets n latch = λ was e. elim (p.none e) [
       | inl none ↦
           let flag : flag_at first.due.flags.items (gates + n) ≡ false = sym (inv.rest (gates + n) (λ j lt same. absurd (omega (arith, lt, same)))) ∙ subst (λ (m : ℕ). flag_at old.due.flags.items (m + n) ≡ false) same_gates none in
@@ -93,9 +96,9 @@ loop-l-preserved c =
       order = p.order ∙ inv.order;
       long = p.long ∙ inv.long;
       rest = λ k away. rest k (λ j lt. away j (omega (arith, lt, q.behind)));
-      own = own_next net.raw next nets c.due_set.result sets more grows
-          (λ set e. own_set net.raw next nets n latch set inside is (ap (λ (x : LatchSet). x.output) (some_is set e))
-          (λ d. next_at net.raw nets n latch d net.in_range c.requires.nets inside is ∙ ap (λ (x : LatchSet). x.rails) (sym (some_is set e)))
+      own = own_next net.raw next c.args.demands.now.weak nets c.due_set.result sets more grows
+          (λ set e. own_set net.raw next c.args.demands.now.weak nets n latch set inside is (ap (λ (x : LatchSet). x.output) (some_is set e))
+          (λ d. ap (rails_unless (is_weakened (ids_of c.args.demands.now.weak) latch.output.0)) (next_at net.raw nets n latch d net.in_range c.requires.nets inside is) ∙ ap (λ (x : LatchSet). x.rails) (sym (some_is set e)))
           (ap (λ (x : LatchSet). x.given) (sym (some_is set e)))) inv.own;
       each = λ was.
           places_to net.raw asked first more (n + 1) c.next_latch-l-in-loop-l.result net.in_range c.requires.nets was none

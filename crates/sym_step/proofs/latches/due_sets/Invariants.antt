@@ -18,10 +18,10 @@ invariant-loop-l l = record {
   order : l.board.due.order ≡ l.fn.board.due.order;
   long : length l.board.due.flags.items ≡ length l.fn.board.due.flags.items;
   rest : (k : ℕ) → ((j : ℕ) → j < l.l → k ≢ length l.net.raw.gates + j) → flag_at l.board.due.flags.items k ≡ flag_at l.fn.board.due.flags.items k;
-  own : All (IsSetOf l.net.raw (map (input_rails (map bare l.fn.board.nets.items)) l.net.raw.latches) l.fn.board.nets.items) l.sets.items;
-  each : AreCarried l.net.raw (nodes_of l.demands.cuts) l.fn.board → (k : ℕ) (d : Latch) → k < l.l → k < length l.net.raw.latches
-      → IsAmong l.sets.items (get_or l.net.raw.latches k d).output.0 ⊎ IsInPlace (map (input_rails (map bare l.fn.board.nets.items)) l.net.raw.latches) (nodes_of l.demands.cuts) l.fn.board.nets.items k (get_or l.net.raw.latches k d);
-  carried : AreCarried l.net.raw (nodes_of l.demands.cuts) l.fn.board → AreCarried l.net.raw (nodes_of l.demands.cuts) l.board;
+  own : All (IsSetOf l.net.raw (map (input_rails (map bare l.fn.board.nets.items)) l.net.raw.latches) l.demands.weak l.fn.board.nets.items) l.sets.items;
+  each : AreCarried l.net.raw (nodes_of l.demands.weak l.demands.cuts) l.fn.board → (k : ℕ) (d : Latch) → k < l.l → k < length l.net.raw.latches
+      → IsAmong l.sets.items (get_or l.net.raw.latches k d).output.0 ⊎ IsInPlace (map (input_rails (map bare l.fn.board.nets.items)) l.net.raw.latches) (nodes_of l.demands.weak l.demands.cuts) l.fn.board.nets.items k (get_or l.net.raw.latches k d);
+  carried : AreCarried l.net.raw (nodes_of l.demands.weak l.demands.cuts) l.fn.board → AreCarried l.net.raw (nodes_of l.demands.weak l.demands.cuts) l.board;
 }
 
 abbrev pub decreases-loop-l : goal.decreases-loop-l

@@ -12,9 +12,9 @@ use Rattle.sym_step.proofs.latches.latch_sets.Goals as goal
 pub returns-in-Some-clause-sets : goal.returns-in-Some-clause-sets
 returns-in-Some-clause-sets c =
     let net = c.args.net.now.raw in
-    let asked : List NodeId = nodes_of c.args.demands.now.cuts in
+    let asked : List NodeId = nodes_of c.args.demands.now.weak c.args.demands.now.cuts in
     let told : List Rails = c.in-Some.told in
     let is = c.as_slice.ensures ∙ ap (λ (o : Option (List Rails)). first_or o (map (input_rails (nets_of c.args.frame.now)) net.latches)) c.in-Some.ensures.value in
-    IfOk-weaker c.told_sets.result (λ sets. AreLatchSets net (next_of net c.args.frame.now) asked c.args.frame.now.board.nets.items sets.items) _ (λ sets h was. h)
-    (subst (λ (xs : List NetRails). IfOk c.told_sets.result (λ sets. AreLatchSets net (next_of net c.args.frame.now) asked xs sets.items)) c.deref.ensures.value
-    (subst (λ (next : List Rails). IfOk c.told_sets.result (λ sets. AreLatchSets net next asked c.deref.result.now sets.items)) is c.told_sets.ensures))
+    IfOk-weaker c.told_sets.result (λ sets. AreLatchSets net (next_of net c.args.frame.now) c.args.demands.now.weak asked c.args.frame.now.board.nets.items sets.items) _ (λ sets h was. h)
+    (subst (λ (xs : List NetRails). IfOk c.told_sets.result (λ sets. AreLatchSets net (next_of net c.args.frame.now) c.args.demands.now.weak asked xs sets.items)) c.deref.ensures.value
+    (subst (λ (next : List Rails). IfOk c.told_sets.result (λ sets. AreLatchSets net next c.args.demands.now.weak asked c.deref.result.now sets.items)) is c.told_sets.ensures))

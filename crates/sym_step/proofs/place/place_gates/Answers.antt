@@ -1,6 +1,6 @@
 use Rattle.std.specs.Global.{Vec}
 use Rattle.std.proofs.Common.{◌≡◌, ◌+◌, ◌<◌, ◌≤◌, List, length, map, All, ℕ, ◌++◌, refl, sym, ◌∙◌, ap, subst, arith, get_or, Ok, Err, Result, false}
-use Rattle.sym_step.specs.private.Parts.{asks}
+use Rattle.sym_step.specs.private.Parts.{asks, placed_set, placed_work}
 use Rattle.std.specs.List.{AllZip}
 use Rattle.dd_nodes.specs.Diagram.{Function}
 use Rattle.dd_nodes.specs.Stores.{Store, IsRef, function}
@@ -15,9 +15,9 @@ use Rattle.sym_step.specs.declared.cut.Cut.{Cut}
 use Rattle.sym_step.specs.Step.{IsCutBy}
 use Rattle.net_core.specs.declared.raw.Gate.{Gate}
 use Rattle.net_core.specs.declared.raw.RawNet.{RawNet}
-use Rattle.std.specs.Prelude.{slice_get}
-use Rattle.net_core.specs.Work.{time_work, uncut, cover_work, output_set, input_sets}
-use Rattle.sym_step.specs.Step.{IsCutBy}
+use Rattle.net_core.specs.Work.{time_work, uncut}
+use Rattle.sym_step.specs.Step.{ids_of}
+use Rattle.sym_step.specs.private.Demands.{nodes_of}
 use Rattle.net_core.specs.Flat.{IsSettledOrder}
 use Rattle.sym_step.proofs.Turning.{before_is, place_turn, placed, ready, set_refs}
 use Rattle.sym_step.proofs.Framing.{spared_follows, spared_keeps}
@@ -37,10 +37,10 @@ use Rattle.std.proofs.Common.{◌∷◌}
 use Rattle.sym_step.proofs.place.place_gates.Goals as goal
 
 -- what one call of `renew` says of the work
-abbrev Says : {A : Type 0} (net : RawNet) (cuts : List Cut) (gate : Gate) (t u : Store) (result : Result A OpFault) → List NetRails → Type 0
-Says net cuts gate t u result nets =
-    (bs : List SymbolicCut) (b ws : ℕ → SymbolicSet) → AllZip (IsCutBy t) bs cuts → All (λ input. AreNetRails t (ws input.0) (net_at nets input.0)) gate.inputs → b gate.output.0 ≡ output_set net ws gate
-    → Built (some_bit (after_cuts bs b gate.output.0) ∷ (cover_work (slice_get net.covers gate.cover) (input_sets ws gate) ++ cuts_work bs b)) Whatever t u result
+abbrev Says : {A : Type 0} (net : RawNet) (weak : List NodeId) (cuts : List Cut) (gate : Gate) (t u : Store) (result : Result A OpFault) → List NetRails → Type 0
+Says net weak cuts gate t u result nets =
+    (bs : List SymbolicCut) (b ws : ℕ → SymbolicSet) → AllZip (IsCutBy t) bs cuts → All (λ input. AreNetRails t (ws input.0) (net_at nets input.0)) gate.inputs → b gate.output.0 ≡ placed_set weak net ws gate
+    → Built (some_bit (after_cuts bs b gate.output.0) ∷ (placed_work weak net ws gate ++ cuts_work bs b)) Whatever t u result
 
 -- the place at hand, and its gate
 record Here (net : RawNet) (order : List ℕ) (n number : ℕ) (gate : Gate) : Type 0 where
@@ -76,8 +76,8 @@ loop-place-init g c =
       follows = follows_start c.args.board.now;
       spared = c.requires.spared;
       so = λ ls ds sets long family zip have. (
-        So-start (time_work net.raw ls (asks ds) sets) s,
-        passed_to net.raw c.args.board.now.due.order.items net.in_range net.one_driver c.requires.order ls ds sets long s s c.args.demands.now.cuts c.args.board.now gs (Keeps-refl s) c.requires.long family zip c.requires.spared 0 first p.behind p.within p.unmarked have,
+        So-start (time_work net.raw ls (asks c.args.demands.now.weak ds) sets) s,
+        passed_to net.raw c.args.board.now.due.order.items net.in_range net.one_driver c.requires.order ls c.args.demands.now.weak ds sets long s s c.args.demands.now.cuts c.args.board.now gs (Keeps-refl s) c.requires.long family zip c.requires.spared 0 first p.behind p.within p.unmarked have,
       );
     }
 
@@ -89,7 +89,7 @@ renew-requires-clause-spared g c =
     let inv = c.loop-place.invariant in
     let h = here net.raw c.args.board.now.due.order.items c.loop-place.board.due.order.items c.gates-in-loop-place.result.now c.loop-place.place number c.index-gates-number.result
     c.requires.order (ap (λ (v : Vec ℕ). v.items) inv.follows.order) c.gates-in-loop-place.ensures (subst (λ (xs : List Gate). c.loop-place.place < length xs) c.gates.ensures c.loop-place-test.true) c.number_at-number.ensures c.index-gates-number.is in
-    let nodes : List NodeId = map (λ (x : Cut). x.node) c.args.demands.now.cuts in
+    let nodes : List NodeId = nodes_of c.args.demands.now.weak c.args.demands.now.cuts in
     subst (λ (x : Gate). flag_at c.loop-place.board.due.flags.items number ≡ false → IsSpared t net.raw nodes c.loop-place.board number x) (sym h.is)
     (inv.spared number c.index-gates-number.result h.known)
 
@@ -122,12 +122,12 @@ loop-place-preserved g c =
     let hg : All (λ c. IsRef t c.guard) cuts = λ i d l. IsFrom-grows s.held t.held 0 _ inv.keeps.grows (c.requires.guards i d l) in
     let hv : All (λ c. IsRef t c.value) cuts = λ i d l. IsFrom-grows s.held t.held 0 _ inv.keeps.grows (c.requires.values i d l) in
     let mine : ℕ → SymbolicSet = λ id. own_where t (net_at nets id) in
-    let mine_out : ℕ → SymbolicSet = λ id. output_set net.raw mine gate in
+    let mine_out : ℕ → SymbolicSet = λ id. placed_set c.args.demands.now.weak net.raw mine gate in
     let asked : List SymbolicCut = map (λ (x : Cut). record { node = x.node.0; guard = function t x.guard; value = function t x.value }) cuts in
     let own_call = p.built asked mine_out mine (own_demands t cuts hg hv) (own_inputs t nets gate.inputs inside inv.refs) refl in
     let own_set = p.have asked mine_out mine (own_demands t cuts hg hv) (own_inputs t nets gate.inputs inside inv.refs) refl in
     let ktu = own_call.spends.keeps in
-    let nodes : List NodeId = map (λ (x : Cut). x.node) cuts in
+    let nodes : List NodeId = nodes_of c.args.demands.now.weak cuts in
     let ksu = Keeps-trans s t u inv.keeps ktu in
     let follows : Follows c.args.board.now c.renew.new.board = follows_then c.args.board.now c.loop-place.board c.renew.new.board inv.follows p.follows in
     let spared : AreSpared u net.raw nodes c.renew.new.board = spared_follows u net.raw nodes c.loop-place.board c.renew.new.board (subst (λ (m : ℕ). length net.raw.gates ≤ m) (sym inv.follows.marks) c.requires.due) p.follows
@@ -147,14 +147,14 @@ loop-place-preserved g c =
       spared = spared;
       so = λ ls ds sets long family zip have.
           let f = inv.so ls ds sets long family zip have in
-          let b = place_turn net.raw order net.in_range net.one_driver c.requires.order ls ds sets long s t u cuts nets n number gate (Ok c.in_ok-renew.field-0) gs gt gu family zip f.0 f.1 h.within h.at h.is p.built in
-          let made : AreNetRails u (after_cuts ds (uncut net.raw ls sets) out) r = p.have ds (uncut net.raw ls sets) sets (Demands-keep s t ds cuts gs gt inv.keeps zip)
-          (ready net.raw order net.in_range net.one_driver c.requires.order ls ds sets long t nets n number gate f.1 h.within h.at h.is)
-          (before_is net.raw order net.in_range net.one_driver c.requires.order ls ds sets long number gate h.known h.is) in
+          let b = place_turn net.raw order net.in_range net.one_driver c.requires.order ls c.args.demands.now.weak ds sets long s t u cuts nets n number gate (Ok c.in_ok-renew.field-0) gs gt gu family zip f.0 f.1 h.within h.at h.is p.built in
+          let made : AreNetRails u (after_cuts ds (uncut net.raw (ids_of c.args.demands.now.weak) ls sets) out) r = p.have ds (uncut net.raw (ids_of c.args.demands.now.weak) ls sets) sets (Demands-keep s t ds cuts gs gt inv.keeps zip)
+          (ready net.raw order net.in_range net.one_driver c.requires.order ls c.args.demands.now.weak ds sets long t nets n number gate f.1 h.within h.at h.is)
+          (before_is net.raw order net.in_range net.one_driver c.requires.order ls c.args.demands.now.weak ds sets long number gate h.known h.is) in
           let more : HaveGates net.raw order sets u (n + 1) new = subst (HaveGates net.raw order sets u (n + 1)) (sym p.nets)
-          (placed net.raw order net.in_range net.one_driver c.requires.order ls ds sets long s t u nets n number gate r gt gu ksu ktu size family f.1 h.within h.at h.is made) in (
-            first (time_work net.raw ls (asks ds) sets) Whatever s u (Ok c.in_ok-renew.field-0) b,
-            passed_to net.raw order net.in_range net.one_driver c.requires.order ls ds sets long s u cuts c.renew.new.board gu ksu (follows.long ∙ c.requires.long) family (Demands-keep s u ds cuts gs gu ksu zip) spared (n + 1) next q.behind within unmarked more,
+          (placed net.raw order net.in_range net.one_driver c.requires.order ls c.args.demands.now.weak ds sets long s t u nets n number gate r gt gu ksu ktu size family f.1 h.within h.at h.is made) in (
+            first (time_work net.raw ls (asks c.args.demands.now.weak ds) sets) Whatever s u (Ok c.in_ok-renew.field-0) b,
+            passed_to net.raw order net.in_range net.one_driver c.requires.order ls c.args.demands.now.weak ds sets long s u cuts c.renew.new.board gu ksu (follows.long ∙ c.requires.long) family (Demands-keep s u ds cuts gs gu ksu zip) spared (n + 1) next q.behind within unmarked more,
           );
     }
 
@@ -177,15 +177,15 @@ returns-in_err-renew-clause-built g c = λ ls ds sets long family zip have.
     c.requires.order (ap (λ (v : Vec ℕ). v.items) inv.follows.order) c.gates-in-loop-place.ensures (subst (λ (xs : List Gate). n < length xs) c.gates.ensures c.loop-place-test.true) c.number_at-number.ensures c.index-gates-number.is in
     let fault = c.in_err-renew.field-0.0 in
     let q = inv.so ls ds sets long family zip have in
-    let work : List Function = time_work net.raw ls (asks ds) sets in
+    let work : List Function = time_work net.raw ls (asks c.args.demands.now.weak ds) sets in
     pass work Whatever Whatever s s u fault c.from_residual.result gs gu (So-start work s)
-    (place_turn net.raw order net.in_range net.one_driver c.requires.order ls ds sets long s t u cuts c.loop-place.board.nets.items n number gate (Err fault) gs gt gu family zip q.0 q.1 h.within h.at h.is c.in_err-renew.ensures.built) c.from_residual.ensures.1
+    (place_turn net.raw order net.in_range net.one_driver c.requires.order ls c.args.demands.now.weak ds sets long s t u cuts c.loop-place.board.nets.items n number gate (Err fault) gs gt gu family zip q.0 q.1 h.within h.at h.is c.in_err-renew.ensures.built) c.from_residual.ensures.1
 
 pub returns-clause-built : goal.returns-clause-built
 returns-clause-built g c = λ ls ds sets long family zip have.
     let s : Store = g.N.Nodes.store c.args.nodes.now in
     let t : Store = g.N.Nodes.store c.loop-place.nodes in
-    Built-made (time_work c.args.net.now.raw ls (asks ds) sets) Whatever s t tt (c.loop-place.invariant.so ls ds sets long family zip have).0 tt
+    Built-made (time_work c.args.net.now.raw ls (asks c.args.demands.now.weak ds) sets) Whatever s t tt (c.loop-place.invariant.so ls ds sets long family zip have).0 tt
 
 pub returns-clause-have : goal.returns-clause-have
 returns-clause-have g c = λ ls ds sets long family zip have. λ id inside none.

@@ -19,5 +19,5 @@ returns-then-eq-2 g c = λ ds sets zip h.
     let w : SymbolicSet = after_cuts ds sets id in
     let work : List Function = some_bit w ∷ cuts_work ds sets in
     Built-made work (HasNetSet w) s s c.args.given (So-start work s)
-    (subst (λ (x : SymbolicSet). AreNetRails s x c.args.given) (sym (unlisted s ds c.args.demands.now.cuts id sets zip (c.is_cut.ensures c.if-not-is_cut.true)))
+    (subst (λ (x : SymbolicSet). AreNetRails s x c.args.given) (sym (unlisted s ds c.args.demands.now.weak c.args.demands.now.cuts id sets zip (c.is_asked.ensures c.if-not-is_asked.true)))
     (net_by_rails s (sets id) c.args.given c.args.r zero one c.requires.given h))

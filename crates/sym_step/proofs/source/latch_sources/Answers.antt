@@ -13,6 +13,7 @@ use Rattle.sym_step.specs.declared.cut.Cut.{Cut}
 use Rattle.net_core.specs.Work.{uncut, time_work}
 use Rattle.sym_step.specs.declared.latches.LatchSet.{LatchSet}
 use Rattle.sym_step.specs.private.Latches.{HaveLatchSets}
+use Rattle.sym_step.specs.Step.{ids_of}
 use Rattle.sym_step.proofs.Latched.{all_latches}
 use Rattle.dual_rail.proofs.Works.{Rails-keep, own_set}
 use Rattle.std.proofs.lemmas.List.{get_or_default}
@@ -84,14 +85,14 @@ loop-latch-preserved g c =
       follows = follows_then c.args.board.now c.loop-latch.board c.put.new.self inv.follows p.follows;
       so = λ ls ds sets given family asked.
           let q = inv.so ls ds sets given family asked in
-          let work : List Function = time_work net.raw ls (asks ds) sets in
-          let before : ℕ → SymbolicSet = uncut net.raw ls sets in
+          let work : List Function = time_work net.raw ls (asks c.args.demands.now.weak ds) sets in
+          let before : ℕ → SymbolicSet = uncut net.raw (ids_of c.args.demands.now.weak) ls sets in
           let w : SymbolicSet = after_cuts ds before id in
           let held : AreRails t (before id) latch.rails = Rails-keep s t (before id) latch.rails gs gt kst (given.rails n no_set within) in
-          let covers = with_some net.raw net.settled net.in_range net.one_driver net.in_order ls ds sets given.long t.vars id (cuts_work ds before) (subst (λ v. ArePossibleEach v net.raw ls (asks ds) sets) (sym kst.vars) family) out (cuts_within net.raw ls ds sets) in
+          let covers = with_some net.raw net.settled net.in_range net.one_driver net.in_order ls c.args.demands.now.weak ds sets given.long t.vars id (cuts_work ds before) (subst (λ v. ArePossibleEach v net.raw ls (asks c.args.demands.now.weak ds) sets) (sym kst.vars) family) out (cuts_within net.raw c.args.demands.now.weak ls ds sets) in
           let good : Store → NetRails → Type 0 = HasNetSet w in
           let b : Built work good t u (Ok r) = Built-covers work (some_bit w ∷ cuts_work ds before) good t u (Ok r) covers (c.in_ok-r.ensures ds before (Demands-keep s t ds cuts gs gt kst asked) held) in
-          let right : AreNetRails u (sets id) r = set_is net.raw net.in_range net.one_driver ls ds sets given.long s u id r ksu family b.ok in
+          let right : AreNetRails u (sets id) r = set_is net.raw net.in_range net.one_driver ls c.args.demands.now.weak ds sets given.long s u id r ksu family b.ok in
           let stay : StayRight sets t nets u c.put.new.self.nets.items = subst (StayRight sets t nets u) (sym p.nets) (stay_put sets t u nets id r gt gu ktu at (λ h. right)) in
           let here : AreNetRails u (sets id) (net_at c.put.new.self.nets.items id) = subst (λ (xs : List NetRails). AreNetRails u (sets id) (net_at xs id)) (sym p.nets) (here_put sets u nets id r at right) in (
             more work good s t u (Ok r) gt gu q.0 b,
@@ -120,11 +121,11 @@ returns-in_err-r-clause-built g c = λ ls ds sets given family asked.
     let out : id < net.raw.nets = (c.requires.latches n no_set within).output in
     let fault = c.in_err-r.field-0.0 in
     let q = inv.so ls ds sets given family asked in
-    let work : List Function = time_work net.raw ls (asks ds) sets in
-    let before : ℕ → SymbolicSet = uncut net.raw ls sets in
+    let work : List Function = time_work net.raw ls (asks c.args.demands.now.weak ds) sets in
+    let before : ℕ → SymbolicSet = uncut net.raw (ids_of c.args.demands.now.weak) ls sets in
     let w : SymbolicSet = after_cuts ds before id in
     let held : AreRails t (before id) latch.rails = Rails-keep s t (before id) latch.rails gs gt kst (given.rails n no_set within) in
-    let covers = with_some net.raw net.settled net.in_range net.one_driver net.in_order ls ds sets given.long t.vars id (cuts_work ds before) (subst (λ v. ArePossibleEach v net.raw ls (asks ds) sets) (sym kst.vars) family) out (cuts_within net.raw ls ds sets) in
+    let covers = with_some net.raw net.settled net.in_range net.one_driver net.in_order ls c.args.demands.now.weak ds sets given.long t.vars id (cuts_work ds before) (subst (λ v. ArePossibleEach v net.raw ls (asks c.args.demands.now.weak ds) sets) (sym kst.vars) family) out (cuts_within net.raw c.args.demands.now.weak ls ds sets) in
     pass work (HasNetSet w) Whatever s t u fault c.from_residual.result gt gu q.0
     (Built-covers work (some_bit w ∷ cuts_work ds before) (HasNetSet w) t u (Err fault) covers (c.in_err-r.ensures ds before (Demands-keep s t ds cuts gs gt kst asked) held)) c.from_residual.ensures.1
 
@@ -132,7 +133,7 @@ pub returns-clause-built : goal.returns-clause-built
 returns-clause-built g c = λ ls ds sets given family asked.
     let s : Store = g.N.Nodes.store c.args.nodes.now in
     let t : Store = g.N.Nodes.store c.loop-latch.nodes in
-    Built-made (time_work c.args.net.now.raw ls (asks ds) sets) Whatever s t tt (c.loop-latch.invariant.so ls ds sets given family asked).0 tt
+    Built-made (time_work c.args.net.now.raw ls (asks c.args.demands.now.weak ds) sets) Whatever s t tt (c.loop-latch.invariant.so ls ds sets given family asked).0 tt
 
 pub returns-clause-have : goal.returns-clause-have
 returns-clause-have g c = λ ls ds sets given family asked.
@@ -141,7 +142,7 @@ returns-clause-have g c = λ ls ds sets given family asked.
     let q = c.loop-latch.invariant.so ls ds sets given family asked in
     let latches : List LatchSet = c.args.latches.now in
     let have : HaveLatchSets sets t latches (length latches) c.loop-latch.board.nets.items = λ k d lt inside. q.1 k d (omega (arith, inside, c.loop-latch-test.false)) inside in
-    (all_latches c.args.net.now.raw s t ls sets latches c.args.board.now.nets.items c.loop-latch.board.nets.items given have q.2, q.2)
+    (all_latches c.args.net.now.raw s t c.args.demands.now.weak ls sets latches c.args.board.now.nets.items c.loop-latch.board.nets.items given have q.2, q.2)
 
 pub loop-latch-init : goal.loop-latch-init
 loop-latch-init g c =
@@ -151,5 +152,5 @@ loop-latch-init g c =
       keeps = Keeps-refl s;
       refs = c.requires.refs;
       follows = follows_start c.args.board.now;
-      so = λ ls ds sets given family asked. (So-start (time_work net.raw ls (asks ds) sets) s, λ k d lt inside. absurd (omega (arith, lt)), stay_start sets s c.args.board.now.nets.items);
+      so = λ ls ds sets given family asked. (So-start (time_work net.raw ls (asks c.args.demands.now.weak ds) sets) s, λ k d lt inside. absurd (omega (arith, lt)), stay_start sets s c.args.board.now.nets.items);
     }

@@ -17,6 +17,7 @@ use Rattle.sym_step.specs.declared.cut.Cut.{Cut}
 use Rattle.net_core.specs.Work.{uncut, time_work}
 use Rattle.std.proofs.lemmas.List.{get_or_default}
 use Rattle.std.proofs.Common.{◌≡◌, get_or}
+use Rattle.sym_step.specs.Step.{ids_of}
 use Rattle.sym_step.proofs.Cutting.{Demands-keep}
 use Rattle.sym_step.proofs.Reading.{follows_start, follows_then}
 use Rattle.sym_step.proofs.Opened.{here_put, open_next, set_is, set_was, stay_put, stay_start, stay_then}
@@ -67,15 +68,15 @@ loop-node-preserved g c =
       follows = follows_then c.args.board.now c.loop-node.board c.put.new.self inv.follows p.follows;
       so = λ ls ds sets long family asked.
           let q = inv.so ls ds sets long family asked in
-          let work : List Function = time_work net.raw ls (asks ds) sets in
-          let before : ℕ → SymbolicSet = uncut net.raw ls sets in
+          let work : List Function = time_work net.raw ls (asks c.args.demands.now.weak ds) sets in
+          let before : ℕ → SymbolicSet = uncut net.raw (ids_of c.args.demands.now.weak) ls sets in
           let w : SymbolicSet = after_cuts ds before id in
           let good : Store → NetRails → Type 0 = IsOpened net.raw w t now id in
-          let covers = with_some net.raw net.settled net.in_range net.one_driver net.in_order ls ds sets long t.vars id (cuts_work ds before) (subst (λ v. ArePossibleEach v net.raw ls (asks ds) sets) (sym kst.vars) family) out (cuts_within net.raw ls ds sets) in
+          let covers = with_some net.raw net.settled net.in_range net.one_driver net.in_order ls c.args.demands.now.weak ds sets long t.vars id (cuts_work ds before) (subst (λ v. ArePossibleEach v net.raw ls (asks c.args.demands.now.weak ds) sets) (sym kst.vars) family) out (cuts_within net.raw c.args.demands.now.weak ls ds sets) in
           let b : Built work good t u (Ok r) = Built-covers work (some_bit w ∷ cuts_work ds before) good t u (Ok r) covers (c.in_ok-r.ensures ls ds sets (Demands-keep s t ds cuts gs gt kst asked)) in
-          let right : (IsOpen net.raw id ⊎ AreNetRails t w now) → AreNetRails u (sets id) r = λ h. set_is net.raw net.in_range net.one_driver ls ds sets long s u id r ksu family (b.ok.1 h) in
+          let right : (IsOpen net.raw id ⊎ AreNetRails t w now) → AreNetRails u (sets id) r = λ h. set_is net.raw net.in_range net.one_driver ls c.args.demands.now.weak ds sets long s u id r ksu family (b.ok.1 h) in
           let stay : StayRight sets t nets u c.put.new.self.nets.items = subst (StayRight sets t nets u) (sym p.nets)
-          (stay_put sets t u nets id r gt gu ktu at (λ h. right (inr (subst (AreNetRails t w) same_now (set_was net.raw net.in_range net.one_driver ls ds sets long s t id (net_at nets id) kst family h))))) in
+          (stay_put sets t u nets id r gt gu ktu at (λ h. right (inr (subst (AreNetRails t w) same_now (set_was net.raw net.in_range net.one_driver ls c.args.demands.now.weak ds sets long s t id (net_at nets id) kst family h))))) in
           let here : IsOpen net.raw id → AreNetRails u (sets id) (net_at c.put.new.self.nets.items id) = λ open_. subst (λ (xs : List NetRails). AreNetRails u (sets id) (net_at xs id)) (sym p.nets) (here_put sets u nets id r at (right (inl open_))) in (
             more work good s t u (Ok r) gt gu q.0 b,
             open_next net.raw sets t u ids nets c.put.new.self.nets.items n node is q.1 stay here,
@@ -106,11 +107,11 @@ returns-in_err-r-clause-built g c = λ ls ds sets long family asked.
     let out : id < net.raw.nets = c.requires.ids n (record { 0 = 0 }) within in
     let fault = c.in_err-r.field-0.0 in
     let q = inv.so ls ds sets long family asked in
-    let work : List Function = time_work net.raw ls (asks ds) sets in
-    let before : ℕ → SymbolicSet = uncut net.raw ls sets in
+    let work : List Function = time_work net.raw ls (asks c.args.demands.now.weak ds) sets in
+    let before : ℕ → SymbolicSet = uncut net.raw (ids_of c.args.demands.now.weak) ls sets in
     let w : SymbolicSet = after_cuts ds before id in
     let good : Store → NetRails → Type 0 = IsOpened net.raw w t now id in
-    let covers = with_some net.raw net.settled net.in_range net.one_driver net.in_order ls ds sets long t.vars id (cuts_work ds before) (subst (λ v. ArePossibleEach v net.raw ls (asks ds) sets) (sym kst.vars) family) out (cuts_within net.raw ls ds sets) in
+    let covers = with_some net.raw net.settled net.in_range net.one_driver net.in_order ls c.args.demands.now.weak ds sets long t.vars id (cuts_work ds before) (subst (λ v. ArePossibleEach v net.raw ls (asks c.args.demands.now.weak ds) sets) (sym kst.vars) family) out (cuts_within net.raw c.args.demands.now.weak ls ds sets) in
     pass work good Whatever s t u fault c.from_residual.result gt gu q.0
     (Built-covers work (some_bit w ∷ cuts_work ds before) good t u (Err fault) covers (c.in_err-r.ensures ls ds sets (Demands-keep s t ds cuts gs gt kst asked))) c.from_residual.ensures.1
 
@@ -118,7 +119,7 @@ pub returns-clause-built : goal.returns-clause-built
 returns-clause-built g c = λ ls ds sets long family asked.
     let s : Store = g.N.Nodes.store c.args.nodes.now in
     let t : Store = g.N.Nodes.store c.loop-node.nodes in
-    Built-made (time_work c.args.net.now.raw ls (asks ds) sets) Whatever s t tt (c.loop-node.invariant.so ls ds sets long family asked).0 tt
+    Built-made (time_work c.args.net.now.raw ls (asks c.args.demands.now.weak ds) sets) Whatever s t tt (c.loop-node.invariant.so ls ds sets long family asked).0 tt
 
 pub returns-clause-have : goal.returns-clause-have
 returns-clause-have g c = λ ls ds sets long family asked.
@@ -133,5 +134,5 @@ loop-node-init g c =
       keeps = Keeps-refl s;
       refs = c.requires.refs;
       follows = follows_start c.args.board.now;
-      so = λ ls ds sets long family asked. (So-start (time_work net.raw ls (asks ds) sets) s, λ k d lt inside. absurd (omega (arith, lt)), stay_start sets s c.args.board.now.nets.items);
+      so = λ ls ds sets long family asked. (So-start (time_work net.raw ls (asks c.args.demands.now.weak ds) sets) s, λ k d lt inside. absurd (omega (arith, lt)), stay_start sets s c.args.board.now.nets.items);
     }

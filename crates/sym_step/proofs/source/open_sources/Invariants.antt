@@ -17,6 +17,6 @@ invariant-loop-node g l = record {
   keeps : Keeps (g.N.Nodes.store l.fn.nodes) (g.N.Nodes.store l.nodes);
   refs : All (AreNetRefs (g.N.Nodes.store l.nodes)) l.board.nets.items;
   follows : Follows l.fn.board l.board;
-  so : (ls : List SymbolicSet) (ds : List SymbolicCut) (sets : ℕ → SymbolicSet) → length ls ≡ length l.net.raw.latches → ArePossibleEach (g.N.Nodes.store l.fn.nodes).vars l.net.raw ls (asks ds) sets → AllZip (IsCutBy (g.N.Nodes.store l.fn.nodes)) ds l.demands.cuts
-      → SoFar (time_work l.net.raw ls (asks ds) sets) (g.N.Nodes.store l.fn.nodes) (g.N.Nodes.store l.nodes) × HaveOpen l.net.raw sets (g.N.Nodes.store l.nodes) l.ids l.node-index l.board.nets.items × StayRight sets (g.N.Nodes.store l.fn.nodes) l.fn.board.nets.items (g.N.Nodes.store l.nodes) l.board.nets.items;
+  so : (ls : List SymbolicSet) (ds : List SymbolicCut) (sets : ℕ → SymbolicSet) → length ls ≡ length l.net.raw.latches → ArePossibleEach (g.N.Nodes.store l.fn.nodes).vars l.net.raw ls (asks l.demands.weak ds) sets → AllZip (IsCutBy (g.N.Nodes.store l.fn.nodes)) ds l.demands.cuts
+      → SoFar (time_work l.net.raw ls (asks l.demands.weak ds) sets) (g.N.Nodes.store l.fn.nodes) (g.N.Nodes.store l.nodes) × HaveOpen l.net.raw sets (g.N.Nodes.store l.nodes) l.ids l.node-index l.board.nets.items × StayRight sets (g.N.Nodes.store l.fn.nodes) l.fn.board.nets.items (g.N.Nodes.store l.nodes) l.board.nets.items;
 }

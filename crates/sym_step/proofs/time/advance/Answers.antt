@@ -10,7 +10,7 @@ returns-clause-keeps g c =
     let net = c.args.net.now in
     let dt = g.met.N.Nodes.diagram c.made_at.new.nodes in
     let settled = settled_by_order net.raw net.settled net.in_order in
-    let made = own_built net.raw net.in_range settled c.args.latches.now c.args.cuts.now s t dt c.requires.long c.requires.latches c.requires.cuts c.made_at.result c.made_at.ensures.built in
+    let made = own_built net.raw net.in_range settled c.args.latches.now c.args.weak.now c.args.cuts.now s t dt c.requires.long c.requires.latches c.requires.cuts c.made_at.result c.made_at.ensures.built in
     made.spends.keeps
 
 pub returns-clause-refs : goal.returns-clause-refs
@@ -20,8 +20,8 @@ returns-clause-refs g c =
     let net = c.args.net.now in
     let dt = g.met.N.Nodes.diagram c.made_at.new.nodes in
     let settled = settled_by_order net.raw net.settled net.in_order in
-    let made = own_built net.raw net.in_range settled c.args.latches.now c.args.cuts.now s t dt c.requires.long c.requires.latches c.requires.cuts c.made_at.result c.made_at.ensures.built in
-    refs_left net.raw net.in_range settled c.args.latches.now c.args.cuts.now s t dt c.requires.long c.requires.latches c.requires.cuts c.made_at.result made
+    let made = own_built net.raw net.in_range settled c.args.latches.now c.args.weak.now c.args.cuts.now s t dt c.requires.long c.requires.latches c.requires.cuts c.made_at.result c.made_at.ensures.built in
+    refs_left net.raw net.in_range settled c.args.latches.now c.args.weak.now c.args.cuts.now s t dt c.requires.long c.requires.latches c.requires.cuts c.made_at.result made
 
 pub returns-clause-possible : goal.returns-clause-possible
 returns-clause-possible g c =
@@ -30,5 +30,5 @@ returns-clause-possible g c =
     let net = c.args.net.now in
     let dt = g.met.N.Nodes.diagram c.made_at.new.nodes in
     let settled = settled_by_order net.raw net.settled net.in_order in
-    let made = own_built net.raw net.in_range settled c.args.latches.now c.args.cuts.now s t dt c.requires.long c.requires.latches c.requires.cuts c.made_at.result c.made_at.ensures.built in
-    possible_left net.raw net.in_range settled c.args.latches.now c.args.cuts.now s t dt c.requires.long c.requires.latches c.requires.cuts c.made_at.result made
+    let made = own_built net.raw net.in_range settled c.args.latches.now c.args.weak.now c.args.cuts.now s t dt c.requires.long c.requires.latches c.requires.cuts c.made_at.result c.made_at.ensures.built in
+    possible_left net.raw net.in_range settled c.args.latches.now c.args.weak.now c.args.cuts.now s t dt c.requires.long c.requires.latches c.requires.cuts c.made_at.result made

@@ -27,34 +27,34 @@ time_at-requires-clause-frame g c =
     with_first s net c.args.frame.now (Some c.from.result) c.requires.frame (λ sets some. let same : c.from.result ≡ sets = cc some in subst (AreFirst s net) same first)
 
 pub returns-in_err-contradictory-clause-built : goal.returns-in_err-contradictory-clause-built
-returns-in_err-contradictory-clause-built g c = λ ls asked sets zip zipc family.
+returns-in_err-contradictory-clause-built g c = λ ls asked sets zip zipc weak family.
     let s : Store = g.N.Nodes.store c.args.nodes.now in
     let t : Store = g.N.Nodes.store c.time_at.new.nodes in
     let net = c.args.net.now in
     let work : List Function = time_work net.raw ls asked sets in
     let told = subst (λ (xs : List Rails). AllZip (AreRails s) ls xs) (sym (c.from.ensures ∙ c.in_ok-to_vec.ensures.items_if_clones_equal (λ x y e. e))) zip in
     pass work (Good net.raw sets c.time_at.new.frame) (IsStep net.raw sets) s s t c.in_err-contradictory.field-0.0 c.from_residual-in_err-contradictory.result (g.met.N.Nodes.diagram c.args.nodes.now) (g.met.N.Nodes.diagram c.time_at.new.nodes) (So-start work s)
-    (c.in_err-contradictory.ensures.built ls asked sets told zipc family) c.from_residual-in_err-contradictory.ensures.1
+    (c.in_err-contradictory.ensures.built ls asked sets told zipc weak family) c.from_residual-in_err-contradictory.ensures.1
 
 pub returns-in_err-made-clause-built : goal.returns-in_err-made-clause-built
-returns-in_err-made-clause-built g c = λ ls asked sets zip zipc family.
+returns-in_err-made-clause-built g c = λ ls asked sets zip zipc weak family.
     let s : Store = g.N.Nodes.store c.args.nodes.now in
     let t : Store = g.N.Nodes.store c.time_at.new.nodes in
     let net = c.args.net.now in
     let work : List Function = time_work net.raw ls asked sets in
     let told = subst (λ (xs : List Rails). AllZip (AreRails s) ls xs) (sym (c.from.ensures ∙ c.in_ok-to_vec.ensures.items_if_clones_equal (λ x y e. e))) zip in
-    let so1 = first work (Good net.raw sets c.time_at.new.frame) s t (Ok c.in_ok-contradictory.contradictory) (c.in_ok-contradictory.ensures.built ls asked sets told zipc family) in
+    let so1 = first work (Good net.raw sets c.time_at.new.frame) s t (Ok c.in_ok-contradictory.contradictory) (c.in_ok-contradictory.ensures.built ls asked sets told zipc weak family) in
     lost work (IsStep net.raw sets) s t c.from_residual-in_err-made.result so1 c.from_residual-in_err-made.ensures.1
 
 pub returns-clause-built : goal.returns-clause-built
-returns-clause-built g c = λ ls asked sets zip zipc family.
+returns-clause-built g c = λ ls asked sets zip zipc weak family.
     let s : Store = g.N.Nodes.store c.args.nodes.now in
     let t : Store = g.N.Nodes.store c.time_at.new.nodes in
     let net = c.args.net.now in
     let frame : Frame = c.time_at.new.frame in
     let work : List Function = time_work net.raw ls asked sets in
     let told = subst (λ (xs : List Rails). AllZip (AreRails s) ls xs) (sym (c.from.ensures ∙ c.in_ok-to_vec.ensures.items_if_clones_equal (λ x y e. e))) zip in
-    let b = c.in_ok-contradictory.ensures.built ls asked sets told zipc family in
+    let b = c.in_ok-contradictory.ensures.built ls asked sets told zipc weak family in
     let so1 = first work (Good net.raw sets frame) s t (Ok c.in_ok-contradictory.contradictory) b in
     let made : Step = c.in_ok-made.made in
     let q = c.in_ok-made.ensures in

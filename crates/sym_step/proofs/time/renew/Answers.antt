@@ -23,7 +23,7 @@ returns-clause-keeps g c =
     let latches : List Rails = next_of net.raw c.args.frame.now in
     let held : AreFirst s net.raw latches = next_first s net.raw c.args.frame.now net.in_range c.requires.frame in
     let settled = settled_by_order net.raw net.settled net.in_order in
-    let made = own_call net.raw net.in_range settled latches c.args.cuts.now s t (g.met.N.Nodes.diagram c.time_at.new.nodes) held.long held.refs c.requires.cuts (Good net.raw c.time_at.new.frame) c.time_at.result c.time_at.ensures.built in
+    let made = own_call net.raw net.in_range settled latches c.args.weak.now c.args.cuts.now s t (g.met.N.Nodes.diagram c.time_at.new.nodes) held.long held.refs c.requires.cuts (Good net.raw c.time_at.new.frame) c.time_at.result c.time_at.ensures.built in
     made.spends.keeps
 
 pub returns-clause-ref_of : goal.returns-clause-ref_of
@@ -34,5 +34,5 @@ returns-clause-ref_of g c =
     let latches : List Rails = next_of net.raw c.args.frame.now in
     let held : AreFirst s net.raw latches = next_first s net.raw c.args.frame.now net.in_range c.requires.frame in
     let settled = settled_by_order net.raw net.settled net.in_order in
-    let made = own_call net.raw net.in_range settled latches c.args.cuts.now s t (g.met.N.Nodes.diagram c.time_at.new.nodes) held.long held.refs c.requires.cuts (Good net.raw c.time_at.new.frame) c.time_at.result c.time_at.ensures.built in
-    empty_ref net.raw (exist net.raw net.in_range settled latches c.args.cuts.now s t (g.met.N.Nodes.diagram c.time_at.new.nodes) held.long held.refs c.requires.cuts).0 c.time_at.new.frame _ s t c.time_at.result made
+    let made = own_call net.raw net.in_range settled latches c.args.weak.now c.args.cuts.now s t (g.met.N.Nodes.diagram c.time_at.new.nodes) held.long held.refs c.requires.cuts (Good net.raw c.time_at.new.frame) c.time_at.result c.time_at.ensures.built in
+    empty_ref net.raw (exist net.raw net.in_range settled latches c.args.weak.now c.args.cuts.now s t (g.met.N.Nodes.diagram c.time_at.new.nodes) held.long held.refs c.requires.cuts).0 c.time_at.new.frame _ s t c.time_at.result made

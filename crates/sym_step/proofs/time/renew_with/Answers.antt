@@ -1,5 +1,5 @@
 use Rattle.std.specs.Global.{Vec}
-use Rattle.std.proofs.Common.{◌≡◌, ◌+◌, ◌<◌, ℕ, List, arith, All, ap, drop, get_or, length, sym, ◌∙◌, subst, Ok}
+use Rattle.std.proofs.Common.{◌≡◌, ◌+◌, ◌<◌, ℕ, List, arith, All, ap, drop, get_or, length, refl, sym, ◌∙◌, subst, Ok}
 use Rattle.std.proofs.lemmas.List.{length-map}
 use Rattle.std.proofs.lemmas.Bool.{false≢true}
 use Rattle.dd_nodes.specs.declared.node.Ref.{Ref}
@@ -34,7 +34,7 @@ begin_time-requires-clause-frame g c = (g.N.Nodes.store c.args.nodes.now, c.requ
 pub set_nets-requires-clause-latches : goal.set_nets-requires-clause-latches
 set_nets-requires-clause-latches g c =
     let s : Store = g.N.Nodes.store c.args.nodes.now in
-    subst (All (IsLatchSet s c.args.net.now.raw)) (sym c.deref-5.ensures.value) (c.in_ok-latches.ensures.held s c.requires.frame)
+    subst (All (IsLatchSet s c.args.net.now.raw)) (sym c.deref-6.ensures.value) (c.in_ok-latches.ensures.held s (g.met.N.Nodes.diagram c.args.nodes.now) c.requires.frame)
 
 pub set_nets-requires-clause-spared : goal.set_nets-requires-clause-spared
 set_nets-requires-clause-spared g c = (c.in_ok-latches.ensures.begins (g.N.Nodes.store c.args.nodes.now) c.requires.frame).spared
@@ -57,50 +57,50 @@ set_nets-requires-clause-order g c = (c.in_ok-latches.ensures.begins (g.N.Nodes.
 
 pub set_nets-requires-clause-before : goal.set_nets-requires-clause-before
 set_nets-requires-clause-before g c =
-    subst (All (λ (node : NodeId). node.0 < c.args.net.now.raw.nets)) (sym c.deref-6.ensures.value) (c.in_ok-latches.ensures.begins (g.N.Nodes.store c.args.nodes.now) c.requires.frame).inside
+    subst (All (λ (node : NodeId). node.0 < c.args.net.now.raw.nets)) (sym c.deref-7.ensures.value) (c.in_ok-latches.ensures.begins (g.N.Nodes.store c.args.nodes.now) c.requires.frame).inside
 
 pub set_nets-requires-clause-undriven : goal.set_nets-requires-clause-undriven
 set_nets-requires-clause-undriven g c =
     let s : Store = g.N.Nodes.store c.args.nodes.now in
-    subst (λ (xs : List NodeId). AreOpen s c.args.net.now.raw xs c.begin_time.new.frame.board.nets.items) (sym c.deref-6.ensures.value) (c.in_ok-latches.ensures.begins s c.requires.frame).undriven
+    subst (λ (xs : List NodeId). AreOpen s c.args.net.now.raw xs c.begin_time.new.frame.board.nets.items) (sym c.deref-7.ensures.value) (c.in_ok-latches.ensures.begins s c.requires.frame).undriven
 
 pub returns-in_err-asked-clause-built : goal.returns-in_err-asked-clause-built
-returns-in_err-asked-clause-built g c = λ ls asked sets zip zipc family.
+returns-in_err-asked-clause-built g c = λ ls asked sets zip zipc weak family.
     let s : Store = g.N.Nodes.store c.args.nodes.now in
     let work : List Function = time_work c.args.net.now.raw ls asked sets in
     lost work Whatever s s c.from_residual-in_err-asked.result (So-start work s) c.from_residual-in_err-asked.ensures.1
 
 pub returns-in_err-latches-clause-built : goal.returns-in_err-latches-clause-built
-returns-in_err-latches-clause-built g c = λ ls asked sets zip zipc family.
+returns-in_err-latches-clause-built g c = λ ls asked sets zip zipc weak family.
     let s : Store = g.N.Nodes.store c.args.nodes.now in
     let work : List Function = time_work c.args.net.now.raw ls asked sets in
     lost work Whatever s s c.from_residual-in_err-latches.result (So-start work s) c.from_residual-in_err-latches.ensures.1
 
 pub returns-in_err-set_nets-clause-built : goal.returns-in_err-set_nets-clause-built
-returns-in_err-set_nets-clause-built g c = λ ls asked sets zip zipc family.
+returns-in_err-set_nets-clause-built g c = λ ls asked sets zip zipc weak family.
     let s : Store = g.N.Nodes.store c.args.nodes.now in
     let t : Store = g.N.Nodes.store c.set_nets.new.nodes in
     let work : List Function = time_work c.args.net.now.raw ls asked sets in
-    let given = subst (λ (xs : List LatchSet). AreGiven s c.args.net.now.raw ls sets xs c.begin_time.new.frame.board.nets.items) (sym c.deref-5.ensures.value)
-    (c.in_ok-latches.ensures.given s ls asked sets c.requires.frame zip zipc family) in
+    let given = subst (λ (xs : List LatchSet). AreGiven s c.args.net.now.raw c.args.weak.now ls sets xs c.begin_time.new.frame.board.nets.items) (sym c.deref-6.ensures.value)
+    (c.in_ok-latches.ensures.given s ls asked sets (g.met.N.Nodes.diagram c.args.nodes.now) c.requires.frame zip zipc weak family) in
     pass work Whatever Whatever s s t c.in_err-set_nets.field-0.0 c.from_residual-in_err-set_nets.result (g.met.N.Nodes.diagram c.args.nodes.now) (g.met.N.Nodes.diagram c.set_nets.new.nodes) (So-start work s)
-    (c.in_err-set_nets.ensures.built ls asked sets given zipc family) c.from_residual-in_err-set_nets.ensures.1
+    (c.in_err-set_nets.ensures.built ls asked sets given zipc weak family) c.from_residual-in_err-set_nets.ensures.1
 
 pub returns-clause-built : goal.returns-clause-built
-returns-clause-built g c = λ ls asked sets zip zipc family.
+returns-clause-built g c = λ ls asked sets zip zipc weak family.
     let s : Store = g.N.Nodes.store c.args.nodes.now in
     let t : Store = g.N.Nodes.store c.set_nets.new.nodes in
     let work : List Function = time_work c.args.net.now.raw ls asked sets in
-    let given = subst (λ (xs : List LatchSet). AreGiven s c.args.net.now.raw ls sets xs c.begin_time.new.frame.board.nets.items) (sym c.deref-5.ensures.value)
-    (c.in_ok-latches.ensures.given s ls asked sets c.requires.frame zip zipc family) in
-    Built-made work Whatever s t tt (first work Whatever s t (Ok c.in_ok-set_nets.field-0) (c.in_ok-set_nets.ensures.built ls asked sets given zipc family)) tt
+    let given = subst (λ (xs : List LatchSet). AreGiven s c.args.net.now.raw c.args.weak.now ls sets xs c.begin_time.new.frame.board.nets.items) (sym c.deref-6.ensures.value)
+    (c.in_ok-latches.ensures.given s ls asked sets (g.met.N.Nodes.diagram c.args.nodes.now) c.requires.frame zip zipc weak family) in
+    Built-made work Whatever s t tt (first work Whatever s t (Ok c.in_ok-set_nets.field-0) (c.in_ok-set_nets.ensures.built ls asked sets given zipc weak family)) tt
 
 pub returns-clause-have : goal.returns-clause-have
-returns-clause-have g c = λ ls asked sets zip zipc family.
+returns-clause-have g c = λ ls asked sets zip zipc weak family.
     let s : Store = g.N.Nodes.store c.args.nodes.now in
-    let given = subst (λ (xs : List LatchSet). AreGiven s c.args.net.now.raw ls sets xs c.begin_time.new.frame.board.nets.items) (sym c.deref-5.ensures.value)
-    (c.in_ok-latches.ensures.given s ls asked sets c.requires.frame zip zipc family) in
-    c.in_ok-set_nets.ensures.have ls asked sets given zipc family
+    let given = subst (λ (xs : List LatchSet). AreGiven s c.args.net.now.raw c.args.weak.now ls sets xs c.begin_time.new.frame.board.nets.items) (sym c.deref-6.ensures.value)
+    (c.in_ok-latches.ensures.given s ls asked sets (g.met.N.Nodes.diagram c.args.nodes.now) c.requires.frame zip zipc weak family) in
+    c.in_ok-set_nets.ensures.have ls asked sets given zipc weak family
 
 pub returns-clause-first : goal.returns-clause-first
 returns-clause-first g c = c.in_ok-latches.ensures.first
@@ -119,16 +119,16 @@ returns-clause-frame g c =
     let cuts = c.args.cuts.now in
     let settled = settled_by_order net.raw net.settled net.in_order in
     let q = c.in_ok-set_nets.ensures in
-    let ls : List SymbolicSet = whole.ls net.raw net.in_range settled latches cuts s u du told.long told.refs c.requires.cuts in
-    let asked : SymbolicAsked = whole.asked net.raw net.in_range settled latches cuts s u du told.long told.refs c.requires.cuts in
-    let exist = whole.exist net.raw net.in_range settled latches cuts s u du told.long told.refs c.requires.cuts in
+    let ls : List SymbolicSet = whole.ls net.raw net.in_range settled latches c.args.weak.now cuts s u du told.long told.refs c.requires.cuts in
+    let asked : SymbolicAsked = whole.asked net.raw net.in_range settled latches c.args.weak.now cuts s u du told.long told.refs c.requires.cuts in
+    let exist = whole.exist net.raw net.in_range settled latches c.args.weak.now cuts s u du told.long told.refs c.requires.cuts in
     let zip = own_zip s latches told.refs in
     let zipc = own_demands s cuts (λ k d l. (c.requires.cuts k d l).guard) (λ k d l. (c.requires.cuts k d l).value) in
     let ids : List NodeId = c.in_ok-asked.asked.items in
-    let given = subst (λ (xs : List LatchSet). AreGiven s net.raw ls exist.0 xs frame.board.nets.items) (sym c.deref-5.ensures.value)
-    (c.in_ok-latches.ensures.given s ls asked exist.0 c.requires.frame zip zipc exist.1) in
-    let keeps = (q.built ls asked exist.0 given zipc exist.1).spends.keeps in
-    let have : HaveNets net.raw exist.0 u nets = q.have ls asked exist.0 given zipc exist.1 in
+    let given = subst (λ (xs : List LatchSet). AreGiven s net.raw c.args.weak.now ls exist.0 xs frame.board.nets.items) (sym c.deref-6.ensures.value)
+    (c.in_ok-latches.ensures.given s ls asked exist.0 (g.met.N.Nodes.diagram c.args.nodes.now) c.requires.frame zip zipc refl exist.1) in
+    let keeps = (q.built ls asked exist.0 given zipc refl exist.1).spends.keeps in
+    let have : HaveNets net.raw exist.0 u nets = q.have ls asked exist.0 given zipc refl exist.1 in
     let long = length-map latches (set_where s) ∙ told.long in
     let room : List Ref = c.set_nets.new.products in
     let same_room : length room ≡ length frame.products.items = q.room ∙ ap length c.deref_mut.ensures.value in
@@ -142,14 +142,14 @@ returns-clause-frame g c =
       due = c.clear_gates.ensures.long ∙ q.follows.marks ∙ p.due;
       order = subst (λ (v : Vec ℕ). IsSettledOrder net.raw v.items) (sym (c.clear_gates.ensures.order ∙ q.follows.order)) p.order;
       room = subst (λ (xs : List Ref). All (λ gate. length gate.inputs < length xs) net.raw.gates) (sym back_room) (subst (λ n. All (λ gate. length gate.inputs < n) net.raw.gates) (sym same_room) p.room);
-      inside = subst (All (λ (node : NodeId). node.0 < net.raw.nets)) (sym c.in_ok-asked.ensures) (nodes_inside net.raw.nets cuts (λ k d l. (c.requires.cuts k d l).node));
-      undriven = undriven_here net.raw net.in_range net.one_driver ls asked.cuts exist.0 long s u cuts ids nets keeps exist.1 zipc c.in_ok-asked.ensures have;
+      inside = subst (All (λ (node : NodeId). node.0 < net.raw.nets)) (sym c.in_ok-asked.ensures) (nodes_inside net.raw.nets c.args.weak.now cuts c.requires.weak (λ k d l. (c.requires.cuts k d l).node));
+      undriven = undriven_here net.raw net.in_range net.one_driver ls c.args.weak.now asked.cuts exist.0 long s u cuts ids nets keeps exist.1 zipc c.in_ok-asked.ensures have;
       first = not_first u net.raw frame.first c.in_ok-latches.ensures.first;
       blank = λ none. absurd (false≢true (sym none));
       lists = λ told. subst (AreReaders net.raw) (sym q.follows.readers) (p.lists told);
       spare = p.spare;
       kept = λ k d lt none uncut.
-          given_here net.raw net.settled net.in_range net.one_driver net.in_order ls asked.cuts exist.0 long s u cuts nets keeps exist.1 zipc have k d lt
+          given_here net.raw net.settled net.in_range net.one_driver net.in_order ls c.args.weak.now asked.cuts exist.0 long s u cuts nets keeps exist.1 zipc have k d lt
           (sym (ap (λ (ids : List NodeId). is_listed ids (get_or net.raw.gates k d).output.0) c.in_ok-asked.ensures) ∙ uncut);
       carried = λ k d lt none uncut. (carried k d lt (sym (c.clear_gates.ensures.rest (length net.raw.gates + k) (omega (arith, count))) ∙ none)).same;
     }

@@ -26,20 +26,20 @@ abbrev Good : RawNet → (ℕ → SymbolicSet) → Frame → Store → Ref → T
 Good net sets frame t r = IsStep net sets t (step_of net frame r)
 
 pub returns-in_err-renew_frame-clause-built : goal.returns-in_err-renew_frame-clause-built
-returns-in_err-renew_frame-clause-built g c = λ ls asked sets zip zipc family.
+returns-in_err-renew_frame-clause-built g c = λ ls asked sets zip zipc weak family.
     let s : Store = g.N.Nodes.store c.args.nodes.now in
     let t : Store = g.N.Nodes.store c.renew_frame.new.nodes in
     let gs = g.met.N.Nodes.diagram c.args.nodes.now in
     let gt = g.met.N.Nodes.diagram c.renew_frame.new.nodes in
     let net = c.args.net.now in
     let work : List Function = time_work net.raw ls asked sets in
-    pass work Whatever (Good net.raw sets c.renew_frame.new.frame) s s t c.in_err-renew_frame.field-0.0 c.from_residual.result gs gt (So-start work s) (c.in_err-renew_frame.ensures.built ls asked sets zip zipc family) c.from_residual.ensures.1
+    pass work Whatever (Good net.raw sets c.renew_frame.new.frame) s s t c.in_err-renew_frame.field-0.0 c.from_residual.result gs gt (So-start work s) (c.in_err-renew_frame.ensures.built ls asked sets zip zipc weak family) c.from_residual.ensures.1
 
 pub knows_full-frame-requires : goal.knows_full-frame-requires
 knows_full-frame-requires g c = subst (λ (xs : List NetRails). IsTrue c.renew_frame.new.frame.board.full → AreFull xs) (sym c.deref.ensures.value) c.in_ok-renew_frame.ensures.frame.full
 
 pub returns-then-frame-clause-built : goal.returns-then-frame-clause-built
-returns-then-frame-clause-built g c = λ ls asked sets zip zipc family.
+returns-then-frame-clause-built g c = λ ls asked sets zip zipc weak family.
     let s : Store = g.N.Nodes.store c.args.nodes.now in
     let t : Store = g.N.Nodes.store c.renew_frame.new.nodes in
     let gt = g.met.N.Nodes.diagram c.renew_frame.new.nodes in
@@ -48,8 +48,8 @@ returns-then-frame-clause-built g c = λ ls asked sets zip zipc family.
     let nets : List NetRails = frame.board.nets.items in
     let work : List Function = time_work net.raw ls asked sets in
     let p = c.in_ok-renew_frame.ensures in
-    let have : HaveNets net.raw sets t nets = p.have ls asked sets zip zipc family in
-    let so1 = first work Whatever s t (Ok c.in_ok-renew_frame.field-0) (p.built ls asked sets zip zipc family) in
+    let have : HaveNets net.raw sets t nets = p.have ls asked sets zip zipc weak family in
+    let so1 = first work Whatever s t (Ok c.in_ok-renew_frame.field-0) (p.built ls asked sets zip zipc weak family) in
     let all : List SymbolicSet = first_sets sets net.raw.nets in
     let full : AreFull nets = subst AreFull c.deref.ensures.value (c.knows_full-frame.ensures c.if-frame.true) in
     let zero : Ref = record { 0 = 0 } in
@@ -63,7 +63,7 @@ returns-then-frame-clause-frame g c =
     with_full t c.args.net.now.raw c.renew_frame.new.frame c.knows_full-frame.result c.in_ok-renew_frame.ensures.frame (λ told. subst AreFull c.deref.ensures.value (c.knows_full-frame.ensures told))
 
 pub returns-in_err-contradictory-clause-built : goal.returns-in_err-contradictory-clause-built
-returns-in_err-contradictory-clause-built g c = λ ls asked sets zip zipc family.
+returns-in_err-contradictory-clause-built g c = λ ls asked sets zip zipc weak family.
     let s : Store = g.N.Nodes.store c.args.nodes.now in
     let t : Store = g.N.Nodes.store c.renew_frame.new.nodes in
     let gs = g.met.N.Nodes.diagram c.args.nodes.now in
@@ -72,8 +72,8 @@ returns-in_err-contradictory-clause-built g c = λ ls asked sets zip zipc family
     let work : List Function = time_work net.raw ls asked sets in
     let nets : List NetRails = c.renew_frame.new.frame.board.nets.items in
     let p = c.in_ok-renew_frame.ensures in
-    let have : HaveNets net.raw sets t nets = p.have ls asked sets zip zipc family in
-    let so1 = first work Whatever s t (Ok c.in_ok-renew_frame.field-0) (p.built ls asked sets zip zipc family) in
+    let have : HaveNets net.raw sets t nets = p.have ls asked sets zip zipc weak family in
+    let so1 = first work Whatever s t (Ok c.in_ok-renew_frame.field-0) (p.built ls asked sets zip zipc weak family) in
     let u : Store = g.N.Nodes.store c.some_empty.new.nodes in
     let gu = g.met.N.Nodes.diagram c.some_empty.new.nodes in
     let all : List SymbolicSet = first_sets sets net.raw.nets in
@@ -82,10 +82,10 @@ returns-in_err-contradictory-clause-built g c = λ ls asked sets zip zipc family
     let zipn : AllZip (AreNetRails t) all c.as_slice.result.now = subst (λ (xs : List NetRails). AllZip (AreNetRails t) all xs) (sym c.as_slice.ensures.value) (sets_zip net.raw sets t nets p.frame.long have) in
     let fault = c.in_err-contradictory.field-0.0 in
     pass work (HasFunction empty) (Good net.raw sets c.renew_frame.new.frame) s t u fault c.from_residual-in_err-contradictory.result gt gu so1
-    (Built-wider work part (HasFunction empty) t u (Err fault) (empties_within net.raw ls asked.cuts sets) (c.in_err-contradictory.ensures all zipn)) c.from_residual-in_err-contradictory.ensures.1
+    (Built-wider work part (HasFunction empty) t u (Err fault) (empties_within net.raw asked.weak ls asked.cuts sets) (c.in_err-contradictory.ensures all zipn)) c.from_residual-in_err-contradictory.ensures.1
 
 pub returns-clause-built : goal.returns-clause-built
-returns-clause-built g c = λ ls asked sets zip zipc family.
+returns-clause-built g c = λ ls asked sets zip zipc weak family.
     let s : Store = g.N.Nodes.store c.args.nodes.now in
     let t : Store = g.N.Nodes.store c.renew_frame.new.nodes in
     let gs = g.met.N.Nodes.diagram c.args.nodes.now in
@@ -94,8 +94,8 @@ returns-clause-built g c = λ ls asked sets zip zipc family.
     let work : List Function = time_work net.raw ls asked sets in
     let nets : List NetRails = c.renew_frame.new.frame.board.nets.items in
     let p = c.in_ok-renew_frame.ensures in
-    let have : HaveNets net.raw sets t nets = p.have ls asked sets zip zipc family in
-    let so1 = first work Whatever s t (Ok c.in_ok-renew_frame.field-0) (p.built ls asked sets zip zipc family) in
+    let have : HaveNets net.raw sets t nets = p.have ls asked sets zip zipc weak family in
+    let so1 = first work Whatever s t (Ok c.in_ok-renew_frame.field-0) (p.built ls asked sets zip zipc weak family) in
     let u : Store = g.N.Nodes.store c.some_empty.new.nodes in
     let gu = g.met.N.Nodes.diagram c.some_empty.new.nodes in
     let all : List SymbolicSet = first_sets sets net.raw.nets in
@@ -103,7 +103,7 @@ returns-clause-built g c = λ ls asked sets zip zipc family.
     let empty : Function = sum (map no_bit all) in
     let zipn : AllZip (AreNetRails t) all c.as_slice.result.now = subst (λ (xs : List NetRails). AllZip (AreNetRails t) all xs) (sym c.as_slice.ensures.value) (sets_zip net.raw sets t nets p.frame.long have) in
     let con = c.in_ok-contradictory.contradictory in
-    let e : Built work (HasFunction empty) t u (Ok con) = Built-wider work part (HasFunction empty) t u (Ok con) (empties_within net.raw ls asked.cuts sets) (c.in_ok-contradictory.ensures all zipn) in
+    let e : Built work (HasFunction empty) t u (Ok con) = Built-wider work part (HasFunction empty) t u (Ok con) (empties_within net.raw asked.weak ls asked.cuts sets) (c.in_ok-contradictory.ensures all zipn) in
     let so2 = more work (HasFunction empty) s t u (Ok con) gt gu so1 e in
     let after : HaveNets net.raw sets u nets = λ id lt. Net-keeps t u (sets id) _ gt gu e.spends.keeps (have id lt) in
     let none = p.first in

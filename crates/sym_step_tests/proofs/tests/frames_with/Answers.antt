@@ -51,3 +51,9 @@ loop-time-init g c =
       cuts = c.requires.cuts;
       frame = c.in_ok-frame.ensures s (g.met.N.Nodes.diagram c.args.nodes.now);
     }
+
+pub advance_of-requires-clause-weak : goal.advance_of-requires-clause-weak
+advance_of-requires-clause-weak g c = c.weak_at-free.ensures c.args.net.now.raw.nets c.requires.weak
+
+pub step_of-requires-clause-weak : goal.step_of-requires-clause-weak
+step_of-requires-clause-weak g c = c.weak_at-free.ensures c.args.net.now.raw.nets c.requires.weak

@@ -29,3 +29,6 @@ loop-time-preserved g c =
       cuts = subst (λ (v : Store). All (IsCutOf v net) cuts) same (cuts_keep s t net cuts p.keeps c.loop-time.invariant.cuts);
       frame = subst (λ (v : Store). IsFrame v net c.renewed.new.frame) same p.frame;
     }
+
+pub renewed-requires-clause-weak : goal.renewed-requires-clause-weak
+renewed-requires-clause-weak g c = c.weak_at.ensures c.args.net.now.raw.nets c.requires.weak
