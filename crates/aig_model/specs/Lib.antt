@@ -1,0 +1,11 @@
+pub mod Literals
+pub mod Sound
+pub mod Names
+pub mod Netlist
+pub mod Words
+pub mod Lines
+pub mod Spelled
+pub mod Faults
+pub mod Answer
+pub mod Corresponds
+pub mod ReadIsSound
