@@ -271,7 +271,7 @@ def bit(name: str) -> Bool:
 
 
 def bits(name: str, width: int) -> Vector:
-    """A vector of variables: `bits("p", 2)` is p1 p0, with p0 as its bit 0. The width is from 1 to 1,000."""
+    """A vector of variables: `bits("p", 2)` is p1 p0, with p0 as its bit 0. The width is from 1 to 4,000."""
     if not 1 <= width <= MOST_VARIABLES:
         raise TaskError(f"{name!r} of {counted(width, 'bit')}: from 1 to {MOST_VARIABLES}")
     return Vector(_variable(f"{name}{i}", Member(name, i, width)) for i in range(width))

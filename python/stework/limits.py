@@ -1,8 +1,8 @@
 """The program's limits, each once. What is beyond one of them is reported in Python, before anything is run."""
 
-MOST_VARIABLES = 1_000                 # of a task file
+MOST_VARIABLES = 4_000                 # of a task file
 MOST_NESTING = 100                     # `!` and brackets within one another, of an expression
-MOST_TIME = 10_000                     # the time step at which an assertion ends
+MOST_TIME = 100_000                    # the time step at which an assertion ends
 MOST_VERTICES = 1_000                  # of a graph
 MOST_EDGES = 10_000                    # of a graph
 MOST_TASKS = 256                       # of a task file

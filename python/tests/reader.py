@@ -118,7 +118,7 @@ def _clause(words: List[str], variables: Sequence[str], is_timed: bool) -> Claus
     if is_timed:
         *rest, word_from, first, word_to, last = rest
         times = (int(first), int(last))
-        if (word_from, word_to) != ("from", "to") or not times[0] <= times[1] <= 10_000:
+        if (word_from, word_to) != ("from", "to") or not times[0] <= times[1] <= 100_000:
             raise Unreadable(" ".join(words))
     at = rest.index("when") if "when" in rest else len(rest)
     guard = rest[at + 1:] if at < len(rest) else ["1"]
@@ -161,7 +161,7 @@ def read(text: str) -> File:
         except (ValueError, IndexError, Unreadable) as e:
             raise Unreadable(f"{number}: {line}: {e}")
     names = [task.name for task in tasks]
-    for many, most in (variables, 1_000), (names, 256):
+    for many, most in (variables, 4_000), (names, 256):
         if len(many) > most or len(set(many)) < len(many):
             raise Unreadable("too many, or a double name")
     return File(variables, tasks)

@@ -52,11 +52,11 @@ WRONG: Tuple[Tuple[Callable[[Tasks], Any], str], ...] = (
     (lambda t: t.gste("g", "v").edge("v", "v").con("x", p, when=q, at=range(1, 3)),
      "at=range(1, 3): in a graph the edge is the step, and a clause has no time"),
     (lambda t: t.ste("a").con("x", 1, at=0, when=i), "<2 bits i1, i0> is no bit: compare it, or take one bit of it"),
-    (lambda t: t.ste("a").con("x", 1, at=range(2, 2)), "at=range(2, 2): a time step, or a range of at least one, from 0 to 10000, with step 1"),
-    (lambda t: t.ste("a").con("x", 1, at=range(0, 4, 2)), "at=range(0, 4, 2): a time step, or a range of at least one, from 0 to 10000, with step 1"),
-    (lambda t: t.ste("a").con("x", 1, at=10_000), "at=10000: a time step, or a range of at least one, from 0 to 10000, with step 1"),
-    (lambda t: t.ste("a").con("x", 1, at=-1), "at=-1: a time step, or a range of at least one, from 0 to 10000, with step 1"),
-    (lambda t: t.ste("a").con("x", 1, at="0"), "at='0': a time step, or a range of at least one, from 0 to 10000, with step 1"),
+    (lambda t: t.ste("a").con("x", 1, at=range(2, 2)), "at=range(2, 2): a time step, or a range of at least one, from 0 to 100000, with step 1"),
+    (lambda t: t.ste("a").con("x", 1, at=range(0, 4, 2)), "at=range(0, 4, 2): a time step, or a range of at least one, from 0 to 100000, with step 1"),
+    (lambda t: t.ste("a").con("x", 1, at=100_000), "at=100000: a time step, or a range of at least one, from 0 to 100000, with step 1"),
+    (lambda t: t.ste("a").con("x", 1, at=-1), "at=-1: a time step, or a range of at least one, from 0 to 100000, with step 1"),
+    (lambda t: t.ste("a").con("x", 1, at="0"), "at='0': a time step, or a range of at least one, from 0 to 100000, with step 1"),
     (lambda t: t.ste("a").con("x", deep(101), at=0), "<expression of 556 characters> is too deep: 101 levels of ! and brackets, of at most 100"),
     (lambda t: t.ste("a").con("x", 1, at=0, when=deep(102)), "<expression of 566 characters> is too deep: 102 levels of ! and brackets, of at most 100"),
     (lambda t: Tasks(order=[p & q]), "order: <p & q> is no variable"),
@@ -75,7 +75,7 @@ WRONG: Tuple[Tuple[Callable[[Tasks], Any], str], ...] = (
      "variable 'p0' is bit 0 of 'p' with 2 bits and one by itself"),
     (lambda t: (t.ste("a").con("x", p & bits("p", 2)[0], at=0), t.text()), "'p' is a variable and a vector of 2 bits"),
     (lambda t: (t.ste("a").con("x", bits("v", 3)[0] & bits("v", 2)[1], at=0), t.text()), "'v' is a vector of 3 bits and a vector of 2 bits"),
-    (lambda t: (t.ste("a").con("x", (bits("v", 1000) == 0) & p, at=0), t.text()), "more than 1000 variables"),
+    (lambda t: (t.ste("a").con("x", (bits("v", 4000) == 0) & p, at=0), t.text()), "more than 4000 variables"),
     (lambda t: (t.ste("a").con("x", 1, at=0), check("n", t, steps=0)), "steps=0 is not a number from 1 to 16000000"),
     (lambda t: (t.ste("a").con("x", 1, at=0), check("n", t, workers=65)), "workers=65 is not a number from 1 to 64"),
     (lambda t: (t.ste("a").con("x", 1, at=0), check("n", t, cubes=65)), "cubes=65 is not a number from 1 to 64"),
@@ -90,7 +90,7 @@ class TaskFiles(Case):
         g = tasks.gste("two", "v")
         g.edge("v", "w").ant("d[0]", 1).con("x", p & q, when=~p)
         g.edge("w", "w").con("y", 1, when=0)
-        tasks.ste("three").con("mem[2][1:0]", bits("z", 2), at=9_999)
+        tasks.ste("three").con("mem[2][1:0]", bits("z", 2), at=99_999)
         tasks.gste("four", "reset", reset=True).edge("reset", "end").con("0/1/x", 0)
         return tasks
 
@@ -113,8 +113,8 @@ class TaskFiles(Case):
 .con y = 1 when 0
 .end
 .ste three
-.con mem[2][1] = z1 from 9999 to 10000
-.con mem[2][0] = z0 from 9999 to 10000
+.con mem[2][1] = z1 from 99999 to 100000
+.con mem[2][0] = z0 from 99999 to 100000
 .end
 .gste four reset reset
 .edge reset end
@@ -136,8 +136,8 @@ class TaskFiles(Case):
 
     def test_as_many_variables_as_there_may_be(self) -> None:
         tasks = Tasks()
-        tasks.ste("t").con("x", bits("v", 999) == 0, at=0, when=p)
-        self.assertEqual(len(read(tasks.text()).variables), 1000)
+        tasks.ste("t").con("x", bits("v", 3_999) == 0, at=0, when=p)
+        self.assertEqual(len(read(tasks.text()).variables), 4000)
 
     def test_files_of_some_tasks_each(self) -> None:
         whole = read(self.tasks().text())

@@ -16,10 +16,10 @@ use Rattle.aig_model.specs.declared.aig.Aig.{Aig}
 use Rattle.aig_model.specs.declared.aig.AigLatch.{AigLatch}
 use Rattle.aig_model.specs.declared.aig.AigOutput.{AigOutput}
 use Rattle.aig_model.specs.declared.aig.Symbol.{Symbol}
-use Rattle.aig_model.specs.Names.{Label, is_own, labels, labels_from, names, names_behind, output_names, own_opposite, own_output, own_outputs, own_variable, served, source_names, variable_name}
+use Rattle.aig_model.specs.Names.{Label, is_own, labels, labels_from, names, names_behind, output_names, own_opposite, own_output, own_outputs, own_variable, usable_symbol, source_names, variable_name}
 use Rattle.aig_model.specs.Sound.{sources}
 
--- what is known of a name and the name of its own: they are the same, or it is a symbol that was
+-- what is known of a name and the own name: they are the same, or it is a symbol that was
 -- not taken
 abbrev pub IsFresh : List (List ℕ) → List ℕ → List ℕ → Type 0
 IsFresh taken own name = (name ≡ own) ⊎ ((is_own name ≡ false) × (list_any (bytes_eq name) taken ≡
@@ -47,7 +47,7 @@ any_right p (x ∷ xs) ys e = step (p x) (any_right p xs ys) e
 
 -- the name of a thing is fresh
 served_fresh : (taken : List (List ℕ)) (symbol : Option (List ℕ)) (own : List ℕ) →
-    IsFresh taken own (unwrap_or (served taken symbol) own)
+    IsFresh taken own (unwrap_or (usable_symbol taken symbol) own)
 served_fresh taken None own = inl refl
 served_fresh taken (Some name) own = step (is_own name) (list_any (bytes_eq name) taken) refl refl
   where
@@ -71,8 +71,8 @@ pub all_fresh : (taken : List (List ℕ)) (labels : List Label) (at : List ℕ �
 all_fresh taken [] at h = absurd h
 all_fresh taken (label ∷ labels) at (inl e) = subst
     (λ (p : List ℕ × List ℕ). IsFresh taken p.0 p.1) e (served_fresh taken label.symbol label.own)
-all_fresh taken (label ∷ labels) at (inr h) = fresh_before taken (option_to_list (served taken
-    label.symbol)) at.0 at.1 (all_fresh (taken ++ option_to_list (served taken label.symbol)) labels
+all_fresh taken (label ∷ labels) at (inr h) = fresh_before taken (option_to_list (usable_symbol taken
+    label.symbol)) at.0 at.1 (all_fresh (taken ++ option_to_list (usable_symbol taken label.symbol)) labels
     at h)
 
 -- all names of their own begin with `$`
@@ -84,7 +84,7 @@ own_of : (taken : List (List ℕ)) (labels : List Label) (at : List ℕ × List 
     In (owned taken labels) at → is_own at.0 ≡ true
 own_of taken [] at o h = absurd h
 own_of taken (label ∷ labels) at o (inl e) = ap (λ (p : List ℕ × List ℕ). is_own p.0) (sym e) ∙ o.0
-own_of taken (label ∷ labels) at o (inr h) = own_of (taken ++ option_to_list (served taken
+own_of taken (label ∷ labels) at o (inr h) = own_of (taken ++ option_to_list (usable_symbol taken
     label.symbol)) labels at o.1 h
 
 not_among : (taken : List (List ℕ)) (name : List ℕ) →
@@ -97,7 +97,7 @@ not_among taken name e = by (bytes_eq name name) refl (any_right (bytes_eq name)
     by false i f = cc (i, (bytes_eq-Decides name name).1 refl)
 
 served_plain : (taken : List (List ℕ)) (symbol : Option (List ℕ)) (x : List ℕ) →
-    served taken symbol ≡ Some x → is_own x ≡ false
+    usable_symbol taken symbol ≡ Some x → is_own x ≡ false
 served_plain taken None x e = absurd (cc e)
 served_plain taken (Some name) x e = step (is_own name) (list_any (bytes_eq name) taken) refl e
   where
@@ -109,11 +109,11 @@ served_plain taken (Some name) x e = step (is_own name) (list_any (bytes_eq name
 
 -- the first thing, and a later one of the same name
 first_later : (taken : List (List ℕ)) (symbol : Option (List ℕ)) (own other name : List ℕ) →
-    is_own own ≡ true → is_own other ≡ true → IsFresh (taken ++ option_to_list (served taken
-    symbol)) other name → unwrap_or (served taken symbol) own ≡ name → own ≡ other
-first_later taken symbol own other name o p f e = step (served taken symbol) refl f e
+    is_own own ≡ true → is_own other ≡ true → IsFresh (taken ++ option_to_list (usable_symbol taken
+    symbol)) other name → unwrap_or (usable_symbol taken symbol) own ≡ name → own ≡ other
+first_later taken symbol own other name o p f e = step (usable_symbol taken symbol) refl f e
   where
-    step : (s : Option (List ℕ)) → served taken symbol ≡ s →
+    step : (s : Option (List ℕ)) → usable_symbol taken symbol ≡ s →
         IsFresh (taken ++ option_to_list s) other name → unwrap_or s own ≡ name → own ≡ other
     step None k (inl i) j = j ∙ i
     step None k (inr g) j = absurd (cc (o, g.0, j))
@@ -136,7 +136,7 @@ same_own taken (label ∷ labels) one other o (inr h) (inl j) e =
     (all_fresh _ labels one h) (ap (λ (p : List ℕ × List ℕ). p.1) j ∙ sym e))
     ∙ ap (λ (p : List ℕ × List ℕ). p.0) j
 same_own taken (label ∷ labels) one other o (inr h) (inr g) e = same_own (taken ++ option_to_list
-    (served taken label.symbol)) labels one other o.1 h g e
+    (usable_symbol taken label.symbol)) labels one other o.1 h g e
 
 -- the names of their own, of all that may have a symbol
 abbrev pub owns : Aig → List (List ℕ)
@@ -204,7 +204,7 @@ are_own aig = from_owns (labels aig) (λ name h. owns_own aig name (subst
 names_long : (taken : List (List ℕ)) (labels : List Label) →
     length (names_behind taken labels) ≡ length labels
 names_long taken [] = refl
-names_long taken (label ∷ labels) = ap suc (names_long (taken ++ option_to_list (served taken
+names_long taken (label ∷ labels) = ap suc (names_long (taken ++ option_to_list (usable_symbol taken
     label.symbol)) labels)
 
 pub outputs_long : (k : ℕ) (outputs : List AigOutput) →
@@ -234,7 +234,7 @@ output_own k (suc n) (out ∷ outputs) d lt = output_own (suc k) n outputs d (om
     shift : (k n : ℕ) → suc k + n ≡ k + suc n
     shift k n = omega arith
 
--- the name at a place, with the name of its own there
+-- the name at a place, with the own name there
 owned_at : (aig : Aig) (k : ℕ) → k < length (names aig) →
     In (owned [] (labels aig)) (get_or (owns aig) k [], get_or (names aig) k [])
 owned_at aig k lt =
@@ -252,7 +252,7 @@ owned_at aig k lt =
     (λ ys. (get_or ys k [], get_or (names aig) k [])) (owns_are aig)) (in_at (owned [] (labels
     aig)) k ([], []) here)
 
--- a name, where it is that of a thing with this name of its own
+-- a name, where it is that of a thing with this own name
 abbrev pub IsNamed : Aig → List ℕ → List ℕ → Type 0
 IsNamed aig own name = (is_own own ≡ true) × ((name ≡ own) ⊎ In (owned [] (labels aig)) (own, name))
 

@@ -20,7 +20,7 @@ use Rattle.aig_model.specs.Corresponds.{HasBitsOf, LiteralsCorrespond, literal_b
 use Rattle.aig_model.specs.Literals.{IsLiteralRun, StartsAsGiven, is_odd, literal_bit, variable_of}
 use Rattle.aig_model.specs.Names.{literal_name, output_names, own_opposite, variable_name}
 use Rattle.aig_model.specs.Netlist.{mentions_zero, model_of, opposites}
-use Rattle.aig_model.specs.Sound.{IsSoundAig, defined, mentioned, sources, variables}
+use Rattle.aig_model.specs.Sound.{IsSoundAig, defined_variables, mentioned_literals, sources, variables}
 use Rattle.aig_model.proofs.Bits.{and_bit, bit_with, odd_bit, opposite_bit, output_bit}
 use Rattle.aig_model.proofs.ModelLines.{IsGate, IsItem, and_gate, and_is, gate_is, inputs, is_and, is_inverter, is_latch, is_output, is_zero_gate, item_is, latch_is, latch_line, named_outputs, no_model, none_bound, opposite_gate, opposite_is, opposite_of, output_gate, output_is, outputs, zero_gate, zero_is}
 use Rattle.aig_model.proofs.ModelLines as line
@@ -54,12 +54,12 @@ is_zero v e = grind arith
 
 -- variable 0 is mentioned by a literal alone
 zero_mentioned : (aig : Aig) → IsSoundAig aig → In (variables aig) 0 → mentions_zero aig ≡ true
-zero_mentioned aig sound h = elim (append_cases (defined aig) (map variable_of (mentioned aig)) 0 h)
+zero_mentioned aig sound h = elim (append_cases (defined_variables aig) (map variable_of (mentioned_literals aig)) 0 h)
     as (λ _. mentions_zero aig ≡ true) [
-      | inl i ↦ let p : 0 < 0 = all_in (λ v. 0 < v) (defined aig) 0 sound.above i in absurd (omega
+      | inl i ↦ let p : 0 < 0 = all_in (λ v. 0 < v) (defined_variables aig) 0 sound.above i in absurd (omega
           arith)
-      | inr j ↦ let r = map_in variable_of (mentioned aig) 0 j in any_in
-          (λ literal. nat_eq (variable_of literal) 0) (mentioned aig) r.0 r.1 (rw r.2 refl)
+      | inr j ↦ let r = map_in variable_of (mentioned_literals aig) 0 j in any_in
+          (λ literal. nat_eq (variable_of literal) 0) (mentioned_literals aig) r.0 r.1 (rw r.2 refl)
     ]
 
 -- from the model's runs to literal runs
@@ -84,7 +84,7 @@ module _ (aig : Aig) (sound : IsSoundAig aig) (n : ℕ) (run : List ℕ → List
       step true e = at_zero (is_zero v e)
       step false e = refl
 
-  literal_signal : (t literal : ℕ) → t < n → In (mentioned aig) literal →
+  literal_signal : (t literal : ℕ) → t < n → In (mentioned_literals aig) literal →
       bit_with literal (run [] (variable_name aig (variable_of literal)) t) ≡ literal_bit
       (literal_bits aig run t) literal
   literal_signal t literal lt h = ap (bit_with literal) (variable_signal t (variable_of literal) lt
@@ -160,7 +160,7 @@ module _ (aig : Aig) (sound : IsSoundAig aig) (n : ℕ) (bit : ℕ → ℕ →
   named : (t v : ℕ) → In (variables aig) v → signal_run [] (variable_name aig v) t ≡ bit t v
   named t v h = variable_bit aig sound (bit t) v h
 
-  literal_named : (t literal : ℕ) → In (mentioned aig) literal →
+  literal_named : (t literal : ℕ) → In (mentioned_literals aig) literal →
       bit_with literal (signal_run [] (variable_name aig (variable_of literal)) t) ≡ literal_bit
       (bit t) literal
   literal_named t literal h = ap (bit_with literal) (named t (variable_of literal) (mentioned_in aig
@@ -198,7 +198,7 @@ module _ (aig : Aig) (sound : IsSoundAig aig) (n : ℕ) (bit : ℕ → ℕ →
 
   zero_follows : (t : ℕ) → t < n → mentions_zero aig ≡ true → Follows t (zero_gate aig)
   zero_follows t lt e =
-      let r = in_any (λ literal. nat_eq (variable_of literal) 0) (mentioned aig) e in
+      let r = in_any (λ literal. nat_eq (variable_of literal) 0) (mentioned_literals aig) e in
       let h : In (variables aig) 0 = subst (λ v. In (variables aig) v) (is_zero (variable_of r.0)
       r.2) (mentioned_in aig r.0 r.1) in
       named t 0 h ∙ is_run.zero t lt
@@ -330,7 +330,7 @@ inverter_word aig v signal h (inr (inl e)) = of_opposite v h e
 inverter_word aig v signal h (inr (inr g)) = absurd g
 
 zero_in : (aig : Aig) → mentions_zero aig ≡ true → In (variables aig) 0
-zero_in aig e = let r = in_any (λ literal. nat_eq (variable_of literal) 0) (mentioned aig) e in
+zero_in aig e = let r = in_any (λ literal. nat_eq (variable_of literal) 0) (mentioned_literals aig) e in
     subst (λ v. In (variables aig) v) (is_zero (variable_of r.0) r.2) (mentioned_in aig r.0 r.1)
 
 item_word : (aig : Aig) (item : Item) (signal : List ℕ) → IsItem aig item →

@@ -14,7 +14,7 @@ use Rattle.aig_model.specs.declared.aig.AigOutput.{AigOutput}
 use Rattle.aig_model.specs.Literals.{literal_bit, variable_of}
 use Rattle.aig_model.specs.Names.{output_names, own_opposite, variable_name}
 use Rattle.aig_model.specs.Netlist.{opposites}
-use Rattle.aig_model.specs.Sound.{IsSoundAig, and_literals, defined, mentioned, sources, variables}
+use Rattle.aig_model.specs.Sound.{IsSoundAig, and_literals, defined_variables, mentioned_literals, sources, variables}
 use Rattle.aig_model.proofs.Bits.{even_bit}
 use Rattle.aig_model.proofs.ModelLines.{named_outputs, opposite_from}
 use Rattle.aig_model.proofs.Naming.{IsNamed, Thing, named_apart, number_of, one_thing, opposite, output, output_named, own_name, variable, variable_named}
@@ -81,41 +81,41 @@ small_at : (xs : List ℕ) (v : ℕ) → All (λ x. x < 2 ^ 31) xs → In xs v �
 small_at xs v all h = let c = contains_from_in xs v h in subst (λ x. x < 2 ^ 31) c.2 (all c.0 v c.1)
 
 -- what latches, ANDs and outputs take is mentioned
-pub next_in : (aig : Aig) (l : AigLatch) → In aig.latches l → In (mentioned aig) l.next
+pub next_in : (aig : Aig) (l : AigLatch) → In aig.latches l → In (mentioned_literals aig) l.next
 next_in aig l h = in_append_left (map (λ (k : AigLatch). k.next) aig.latches) _ l.next (in_map
     (λ (k : AigLatch). k.next) aig.latches l h)
 
 pub and_in : (aig : Aig) (a : AigAnd) (literal : ℕ) → In aig.ands a → In (and_literals a) literal →
-    In (mentioned aig) literal
+    In (mentioned_literals aig) literal
 and_in aig a literal h g = in_append_right (map
     (λ (k : AigLatch). k.next) aig.latches) _ literal (in_append_left _ (map
     (λ (out : AigOutput). out.literal) aig.outputs) literal (in_flat_map and_literals aig.ands a
     literal h g))
 
-pub output_in : (aig : Aig) (out : AigOutput) → In aig.outputs out → In (mentioned aig) out.literal
+pub output_in : (aig : Aig) (out : AigOutput) → In aig.outputs out → In (mentioned_literals aig) out.literal
 output_in aig out h = in_append_right (map (λ (k : AigLatch). k.next) aig.latches) _ out.literal
     (in_append_right (flat_map and_literals aig.ands) _ out.literal (in_map
     (λ (o : AigOutput). o.literal) aig.outputs out h))
 
-pub mentioned_in : (aig : Aig) (literal : ℕ) → In (mentioned aig) literal →
+pub mentioned_in : (aig : Aig) (literal : ℕ) → In (mentioned_literals aig) literal →
     In (variables aig) (variable_of literal)
-mentioned_in aig literal h = in_append_right (defined aig) _ (variable_of literal) (in_map
-    variable_of (mentioned aig) literal h)
+mentioned_in aig literal h = in_append_right (defined_variables aig) _ (variable_of literal) (in_map
+    variable_of (mentioned_literals aig) literal h)
 
 pub opposite_in : (aig : Aig) (v : ℕ) → In (opposites aig) v → In (variables aig) v
 opposite_in aig v h = let r = opposite_from aig v h in subst
     (λ x. In (variables aig) x) r.3 (mentioned_in aig r.0.next (next_in aig r.0 r.1))
 
-pub and_defined : (aig : Aig) (a : AigAnd) → In aig.ands a → In (defined aig) a.var
+pub and_defined : (aig : Aig) (a : AigAnd) → In aig.ands a → In (defined_variables aig) a.var
 and_defined aig a h = in_append_right (sources aig) _ a.var (in_map
     (λ (x : AigAnd). x.var) aig.ands a h)
 
-pub latch_defined : (aig : Aig) (l : AigLatch) → In aig.latches l → In (defined aig) l.var
+pub latch_defined : (aig : Aig) (l : AigLatch) → In aig.latches l → In (defined_variables aig) l.var
 latch_defined aig l h = in_append_left (sources aig) _ l.var (in_append_right aig.inputs _ l.var
     (in_map (λ (x : AigLatch). x.var) aig.latches l h))
 
-pub defined_in : (aig : Aig) (v : ℕ) → In (defined aig) v → In (variables aig) v
-defined_in aig v h = in_append_left (defined aig) _ v h
+pub defined_in : (aig : Aig) (v : ℕ) → In (defined_variables aig) v → In (variables aig) v
+defined_in aig v h = in_append_left (defined_variables aig) _ v h
 
 -- an output that has a name stands at a place
 pub placed : (aig : Aig) (at : AigOutput × List ℕ) → In (named_outputs aig) at →

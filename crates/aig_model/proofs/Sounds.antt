@@ -26,10 +26,10 @@ use Rattle.aig_model.specs.declared.line.Said.{Said}
 use Rattle.aig_model.specs.declared.line.Said.TheVariants as said
 use Rattle.aig_model.specs.Answer.{entries_of, entries_with}
 use Rattle.aig_model.specs.ReadIsSound.{ReadIsSound}
-use Rattle.aig_model.specs.Faults.{defines, fault_of, fault_with, first_bad, first_faulty, first_words, is_formed, is_new, later_lines, may_stand, missing, or_else}
+use Rattle.aig_model.specs.Faults.{defines, fault_of, fault_with, first_bad, first_faulty, first_words, is_formed, is_new, later_lines, may_stand, missing_line, or_else}
 use Rattle.aig_model.specs.Lines.{and_of, count_of, head_of, header_of, header_with, init_of, input_of, is_above_zero, is_count, latch_of, latch_with, literal_to, literals_of, literals_with, output_of, said_at, symbol_of, symbol_with, tail_of}
 use Rattle.aig_model.specs.Literals.{is_odd, variable_of}
-use Rattle.aig_model.specs.Sound.{IsSoundAig, and_literals, defined, mentioned, sources, variables}
+use Rattle.aig_model.specs.Sound.{IsSoundAig, and_literals, defined_variables, mentioned_literals, sources, variables}
 use Rattle.aig_model.specs.Spelled.{aig_of, and_in, entries_from, entry_onto, input_in, latch_in, output_in}
 use Rattle.aig_model.specs.Words.{greatest, is_definable, is_number, number_to}
 use Rattle.aig_model.proofs.Sizes.{entries_fit, fewer}
@@ -316,7 +316,7 @@ module _ (most : ℕ) (entries : List Entry) (all : AllWithin most entries) wher
             (IsDefined most) r.2 (a_latch r.0 r.1).0
       ]
 
-  a_defined : (v : ℕ) → In (defined (aig_of entries)) v → IsDefined most v
+  a_defined : (v : ℕ) → In (defined_variables (aig_of entries)) v → IsDefined most v
   a_defined v h = elim (append_cases (sources (aig_of entries)) (map
       (λ (a : AigAnd). a.var) (aig_of entries).ands) v h) as (λ _. IsDefined most v) [
         | inl i ↦ a_source v i
@@ -330,7 +330,7 @@ module _ (most : ℕ) (entries : List Entry) (all : AllWithin most entries) wher
   of_and a literal h (inr (inl e)) = subst (λ x. variable_of x ≤ most) e (an_and a h).2
   of_and a literal h (inr (inr g)) = absurd g
 
-  a_mention : (literal : ℕ) → In (mentioned (aig_of entries)) literal → variable_of literal ≤ most
+  a_mention : (literal : ℕ) → In (mentioned_literals (aig_of entries)) literal → variable_of literal ≤ most
   a_mention literal h = elim (append_cases (map
       (λ (l : AigLatch). l.next) (aig_of entries).latches) _ literal h) as
       (λ _. variable_of literal ≤ most) [
@@ -347,10 +347,10 @@ module _ (most : ℕ) (entries : List Entry) (all : AllWithin most entries) wher
       ]
 
   a_variable : (v : ℕ) → In (variables (aig_of entries)) v → v ≤ most
-  a_variable v h = elim (append_cases (defined (aig_of entries)) (map variable_of (mentioned (aig_of
+  a_variable v h = elim (append_cases (defined_variables (aig_of entries)) (map variable_of (mentioned_literals (aig_of
       entries))) v h) as (λ _. v ≤ most) [
         | inl i ↦ (a_defined v i).1
-        | inr j ↦ let r = map_in variable_of (mentioned (aig_of entries)) v j in subst
+        | inr j ↦ let r = map_in variable_of (mentioned_literals (aig_of entries)) v j in subst
             (λ x. x ≤ most) r.2 (a_mention r.0 r.1)
       ]
 
@@ -417,9 +417,9 @@ not_true false e = refl
 
 -- a line in front of lines whose definitions are new
 line_new : (before : List ℕ) (line : ℕ) (s : Said) (entries : List Entry) →
-    may_stand before s ≡ true → AreNew (before ++ option_to_list (defines s)) (defined (aig_of
-    entries)) → AreNew before (defined (aig_of ((record { line = line; said = s }) ∷ entries)))
-line_new before line (said.Input var) entries e rest = new_inserted before [] (defined (aig_of
+    may_stand before s ≡ true → AreNew (before ++ option_to_list (defines s)) (defined_variables (aig_of
+    entries)) → AreNew before (defined_variables (aig_of ((record { line = line; said = s }) ∷ entries)))
+line_new before line (said.Input var) entries e rest = new_inserted before [] (defined_variables (aig_of
     entries)) var (not_true (list_any (nat_eq var) before) e) rest
 line_new before line (said.Latch var next value) entries e rest =
     let inputs = (aig_of entries).inputs in
@@ -428,27 +428,27 @@ line_new before line (said.Latch var next value) entries e rest =
     subst (AreNew before) (sym (append_assoc inputs (var ∷ latches) ands))
     (new_inserted before inputs (latches ++ ands) var (not_true (list_any (nat_eq var) before) e)
     (subst (AreNew (before ++ var ∷ [])) (append_assoc inputs latches ands) rest))
-line_new before line (said.Output literal) entries e rest = new_same before (defined (aig_of
+line_new before line (said.Output literal) entries e rest = new_same before (defined_variables (aig_of
     entries)) rest
 line_new before line (said.And var left right) entries e rest = new_inserted before (sources (aig_of
     entries)) (map (λ (a : AigAnd). a.var) (aig_of entries).ands) var (not_true (list_any (nat_eq
     var) before) e) rest
-line_new before line (said.Symbol kind symbol) entries e rest = new_same before (defined (aig_of
+line_new before line (said.Symbol kind symbol) entries e rest = new_same before (defined_variables (aig_of
     entries)) rest
-line_new before line said.End entries e rest = new_same before (defined (aig_of entries)) rest
+line_new before line said.End entries e rest = new_same before (defined_variables (aig_of entries)) rest
 line_new before line said.Wrong entries e rest = absurd (cc e)
 
 all_new : (before : List ℕ) (entries : List Entry) → first_bad before entries ≡ None →
-    AreNew before (defined (aig_of entries))
+    AreNew before (defined_variables (aig_of entries))
 all_new before [] e = (tt, λ w h. absurd h)
 all_new before (entry ∷ entries) e = step (may_stand before entry.said) refl (all_new (before ++
     option_to_list (defines entry.said)) entries) e
   where
     step : (b : Bool) → may_stand before entry.said ≡ b →
         (first_bad (before ++ option_to_list (defines entry.said)) entries ≡ None →
-        AreNew (before ++ option_to_list (defines entry.said)) (defined (aig_of entries))) →
+        AreNew (before ++ option_to_list (defines entry.said)) (defined_variables (aig_of entries))) →
         (if b then first_bad (before ++ option_to_list (defines entry.said)) entries else Some
-        entry.line) ≡ None → AreNew before (defined (aig_of (entry ∷ entries)))
+        entry.line) ≡ None → AreNew before (defined_variables (aig_of (entry ∷ entries)))
     step true f later g = line_new before entry.line entry.said entries f (later g)
     step false f later g = absurd (cc g)
 
@@ -516,9 +516,9 @@ sound_with (header.Good head) words lines h e fits =
     let within = entries_within head 0 lines in
     let most = header_small words head h in
     record {
-      once = distinct_pairs (defined (aig_of entries)) (all_new [] entries (bad_none (first_bad []
-          entries) (missing head entries) e)).0;
-      above = all_from (λ v. 0 < v) (defined (aig_of entries))
+      once = distinct_pairs (defined_variables (aig_of entries)) (all_new [] entries (bad_none (first_bad []
+          entries) (missing_line head entries) e)).0;
+      above = all_from (λ v. 0 < v) (defined_variables (aig_of entries))
           (λ v i. (a_defined head.most entries within v i).0);
       small = all_from (λ v. v < 2 ^ 31) (variables (aig_of entries))
           (λ v i. let small = a_variable head.most entries within v i in omega arith);

@@ -30,7 +30,7 @@ abbrev pub spelled_aig : List ℕ → Aig
 spelled_aig bytes = aig_of (entries_of bytes)
 
 -- the answer on a text: the one model that it is read as, or the fault of its first faulty line, or
--- want of memory
+-- out of memory
 abbrev pub IsAigAnswer : List ℕ → Result Models AigFault → Type 0
 IsAigAnswer bytes (Ok models) = (fault_of bytes ≡ None) × (models.models ≡ model_of (spelled_aig
     bytes) ∷ [])

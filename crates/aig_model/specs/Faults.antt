@@ -48,8 +48,9 @@ lines_asked head = head.inputs + head.latches + head.outputs + head.ands
 
 -- the number of the line that is missing, where there are fewer lines than the header asks for: the
 -- one behind the last
-abbrev pub missing : Head → List Entry → Option ℕ
-missing head entries = if nat_lt (length entries) (lines_asked head) then Some (length entries + 2)
+abbrev pub missing_line : Head → List Entry → Option ℕ
+missing_line head entries =
+    if nat_lt (length entries) (lines_asked head) then Some (length entries + 2)
     else None
 
 -- the first of two, where it is there, and else the second
@@ -59,7 +60,7 @@ or_else (Some first) second = Some first
 
 -- the number of the first faulty line behind the header
 abbrev pub first_faulty : Head → List Entry → Option ℕ
-first_faulty head entries = or_else (first_bad [] entries) (missing head entries)
+first_faulty head entries = or_else (first_bad [] entries) (missing_line head entries)
 
 -- the words of the first line; none where there is no line
 abbrev pub first_words : List (List ℕ) → List (List ℕ)

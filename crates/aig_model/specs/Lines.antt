@@ -1,6 +1,6 @@
--- Meaning. What single lines of an AIGER text say. Source: Biere's AIGER format. This project's own choices: that symbols may
--- be given twice, what is left out, that words are parted by any blanks, that M is compared with nothing but literals, and that
--- a variable which no line defines is free.
+-- Meaning. What single lines of an AIGER text say. Source: Biere's AIGER format. This project's own
+-- choices: that symbols may be given twice, what is left out, that words are parted by any blanks,
+-- that M is compared with nothing but literals, and that a variable which no line defines is free.
 use Rattle.std.specs.Prelude.{◌+◌, ◌&&◌, ℕ, suc, Bool, List, [], ◌∷◌, Option, None, Some, codes, bytes_eq, length, drop, map, nat_eq, nat_le, nat_lt, not, find, if◌then◌else◌}
 use Rattle.std.specs.List.{list_all, list_any}
 use Rattle.ste_base.specs.Bytes.{digit_zero, space}
@@ -35,7 +35,13 @@ is_above_zero word = list_any (λ digit. not (nat_eq digit digit_zero)) word
 -- the numbers of a header, where all are there
 abbrev pub head_of : Option ℕ → Option ℕ → Option ℕ → Option ℕ → Option ℕ → Option Head
 head_of (Some most) (Some inputs) (Some latches) (Some outputs) (Some ands) =
-    Some (record { most = most; inputs = inputs; latches = latches; outputs = outputs; ands = ands })
+    Some (record {
+      most = most;
+      inputs = inputs;
+      latches = latches;
+      outputs = outputs;
+      ands = ands;
+    })
 head_of most inputs latches outputs ands = None
 
 -- a header, where its numbers are there, unless one of its further numbers is left out
@@ -44,11 +50,13 @@ header_with None word = Bad
 header_with (Some head) None = Good head
 header_with (Some head) (Some word) = LeftOut word
 
--- what the words of the first line say: `aag M I L O A`, and up to four more numbers, which have to be 0
+-- what the words of the first line say: `aag M I L O A`, and up to four more numbers, which have to
+-- be 0
 abbrev pub header_of : List (List ℕ) → Header
 header_of (tag ∷ most ∷ inputs ∷ latches ∷ outputs ∷ ands ∷ further) =
     if bytes_eq tag (codes "aag") && (list_all is_count further && nat_le (length further) 4) then
-    header_with (head_of (count_of most) (count_of inputs) (count_of latches) (count_of outputs) (count_of ands))
+    header_with (head_of (count_of most) (count_of inputs) (count_of latches) (count_of outputs)
+    (count_of ands))
     (find is_above_zero further)
     else Bad
 header_of other = Bad
@@ -73,7 +81,8 @@ abbrev pub input_of : Literals → Said
 input_of (One first) = if is_definable first then said.Input (variable_of first) else said.Wrong
 input_of literals = said.Wrong
 
--- the initial value of a latch with this first literal that its third literal says: 0, 1, or free where it is the first one
+-- the initial value of a latch with this first literal that its third literal says: 0, 1, or free
+-- where it is the first one
 abbrev pub init_of : ℕ → ℕ → Option Init
 init_of first third =
     if nat_eq third 0 then Some init.Zero
@@ -84,9 +93,11 @@ init_of first third =
 -- a latch, where there is its initial value
 abbrev pub latch_with : ℕ → ℕ → Option Init → Said
 latch_with first next None = said.Wrong
-latch_with first next (Some init) = if is_definable first then said.Latch (variable_of first) next init else said.Wrong
+latch_with first next (Some init) =
+    if is_definable first then said.Latch (variable_of first) next init else said.Wrong
 
--- a latch line: two literals, or three, of which the first may be defined; without a third the initial value is 0
+-- a latch line: two literals, or three, of which the first may be defined; without a third the
+-- initial value is 0
 abbrev pub latch_of : Literals → Said
 latch_of (Two first next) = latch_with first next (Some init.Zero)
 latch_of (Three first next third) = latch_with first next (init_of first third)
@@ -99,7 +110,8 @@ output_of literals = said.Wrong
 
 -- an AND line: three literals, of which the first may be defined
 abbrev pub and_of : Literals → Said
-and_of (Three first left right) = if is_definable first then said.And (variable_of first) left right else said.Wrong
+and_of (Three first left right) =
+    if is_definable first then said.And (variable_of first) left right else said.Wrong
 and_of literals = said.Wrong
 
 -- a byte that is a space
@@ -110,14 +122,18 @@ is_space byte = nat_eq byte space
 abbrev pub symbol_with : Kind → Option ℕ → List ℕ → Said
 symbol_with kind None name = said.Wrong
 symbol_with kind (Some number) name =
-    if is_filled name then said.Symbol kind (record { number = number; name = name }) else said.Wrong
+    if is_filled name then said.Symbol kind (record { number = number; name = name })
+    else said.Wrong
 
--- a symbol of this kind, of which there are so many: a number, one space, and the name, to the end of the line
+-- a symbol of this kind, of which there are so many: a number, one space, and the name, to the end
+-- of the line
 abbrev pub symbol_of : Kind → ℕ → List ℕ → Said
 symbol_of kind count text =
-    symbol_with kind (number_below count (before is_space text)) (drop (suc (length (before is_space text))) text)
+    symbol_with kind (number_below count (before is_space text))
+    (drop (suc (length (before is_space text))) text)
 
--- a line behind those of literals, without the blanks at its end: a symbol, or `c`, which ends what is read
+-- a line behind those of literals, without the blanks at its end: a symbol, or `c`, which ends what
+-- is read
 abbrev pub tail_of : Head → List ℕ → Said
 tail_of head [] = said.Wrong
 tail_of head (byte ∷ text) =
@@ -127,11 +143,15 @@ tail_of head (byte ∷ text) =
     else if nat_eq byte 99 && not (is_filled text) then said.End
     else said.Wrong
 
--- what the n-th line behind the header says, from 0: first there are the inputs, then latches, outputs, ANDs, and symbols
+-- what the n-th line behind the header says, from 0: first there are the inputs, then latches,
+-- outputs, ANDs, and symbols
 abbrev pub said_at : Head → ℕ → List ℕ → Said
 said_at head n line =
     if nat_lt n head.inputs then input_of (literals_of head.most (words_of line))
-    else if nat_lt n (head.inputs + head.latches) then latch_of (literals_of head.most (words_of line))
-    else if nat_lt n (head.inputs + head.latches + head.outputs) then output_of (literals_of head.most (words_of line))
-    else if nat_lt n (head.inputs + head.latches + head.outputs + head.ands) then and_of (literals_of head.most (words_of line))
+    else if nat_lt n (head.inputs + head.latches)
+    then latch_of (literals_of head.most (words_of line))
+    else if nat_lt n (head.inputs + head.latches + head.outputs)
+    then output_of (literals_of head.most (words_of line))
+    else if nat_lt n (head.inputs + head.latches + head.outputs + head.ands)
+    then and_of (literals_of head.most (words_of line))
     else tail_of head (trimmed_text line)

@@ -10,7 +10,7 @@ use Rattle.aig_model.specs.declared.aig.Symbol.{Symbol}
 use Rattle.aig_model.specs.Literals.{is_odd, variable_of}
 use Rattle.aig_model.specs.Sound.{sources}
 
--- the name of its own of a variable, of its opposite, and of the output with this number
+-- the own name of a variable, of its opposite, and of the output with this number
 abbrev pub own_variable : ℕ → List ℕ
 own_variable v = codes "$v" ++ decimal v
 
@@ -25,7 +25,7 @@ abbrev pub first_symbol : ℕ → List Symbol → Option (List ℕ)
 first_symbol n symbols = option_map (λ (symbol : Symbol). symbol.name) (find
     (λ (symbol : Symbol). nat_eq n symbol.number) symbols)
 
--- what may have a symbol: the name of its own, and its first symbol
+-- what may have a symbol: its own name, and its first symbol
 pub record Label : Type 0 where
   pub own : List ℕ
   pub symbol : Option (List ℕ)
@@ -55,17 +55,17 @@ is_own [] = false
 is_own (byte ∷ bytes) = nat_eq byte 36
 
 -- the symbol, where it serves as a name: it does not begin with `$`, and is none of these names
-abbrev pub served : List (List ℕ) → Option (List ℕ) → Option (List ℕ)
-served taken None = None
-served taken (Some name) = if is_own name || list_any (bytes_eq name) taken then None else Some name
+abbrev pub usable_symbol : List (List ℕ) → Option (List ℕ) → Option (List ℕ)
+usable_symbol taken None = None
+usable_symbol taken (Some name) = if is_own name || list_any (bytes_eq name) taken then None else Some name
 
--- the names of labelled things, in turn: a symbol that serves, and else the name of its own; these
+-- the names of labelled things, in turn: a symbol that serves, and else the own name; these
 -- symbols are taken
 abbrev pub names_behind : List (List ℕ) → List Label → List (List ℕ)
 names_behind taken [] = []
 names_behind taken (label ∷ labels) =
-    unwrap_or (served taken label.symbol) label.own
-    ∷ names_behind (taken ++ option_to_list (served taken label.symbol)) labels
+    unwrap_or (usable_symbol taken label.symbol) label.own
+    ∷ names_behind (taken ++ option_to_list (usable_symbol taken label.symbol)) labels
 
 -- the names of the inputs, latches and outputs, in this order
 abbrev pub names : Aig → List (List ℕ)

@@ -16,7 +16,7 @@ use Rattle.aig_model.specs.declared.aig.AigLatch.{AigLatch}
 use Rattle.aig_model.specs.declared.aig.AigOutput.{AigOutput}
 use Rattle.aig_model.specs.Literals.{is_odd, variable_of}
 use Rattle.aig_model.specs.Names.{literal_name, output_names, own_opposite, variable_name}
-use Rattle.aig_model.specs.Sound.{mentioned}
+use Rattle.aig_model.specs.Sound.{mentioned_literals}
 
 -- what a row asks of a literal's variable: 1 for an even literal, 0 for an odd one
 abbrev pub lit_of : ℕ → Lit
@@ -77,7 +77,7 @@ opposite_item aig v = item_at 1 (what.Names (variable_name aig v ∷ []) (own_op
 
 -- a literal of variable 0 is mentioned
 abbrev pub mentions_zero : Aig → Bool
-mentions_zero aig = list_any (λ literal. nat_eq (variable_of literal) 0) (mentioned aig)
+mentions_zero aig = list_any (λ literal. nat_eq (variable_of literal) 0) (mentioned_literals aig)
 
 -- a cover without inputs and rows, which gives 0
 abbrev pub zero_item : Aig → Item

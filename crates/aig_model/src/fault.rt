@@ -18,7 +18,7 @@ pub enum AigFault {
     /// it is written.
     #[error("left out")]
     LeftOut { line: u32, word: Name },
-    /// Memory is wanting.
+    /// Out of memory.
     #[error("out of memory")]
     OutOfMemory,
 }

@@ -3,8 +3,9 @@
 ghost use Rattle.aig_model.specs.Corresponds.{LiteralsCorrespond};
 ghost use Rattle.aig_model.specs.ReadIsSound.{ReadIsSound};
 
-/// Law: literal runs, and the runs of the model that a text is read as, correspond one to one on the
-/// variables that the text mentions. Each output has the bit of its literal, and latches start alike.
+/// Law: literal runs, and the runs of the model that a text is read as, correspond one to one on
+/// the variables that the text mentions. Each output has the bit of its literal, and latches start
+/// alike.
 pub fn literals_correspond()
     ensures { LiteralsCorrespond }
 {}

@@ -6,7 +6,7 @@ use Rattle.aig_model.specs.declared.aig.Aig.{Aig}
 use Rattle.aig_model.specs.declared.aig.AigLatch.{AigLatch}
 use Rattle.aig_model.specs.declared.aig.AigOutput.{AigOutput}
 use Rattle.aig_model.specs.declared.aig.Symbol.{Symbol}
-use Rattle.aig_model.specs.Names.{Label, first_symbol, labels, labels_from, names, names_behind, own_output, own_outputs, own_variable, served}
+use Rattle.aig_model.specs.Names.{Label, first_symbol, labels, labels_from, names, names_behind, own_output, own_outputs, own_variable, usable_symbol}
 use Rattle.aig_model.proofs.Naming.{map_twice, outputs_long}
 use Rattle.aig_reader.specs.private.Labelled.{taken_behind}
 
@@ -36,22 +36,22 @@ labels_cut symbols n i owns own lt e =
 pub named_turn : (symbols : List Symbol) (n i : ℕ) (owns : List (List ℕ)) (own name : List ℕ)
     (symbol : Option (List ℕ)) (names taken grown more names_at taken_at : List (List ℕ)) (all :
     List Label) → i < length owns → own ≡ get_or owns i own → symbol ≡ first_symbol n symbols →
-    name ≡ unwrap_or (served taken symbol) own → grown ≡ names ++ name ∷ [] →
-    more ≡ taken ++ option_to_list (served taken symbol) →
+    name ≡ unwrap_or (usable_symbol taken symbol) own → grown ≡ names ++ name ∷ [] →
+    more ≡ taken ++ option_to_list (usable_symbol taken symbol) →
     AreNamed names taken (labels_from symbols n (drop i owns)) names_at taken_at all →
     AreNamed grown more (labels_from symbols (n + 1) (drop (i + 1) owns)) names_at taken_at all
 named_turn symbols n i owns own name symbol names taken grown more names_at taken_at all lt e s m g
     t inv =
     let rest = labels_from symbols (n + 1) (drop (i + 1) owns) in
     let cut = labels_cut symbols n i owns own lt e in
-    let same : name ≡ unwrap_or (served taken (first_symbol n symbols)) own = m ∙ ap
-    (λ o. unwrap_or (served taken o) own) s in
-    let keys : more ≡ taken ++ option_to_list (served taken (first_symbol n symbols)) = t ∙ ap
-    (λ o. taken ++ option_to_list (served taken o)) s in
+    let same : name ≡ unwrap_or (usable_symbol taken (first_symbol n symbols)) own = m ∙ ap
+    (λ o. unwrap_or (usable_symbol taken o) own) s in
+    let keys : more ≡ taken ++ option_to_list (usable_symbol taken (first_symbol n symbols)) = t ∙ ap
+    (λ o. taken ++ option_to_list (usable_symbol taken o)) s in
     record {
       names = (λ k. (g ∙ ap (λ x. names ++ x ∷ []) same) k ++ names_behind (keys k) rest)
-          ∙ append_assoc names (unwrap_or (served taken (first_symbol n symbols)) own ∷ [])
-          (names_behind (taken ++ option_to_list (served taken (first_symbol n symbols))) rest)
+          ∙ append_assoc names (unwrap_or (usable_symbol taken (first_symbol n symbols)) own ∷ [])
+          (names_behind (taken ++ option_to_list (usable_symbol taken (first_symbol n symbols))) rest)
           ∙ sym (ap (λ left. names ++ names_behind taken left) cut) ∙ inv.names;
       taken = ap (λ x. taken_behind x rest) keys ∙ sym (ap (taken_behind taken) cut) ∙ inv.taken;
     }
@@ -61,8 +61,8 @@ names_append : (taken : List (List ℕ)) (first second : List Label) →
     taken first) second
 names_append taken [] second = refl
 names_append taken (label ∷ first) second = ap
-    (λ xs. unwrap_or (served taken label.symbol) label.own ∷ xs) (names_append (taken ++
-    option_to_list (served taken label.symbol)) first second)
+    (λ xs. unwrap_or (usable_symbol taken label.symbol) label.own ∷ xs) (names_append (taken ++
+    option_to_list (usable_symbol taken label.symbol)) first second)
 
 -- three kinds of things, one after another
 pub three_kinds : (first second third : List Label) (one two three taken_one taken_two : List (List

@@ -11,7 +11,7 @@ use Rattle.aig_model.specs.declared.aig.AigLatch.{AigLatch}
 use Rattle.aig_model.specs.declared.aig.AigOutput.{AigOutput}
 use Rattle.aig_model.specs.Literals.{variable_of}
 use Rattle.aig_model.specs.Netlist.{mentions_zero, zero_item}
-use Rattle.aig_model.specs.Sound.{and_literals, mentioned}
+use Rattle.aig_model.specs.Sound.{and_literals, mentioned_literals}
 use Rattle.aig_reader.specs.private.Taken.{ands_mention_zero, latches_mention_zero, outputs_mention_zero, zero_items}
 
 -- one element more has its item

@@ -16,7 +16,7 @@ use Rattle.aig_model.specs.declared.line.Header.TheVariants.{Bad, Good}
 use Rattle.aig_model.specs.declared.line.Said.{Said}
 use Rattle.aig_model.specs.declared.line.Said.TheVariants as said
 use Rattle.aig_model.specs.Answer.{entries_of, entries_with}
-use Rattle.aig_model.specs.Faults.{defines, fault_of, fault_with, first_bad, first_faulty, first_words, later_lines, lines_asked, may_stand, missing, or_else}
+use Rattle.aig_model.specs.Faults.{defines, fault_of, fault_with, first_bad, first_faulty, first_words, later_lines, lines_asked, may_stand, missing_line, or_else}
 use Rattle.aig_model.specs.Lines.{count_of, head_of, header_of, header_with, is_above_zero, is_count, said_at}
 use Rattle.aig_model.specs.Words.{greatest, is_number}
 use Rattle.aig_model.specs.Spelled.{aig_of, entries_from, entry_onto}
@@ -81,7 +81,7 @@ ended count (said.Symbol kind symbol) later e = absurd (cc e)
 ended count said.End later e = refl
 ended count said.Wrong later e = absurd (cc e)
 
--- what is said with a line more, and then the rest, is what the line says in front of the rest
+-- what is said with one more line, and then the rest, is what the line says in front of the rest
 grown : (aig : Aig) (line : ℕ) (s : Said) (entries : List Entry) →
     joined (said_added aig line s) (aig_of entries) ≡ joined aig (aig_of ((record {
       line = line;
@@ -201,7 +201,7 @@ bad_line head aig defined count rest line behind text at s end good next e go f 
     let first = sym inv.bad ∙ ap (first_bad defined) (next_entries head count rest line behind at s
     next (sym e ∙ go)) ∙ falls defined s (count + 2) (entries_from head (count + 1) (pieces
     is_line_feed behind)) (sym f ∙ g) in
-    ap (λ o. or_else o (missing head all)) first
+    ap (λ o. or_else o (missing_line head all)) first
 
 append_none : {X : Type 0} (xs : List X) → xs ++ [] ≡ xs
 append_none [] = refl
@@ -223,23 +223,23 @@ lacks : (head : Head) (all : List Entry) (count : ℕ) (b : Bool) → first_bad 
     length all ≡ count → nat_lt count (lines_asked head) ≡ b →
     first_faulty head all ≡ (if b then Some (count + 2) else None)
 lacks head all count b first long e =
-    ap (λ o. or_else o (missing head all)) first
+    ap (λ o. or_else o (missing_line head all)) first
     ∙ ap (λ n. if nat_lt n (lines_asked head) then Some (n + 2) else None) long
     ∙ ap (λ c. if c then Some (count + 2) else None) e
 
-finished : (head : Head) (aig : Aig) (count : ℕ) (lines : List (List ℕ)) (result : Result Aig
+aig_if_complete : (head : Head) (aig : Aig) (count : ℕ) (lines : List (List ℕ)) (result : Result Aig
     AigFault) → first_bad [] (entries_from head 0 lines) ≡ None →
     length (entries_from head 0 lines) ≡ count → aig ≡ aig_of (entries_from head 0 lines) →
     IsFinished head count aig result → AreLines head lines result
-finished head aig count lines (Ok read) first long spelled h = (
+aig_if_complete head aig count lines (Ok read) first long spelled h = (
   lacks head (entries_from head 0
       lines) count false first long h.0,
   h.1 ∙ spelled,
 )
-finished head aig count lines (Err (BadLine line)) first long spelled h = lacks head (entries_from
+aig_if_complete head aig count lines (Err (BadLine line)) first long spelled h = lacks head (entries_from
     head 0 lines) count true first long h.0 ∙ ap Some (sym h.1)
-finished head aig count lines (Err (LeftOut line word)) first long spelled h = absurd h
-finished head aig count lines (Err OutOfMemory) first long spelled h = tt
+aig_if_complete head aig count lines (Err (LeftOut line word)) first long spelled h = absurd h
+aig_if_complete head aig count lines (Err OutOfMemory) first long spelled h = tt
 
 -- all lines are read
 pub finish : (head : Head) (aig : Aig) (defined : List ℕ) (count : ℕ) (rest text : List ℕ) (result :
@@ -252,7 +252,7 @@ finish head aig defined count rest text result none inv h =
     let n = ap (λ (xs : List Entry). length xs) none in omega arith in
     let spelled = sym (joined_none aig) ∙ sym (ap
     (λ (xs : List Entry). joined aig (aig_of xs)) none) ∙ inv.spelled in
-    finished head aig count (pieces is_line_feed text) result first long spelled h
+    aig_if_complete head aig count (pieces is_line_feed text) result first long spelled h
 
 -- at a line that ends what is read, and at the end of the text
 pub end_here : (head : Head) (count : ℕ) (rest line behind : List ℕ) (at : Option ℕ) (s : Said) (end

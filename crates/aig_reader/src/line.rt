@@ -5,7 +5,7 @@ ghost use Rattle.blif_lines.specs.Lines.{words_of};
 ghost use Rattle.aig_model.specs.Lines.{and_of, init_of, input_of, latch_of, latch_with, literals_of, output_of, said_at, symbol_of, symbol_with, tail_of};
 ghost use Rattle.aig_model.specs.Words.{greatest};
 
-use crate::scan::{cut, space, trimmed, word};
+use crate::scan::{cut, space, trimmed_text, word};
 use crate::words::{is_definable, literal, number_below, variable_of};
 use aig_model::{Head, Kind, Literals, Said, Symbol};
 use net_core::Init;
@@ -190,6 +190,6 @@ pub fn said_at(alloc: Global, head: &Head, n: u32, line: &[u8]) -> Result<Said, 
     } else if place < ands + u64::from(head.ands) {
         Ok(and_of(literals(head.most, line)))
     } else {
-        tail_of(alloc, head, trimmed(line))
+        tail_of(alloc, head, trimmed_text(line))
     }
 }

@@ -2,7 +2,7 @@
 
 ghost use Rattle.std.specs.Prelude.{◌≡◌, ◌<◌, ◌^◌, ◌++◌, ◌∷◌, [], IfOk, OnOk, bytes_eq, drop, false, length, map, nat_eq, not, option_and_then, option_copied, option_map, option_to_list, slice_get, true, unwrap_or};
 ghost use Rattle.std.specs.List.{list_any, position};
-ghost use Rattle.aig_model.specs.Names.{first_symbol, is_own, labels_from, literal_name, names, names_behind, output_names, own_opposite, own_output, own_outputs, own_variable, served, variable_name};
+ghost use Rattle.aig_model.specs.Names.{first_symbol, is_own, labels_from, literal_name, names, names_behind, output_names, own_opposite, own_output, own_outputs, own_variable, usable_symbol, variable_name};
 ghost use Rattle.aig_model.specs.Sound.{sources};
 ghost use Rattle.aig_reader.specs.private.Labelled.{IsFew, taken_behind};
 
@@ -14,7 +14,7 @@ use std::alloc::{AllocError, Global};
 use std::marker::Model;
 use ste_base::{Items, Name};
 
-/// The name of its own of a variable.
+/// The own name of a variable.
 fn own_variable(alloc: Global, var: u32) -> Result<Name, AllocError>
     ensures { IfOk result (λ name. name ≡ own_variable var) }
 {
@@ -22,7 +22,7 @@ fn own_variable(alloc: Global, var: u32) -> Result<Name, AllocError>
     Name::from_bytes(alloc, text.as_bytes())
 }
 
-/// The name of its own of the opposite of a variable.
+/// The own name of the opposite of a variable.
 pub fn own_opposite(alloc: Global, var: u32) -> Result<Name, AllocError>
     ensures { IfOk result (λ name. name ≡ own_opposite var) }
 {
@@ -30,7 +30,7 @@ pub fn own_opposite(alloc: Global, var: u32) -> Result<Name, AllocError>
     Name::from_bytes(alloc, text.as_bytes())
 }
 
-/// The name of its own of an output.
+/// The own name of an output.
 fn own_output(alloc: Global, number: u32) -> Result<Name, AllocError>
     ensures { IfOk result (λ name. name ≡ own_output number) }
 {
@@ -47,7 +47,8 @@ fn is_own(name: &[u8]) -> bool
 
 /// Adds a name; false where it is there already.
 fn add_name(taken: &mut IndexSet<Name>, name: &Name) -> Result<bool, AllocError>
-    ensures fresh { IfOk result (λ fresh. fresh ≡ not (list_any (bytes_eq name.now) taken.old.keys)) }
+    ensures fresh { IfOk result (λ fresh. fresh
+        ≡ not (list_any (bytes_eq name.now) taken.old.keys)) }
     ensures keys { IfOk result (λ fresh. fresh ≡ true →
         taken.new.keys ≡ taken.old.keys ++ name.now ∷ []) }
     ensures same { IfOk result (λ fresh. fresh ≡ false → taken.new.keys ≡ taken.old.keys) }
@@ -61,7 +62,8 @@ fn add_name(taken: &mut IndexSet<Name>, name: &Name) -> Result<bool, AllocError>
 
 /// A symbol, where it serves as a name; it is taken then.
 fn serve(taken: &mut IndexSet<Name>, symbol: Option<&Name>) -> Result<Option<Name>, AllocError>
-    ensures served { IfOk result (λ name. name ≡ served taken.old.keys (option_copied symbol.entry)) }
+    ensures served { IfOk result (λ name. name ≡ usable_symbol taken.old.keys
+        (option_copied symbol.entry)) }
     ensures keys { IfOk result (λ name. taken.new.keys ≡ taken.old.keys ++ option_to_list name) }
 {
     let Some(name) = symbol else {
@@ -76,16 +78,17 @@ fn serve(taken: &mut IndexSet<Name>, symbol: Option<&Name>) -> Result<Option<Nam
     Ok(Some(name.clone()?))
 }
 
-/// The next name: a symbol that serves, and else the name of its own.
+/// The next name: a symbol that serves, and else the own name.
 fn next_name(
     taken: &mut IndexSet<Name>,
     symbol: Option<&Name>,
     own: &Name,
 ) -> Result<Name, AllocError>
     ensures name { IfOk result (λ name. name
-        ≡ unwrap_or (served taken.old.keys (option_copied symbol.entry)) own.now) }
+        ≡ unwrap_or (usable_symbol taken.old.keys (option_copied symbol.entry)) own.now) }
     ensures keys { IfOk result (λ _. taken.new.keys
-        ≡ taken.old.keys ++ option_to_list (served taken.old.keys (option_copied symbol.entry))) }
+        ≡ taken.old.keys ++ option_to_list (usable_symbol taken.old.keys
+        (option_copied symbol.entry))) }
 {
     match serve(taken, symbol)? {
         Some(name) => Ok(name),

@@ -25,7 +25,8 @@ impl Model for Places {
 
     ghost view = { λ p. p.numbers.items };
 
-    ghost invariant = { λ p. (n : ℕ) → get nat_eq p.places n ≡ position (nat_eq n) p.numbers.items };
+    ghost invariant = { λ p. (n : ℕ) →
+        get nat_eq p.places n ≡ position (nat_eq n) p.numbers.items };
 }
 
 /// Adds the place of a number, where it has none.

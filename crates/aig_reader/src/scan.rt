@@ -62,7 +62,7 @@ fn from(text: &[u8], place: Option<usize>) -> &[u8]
 
 /// The text without the blanks at its end.
 #[tactic(auto, using(blif_lines::proofs::Scanning::trim_back, blif_lines::proofs::Scanning::trim_stop))]
-pub fn trimmed(text: &[u8]) -> &[u8]
+pub fn trimmed_text(text: &[u8]) -> &[u8]
     ensures { result.now ≡ trimmed_text text.now }
 {
     let mut end = text.len();

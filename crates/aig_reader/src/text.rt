@@ -113,7 +113,7 @@ fn stands(defined: &mut IndexSet<u32>, said: &Said) -> Result<bool, AllocError>
 }
 
 /// What is said, where the lines that a header asks for are there.
-fn finished(head: &Head, count: u32, aig: Aig) -> Result<Aig, AigFault>
+fn aig_if_complete(head: &Head, count: u32, aig: Aig) -> Result<Aig, AigFault>
     requires { count + 2 < 2 ^ 32 }
     ensures { IsFinished head.now count aig result }
 {
@@ -142,7 +142,7 @@ fn read_lines(alloc: Global, head: &Head, text: &[u8]) -> Result<Aig, AigFault>
         let (line, after) = cut(rest, line_feed(rest));
         let said = said_at(alloc, head, count, line)?;
         if is_end(&said) {
-            return finished(head, count, aig);
+            return aig_if_complete(head, count, aig);
         }
         let good = stands(&mut defined, &said)?;
         if !good {
@@ -152,7 +152,7 @@ fn read_lines(alloc: Global, head: &Head, text: &[u8]) -> Result<Aig, AigFault>
         rest = after;
         count += 1;
     }
-    finished(head, count, aig)
+    aig_if_complete(head, count, aig)
 }
 
 /// Reads a text.

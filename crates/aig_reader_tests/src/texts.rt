@@ -77,7 +77,7 @@ const FAULTS_OF_LINES: &[(&[u8], &[u8])] = &[
     (b"aag 1 1 0 0 0\n2\ni18446744073709551616 a", b"3: bad"),
     (b"aag 1 1 0 0 0\n2\nc x", b"3: bad"),
     (b"aag 1 1 0 0 0\n2\n c", b"3: bad"),
-    // The first faulty line is told.
+    // The first faulty line is reported.
     (b"aag 2 2 0 0 0\n2\n2\ni9 a", b"3: bad"),
     (b"aag 2 2 0 1 0\n2\n2", b"3: bad"),
     (b"aag 0 0 0 0 0\nx\ny", b"2: bad"),

@@ -5,6 +5,7 @@ use Rattle.std.specs.Option.{option_map}
 use Rattle.std.specs.List.{flat_map}
 use Rattle.std.proofs.Math.Nat.{eq-or-lt_of_le}
 use Rattle.std.proofs.lemmas.Option.{slice_get-map}
+use Rattle.ste_base.specs.Limits.{most_variables}
 use Rattle.indexmap.specs.IndexSet.{insert_all}
 use Rattle.bool_expr.specs.Grammar.{Expression, nesting, spelling}
 use Rattle.bool_expr.specs.Read.{Spells, first_unknown, number_in}
@@ -17,7 +18,7 @@ use Rattle.assert_syntax.specs.declared.form.Span.TheVariants as span
 use Rattle.assert_syntax.specs.Forms.{Clause, Entry, Form}
 use Rattle.assert_syntax.specs.Forms as form
 use Rattle.assert_syntax.specs.Parses.{Parse, IsParse, IsSpelled, is_deep}
-use Rattle.assert_syntax.specs.Places.{Context, clause_fault, context_behind, context_of, fault_or, first_double, first_fault, form_fault, line_fault, may_stand, names_behind, names_fault, span_fault, unknown_fault, vars_behind, vertices_behind}
+use Rattle.assert_syntax.specs.Places.{Context, clause_fault, context_behind, context_of, fault_or, first_double, first_task_fault, form_fault, line_fault, may_stand_at, names_behind, names_fault, span_fault, unknown_fault, vars_behind, vertices_behind}
 use Rattle.assert_syntax.specs.Rules.{FirstFaultIsLeast, GoesBefore, HasFault, HasForm, IsBad, IsDeep, IsDouble, IsFirstDouble, IsFirstFault, IsFirstUndeclared, IsGraphAt, IsLargeGraph, IsLate, IsMany, IsUnknown, SpellsDeep, SpellsNone, Stands, declared, forms_of, mentions, starts_edge}
 use Rattle.assert_syntax.proofs.Faults.{fault_from, same_fault}
 use Rattle.assert_syntax.proofs.Placed.{GraphTold, Told, graph_more, names_on, stands, stands_not, told_first, told_on, vars_on}
@@ -107,10 +108,10 @@ edge_none lines i from to s apart Many f = apart f
 edge_told : (lines : List Entry) (i : ℕ) (c : Context) (from to : List ℕ) → Told lines i c → HasForm lines i (form.edge from to) → (start : ℕ) → IsGraphAt lines i start → GraphTold lines (suc i) start (vertices_behind (form.edge from to) c.vertices) (suc c.edges)
 edge_told lines i c from to told has start g = graph_more lines i start (form.edge from to) c.vertices c.edges (let h = g.earlier in omega (arith, h)) has (λ e. absurd (cc e)) (told.graph start g)
 
-edge_by : (b : Bool) (lines : List Entry) (i : ℕ) (c : Context) (from to : List ℕ) → Told lines i c → HasForm lines i (form.edge from to) → may_stand (form.edge from to) c.place ≡ true → (nat_le (length (vertices_behind (form.edge from to) c.vertices)) 1000 && nat_le (suc c.edges) 10000) ≡ b → Decided lines i (form.edge from to) (if b then None else Some Many)
+edge_by : (b : Bool) (lines : List Entry) (i : ℕ) (c : Context) (from to : List ℕ) → Told lines i c → HasForm lines i (form.edge from to) → may_stand_at (form.edge from to) c.place ≡ true → (nat_le (length (vertices_behind (form.edge from to) c.vertices)) 1000 && nat_le (suc c.edges) 10000) ≡ b → Decided lines i (form.edge from to) (if b then None else Some Many)
 edge_by true lines i c from to told has may e =
     let both = both_small (nat_le (length (vertices_behind (form.edge from to) c.vertices)) 1000) (nat_le (suc c.edges) 10000) e in
-    edge_none lines i from to (stands lines i c.place (form.edge from to) told.place may) apart
+    edge_none lines i from to (stands lines i c.place (form.edge from to) told.position may) apart
   where
     apart : IsLargeGraph lines i → ⊥
     apart large =
@@ -130,7 +131,7 @@ edge_by false lines i c from to told has may e =
       | inl h ↦ inl (let k : 1000 < length (vertices_behind (form.edge from to) c.vertices) = grind (arith, h) in omega (arith, k, u))
       | inr h ↦ inr (let k : 10000 < suc c.edges = grind (arith, h) in omega (arith, k, v))
     ] in
-    (record { start = s.0; graph = s.1; large = large }, edge_before lines i from to (stands lines i c.place (form.edge from to) told.place may))
+    (record { start = s.0; graph = s.1; large = large }, edge_before lines i from to (stands lines i c.place (form.edge from to) told.position may))
 
 -- a clause
 spelled_not_none : (text : List ℕ) (d : Expression) → Spells d text → ¬ SpellsNone text
@@ -266,17 +267,17 @@ good_head a b s apart (inl f) = f s
 good_head a b s apart (inr f) = apart f
 
 -- a line that may stand
-form_decides : (parse : Parse) (lines : List Entry) (i : ℕ) (c : Context) (form : Form) → IsParse parse → Told lines i c → HasForm lines i form → may_stand form c.place ≡ true → Decided lines i form (form_fault parse c form)
+form_decides : (parse : Parse) (lines : List Entry) (i : ℕ) (c : Context) (form : Form) → IsParse parse → Told lines i c → HasForm lines i form → may_stand_at form c.place ≡ true → Decided lines i form (form_fault parse c form)
 form_decides parse lines i c (form.vars names) is told has may =
     let all = vars_on lines i (form.vars names) c.vars has told.vars in
-    naming_decides lines i (form.vars names) 1000 c.vars names (vars_behind (form.vars names) c.vars) (first_double c.vars names) (record {
-      good = good_head _ _ (stands lines i c.place (form.vars names) told.place may) (λ f. f);
+    naming_decides lines i (form.vars names) most_variables c.vars names (vars_behind (form.vars names) c.vars) (first_double c.vars names) (record {
+      good = good_head _ _ (stands lines i c.place (form.vars names) told.position may) (λ f. f);
       flat = λ f. f;
       familiar = λ word f. f;
       to_double = λ word r. subst (λ k. IsFirstDouble k names word) told.vars r;
       from_double = λ word r. subst (λ k. IsFirstDouble k names word) (sym told.vars) r;
-      to_many = λ h. subst (λ k. 1000 < length k) all h;
-      from_many = λ h. subst (λ k. 1000 < length k) (sym all) h;
+      to_many = λ h. subst (λ k. most_variables < length k) all h;
+      from_many = λ h. subst (λ k. most_variables < length k) (sym all) h;
     }) refl
 form_decides parse lines i c (form.ste name reset) is told has may =
     let all = names_on lines i (form.ste name reset) c.names has told.names in
@@ -301,19 +302,19 @@ form_decides parse lines i c (form.gste name vertex reset) is told has may =
       from_many = λ h. subst (λ k. 256 < length k) (sym all) h;
     }) refl
 form_decides parse lines i c (form.edge from to) is told has may = edge_by _ lines i c from to told has may refl
-form_decides parse lines i c (form.clause clause) is told has may = clause_decides lines i clause c.vars (parse clause.value) (parse clause.guard) told.vars (stands lines i c.place (form.clause clause) told.place may) (is clause.value) (is clause.guard)
+form_decides parse lines i c (form.clause clause) is told has may = clause_decides lines i clause c.vars (parse clause.value) (parse clause.guard) told.vars (stands lines i c.place (form.clause clause) told.position may) (is clause.value) (is clause.guard)
 form_decides parse lines i c (form.weak node times) is told has may =
-    weak_decides lines i node times (stands lines i c.place (form.weak node times) told.place may)
-form_decides parse lines i c form.ending is told has may = end_none lines i (stands lines i c.place form.ending told.place may)
+    weak_decides lines i node times (stands lines i c.place (form.weak node times) told.position may)
+form_decides parse lines i c form.ending is told has may = end_none lines i (stands lines i c.place form.ending told.position may)
 form_decides parse lines i c form.wrong is told has may = absurd (cc may)
 
 -- any line
-decided_by : (b : Bool) (parse : Parse) (lines : List Entry) (i : ℕ) (c : Context) (form : Form) → IsParse parse → Told lines i c → HasForm lines i form → may_stand form c.place ≡ b → Decided lines i form (if b then form_fault parse c form else Some Bad)
+decided_by : (b : Bool) (parse : Parse) (lines : List Entry) (i : ℕ) (c : Context) (form : Form) → IsParse parse → Told lines i c → HasForm lines i form → may_stand_at form c.place ≡ b → Decided lines i form (if b then form_fault parse c form else Some Bad)
 decided_by true parse lines i c form is told has may = form_decides parse lines i c form is told has may
-decided_by false parse lines i c form is told has may = bad_first lines i form (inl (stands_not lines i c.place form told.place may))
+decided_by false parse lines i c form is told has may = bad_first lines i form (inl (stands_not lines i c.place form told.position may))
 
 decided : (parse : Parse) (lines : List Entry) (i : ℕ) (c : Context) (form : Form) → IsParse parse → Told lines i c → HasForm lines i form → Decided lines i form (line_fault parse c form)
-decided parse lines i c form is told has = decided_by (may_stand form c.place) parse lines i c form is told has refl
+decided parse lines i c form is told has = decided_by (may_stand_at form c.place) parse lines i c form is told has refl
 
 stood_by : (b : Bool) (form : Form) (found : Option LineFault) → (if b then found else Some Bad) ≡ None → b ≡ true
 stood_by true form found e = refl
@@ -367,7 +368,7 @@ walk_by (Some kind) parse lines rest i c entry is e told clean f later =
 walk_by None parse lines rest i c entry is e told clean f later =
     let has = form_at lines i entry (at_head lines i entry rest e) in
     let d : Decided lines i entry.form None = subst (Decided lines i entry.form) f (decided parse lines i c entry.form is told has) in
-    later (told_on lines i c entry.form told has (stood_by (may_stand entry.form c.place) entry.form (form_fault parse c entry.form) f)) (clean_on lines i entry.form clean has d)
+    later (told_on lines i c entry.form told has (stood_by (may_stand_at entry.form c.place) entry.form (form_fault parse c entry.form) f)) (clean_on lines i entry.form clean has d)
 
 end_by : (b : Bool) (lines : List Entry) (i k : ℕ) (form : Form) (kind : LineFault) → nat_lt k i ≡ b → drop i lines ≡ [] → Clean lines i → HasForm lines k form → ¬ HasFault lines k form kind
 end_by true lines i k form kind h e clean has = clean k form kind (grind (arith, h)) has
@@ -379,7 +380,7 @@ walk parse lines (entry ∷ rest) i c is e told clean =
     walk_by (line_fault parse c entry.form) parse lines rest i c entry is e told clean refl
     (λ t l. walk parse lines rest (suc i) (context_behind c entry.form) is (behind_head lines i entry rest e) t l)
 
-walked : (parse : Parse) (lines : List Entry) → IsParse parse → Walked lines (first_fault parse [] lines)
+walked : (parse : Parse) (lines : List Entry) → IsParse parse → Walked lines (first_task_fault parse [] lines)
 walked parse lines is = subst (Walked lines) (sym (same_fault parse [] lines)) (walk parse lines lines 0 (context_of []) is refl (told_first lines) (λ k form kind below has f. absurd (omega (arith, below))))
 
 pub first_fault_is_least : FirstFaultIsLeast

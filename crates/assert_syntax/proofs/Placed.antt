@@ -9,11 +9,11 @@ use Rattle.std.proofs.lemmas.List.Sums.{fold-append}
 use Rattle.indexmap.specs.IndexSet.{insert_all}
 use Rattle.assert_syntax.specs.declared.form.Span.{Span}
 use Rattle.assert_syntax.specs.declared.form.Span.TheVariants as span
-use Rattle.assert_syntax.specs.declared.place.Place.{Place}
-use Rattle.assert_syntax.specs.declared.place.Place.TheVariants.{Start, Assertion, Graph, Edge, Ended}
+use Rattle.assert_syntax.specs.declared.position.Position.{Position}
+use Rattle.assert_syntax.specs.declared.position.Position.TheVariants.{Start, Assertion, Graph, Edge, Ended}
 use Rattle.assert_syntax.specs.Forms.{Entry, Form}
 use Rattle.assert_syntax.specs.Forms as form
-use Rattle.assert_syntax.specs.Places.{Context, context_behind, context_of, edges_behind, holds_edges, may_stand, names_behind, place_behind, span_fits, vars_behind, vertices_behind}
+use Rattle.assert_syntax.specs.Places.{Context, context_behind, context_of, edges_behind, holds_edges, may_stand_at, names_behind, position_behind, span_fits, vars_behind, vertices_behind}
 use Rattle.assert_syntax.specs.Rules.{ClauseStands, HasForm, IsFirst, IsBehind, IsGraphAt, Stands, declared, declares, forms_of, mentions, names_task, opens, starts_edge, tasks_named}
 
 up_to : (k i : ℕ) → k < suc i → (k ≡ i) ⊎ (k < i)
@@ -25,13 +25,13 @@ one_form lines i a b x y = cc (x, y)
 moved : (lines : List Entry) (k i : ℕ) (form : Form) → k ≡ i → HasForm lines k form → HasForm lines i form
 moved lines k i form e has = subst (λ n. HasForm lines n form) e has
 
--- the nearest place that was opened before a line
-abbrev pub IsAt : List Entry → ℕ → Place → Type 0
+-- the nearest position that was opened before a line
+abbrev pub IsAt : List Entry → ℕ → Position → Type 0
 IsAt lines i Start = IsFirst lines i
-IsAt lines i place = IsBehind lines i place
+IsAt lines i position = IsBehind lines i position
 
-behind_on : (lines : List Entry) (i : ℕ) (place : Place) (form : Form) → IsBehind lines i place → HasForm lines i form → opens form ≡ None → IsBehind lines (suc i) place
-behind_on lines i place form b has none = record {
+behind_on : (lines : List Entry) (i : ℕ) (position : Position) (form : Form) → IsBehind lines i position → HasForm lines i form → opens form ≡ None → IsBehind lines (suc i) position
+behind_on lines i position form b has none = record {
   start = b.start;
   head = b.head;
   earlier = omega (arith, b.earlier);
@@ -40,35 +40,35 @@ behind_on lines i place form b has none = record {
   nearest = λ k other above below is. elim (up_to k i below) [ inr before ↦ b.nearest k other above before is | inl same ↦ ap opens (one_form lines i other form (moved lines k i other same is) has) ∙ none ];
 }
 
-behind_here : (lines : List Entry) (i : ℕ) (place : Place) (form : Form) → HasForm lines i form → opens form ≡ Some place → IsBehind lines (suc i) place
-behind_here lines i place form has some = record { start = i; head = form; earlier = omega arith; here = has; opened = some; nearest = λ k other above below is. absurd (omega (arith, above, below)) }
+behind_here : (lines : List Entry) (i : ℕ) (position : Position) (form : Form) → HasForm lines i form → opens form ≡ Some position → IsBehind lines (suc i) position
+behind_here lines i position form has some = record { start = i; head = form; earlier = omega arith; here = has; opened = some; nearest = λ k other above below is. absurd (omega (arith, above, below)) }
 
 first_on : (lines : List Entry) (i : ℕ) (form : Form) → IsFirst lines i → HasForm lines i form → opens form ≡ None → IsFirst lines (suc i)
 first_on lines i form first has none = λ k other below is. elim (up_to k i below) [ inr before ↦ first k other before is | inl same ↦ ap opens (one_form lines i other form (moved lines k i other same is) has) ∙ none ]
 
-at_on : (lines : List Entry) (i : ℕ) (place : Place) (form : Form) → IsAt lines i place → HasForm lines i form → opens form ≡ None → IsAt lines (suc i) place
+at_on : (lines : List Entry) (i : ℕ) (position : Position) (form : Form) → IsAt lines i position → HasForm lines i form → opens form ≡ None → IsAt lines (suc i) position
 at_on lines i Start form at has none = first_on lines i form at has none
 at_on lines i Assertion form at has none = behind_on lines i Assertion form at has none
 at_on lines i Graph form at has none = behind_on lines i Graph form at has none
 at_on lines i Edge form at has none = behind_on lines i Edge form at has none
 at_on lines i Ended form at has none = behind_on lines i Ended form at has none
 
--- the place behind a line
-place_on : (lines : List Entry) (i : ℕ) (place : Place) (form : Form) → IsAt lines i place → HasForm lines i form → IsAt lines (suc i) (place_behind form place)
-place_on lines i place (form.vars names) at has = at_on lines i place (form.vars names) at has refl
-place_on lines i place (form.ste name reset) at has = behind_here lines i Assertion (form.ste name reset) has refl
-place_on lines i place (form.gste name vertex reset) at has = behind_here lines i Graph (form.gste name vertex reset) has refl
-place_on lines i place (form.edge from to) at has = behind_here lines i Edge (form.edge from to) has refl
-place_on lines i place (form.clause clause) at has = at_on lines i place (form.clause clause) at has refl
-place_on lines i place (form.weak node times) at has =
-    at_on lines i place (form.weak node times) at has refl
-place_on lines i place form.ending at has = behind_here lines i Ended form.ending has refl
-place_on lines i place form.wrong at has = at_on lines i place form.wrong at has refl
+-- the position behind a line
+position_on : (lines : List Entry) (i : ℕ) (position : Position) (form : Form) → IsAt lines i position → HasForm lines i form → IsAt lines (suc i) (position_behind form position)
+position_on lines i position (form.vars names) at has = at_on lines i position (form.vars names) at has refl
+position_on lines i position (form.ste name reset) at has = behind_here lines i Assertion (form.ste name reset) has refl
+position_on lines i position (form.gste name vertex reset) at has = behind_here lines i Graph (form.gste name vertex reset) has refl
+position_on lines i position (form.edge from to) at has = behind_here lines i Edge (form.edge from to) has refl
+position_on lines i position (form.clause clause) at has = at_on lines i position (form.clause clause) at has refl
+position_on lines i position (form.weak node times) at has =
+    at_on lines i position (form.weak node times) at has refl
+position_on lines i position form.ending at has = behind_here lines i Ended form.ending has refl
+position_on lines i position form.wrong at has = at_on lines i position form.wrong at has refl
 
-one_place : (a b : Place) → Some a ≡ Some b → a ≡ b
-one_place a b e = cc
+one_position : (a b : Position) → Some a ≡ Some b → a ≡ b
+one_position a b e = cc
 
-some_none : (p : Place) → Some p ≡ None → ⊥
+some_none : (p : Position) → Some p ≡ None → ⊥
 some_none p e = absurd (cc e)
 
 three_ways : (b c : Bool) (k i : ℕ) → nat_lt k i ≡ b → nat_lt i k ≡ c → (k < i) ⊎ ((k ≡ i) ⊎ (i < k))
@@ -79,26 +79,26 @@ three_ways false false k i e f = inr (inl (grind (arith, e, f)))
 up_to_three : (k i : ℕ) → (k < i) ⊎ ((k ≡ i) ⊎ (i < k))
 up_to_three k i = three_ways (nat_lt k i) (nat_lt i k) k i refl refl
 
--- only one place was opened nearest before a line
-one_behind : (lines : List Entry) (i : ℕ) (a b : Place) → IsBehind lines i a → IsBehind lines i b → a ≡ b
+-- only one position was opened nearest before a line
+one_behind : (lines : List Entry) (i : ℕ) (a b : Position) → IsBehind lines i a → IsBehind lines i b → a ≡ b
 one_behind lines i a b x y = elim (up_to_three x.start y.start) [
   | inl less ↦ absurd (some_none b (sym y.opened ∙ x.nearest y.start y.head less y.earlier y.here))
-  | inr (inl same) ↦ one_place a b (sym x.opened ∙ ap opens (one_form lines y.start x.head y.head (moved lines x.start y.start x.head same x.here) y.here) ∙ y.opened)
+  | inr (inl same) ↦ one_position a b (sym x.opened ∙ ap opens (one_form lines y.start x.head y.head (moved lines x.start y.start x.head same x.here) y.here) ∙ y.opened)
   | inr (inr more) ↦ absurd (some_none a (sym x.opened ∙ y.nearest x.start x.head more x.earlier x.here))
 ]
 
-first_behind : (lines : List Entry) (i : ℕ) (a : Place) → IsFirst lines i → IsBehind lines i a → ⊥
+first_behind : (lines : List Entry) (i : ℕ) (a : Position) → IsFirst lines i → IsBehind lines i a → ⊥
 first_behind lines i a first b = let e = sym b.opened ∙ first b.start b.head b.earlier b.here in absurd (cc e)
 
--- a place that was opened is the one that is kept
-at_behind : (lines : List Entry) (i : ℕ) (place a : Place) → IsAt lines i place → IsBehind lines i a → place ≡ a
+-- a position that was opened is the one that is kept
+at_behind : (lines : List Entry) (i : ℕ) (position a : Position) → IsAt lines i position → IsBehind lines i a → position ≡ a
 at_behind lines i Start a at b = absurd (first_behind lines i a at b)
 at_behind lines i Assertion a at b = one_behind lines i Assertion a at b
 at_behind lines i Graph a at b = one_behind lines i Graph a at b
 at_behind lines i Edge a at b = one_behind lines i Edge a at b
 at_behind lines i Ended a at b = one_behind lines i Ended a at b
 
-at_first : (lines : List Entry) (i : ℕ) (place : Place) → IsAt lines i place → IsFirst lines i → place ≡ Start
+at_first : (lines : List Entry) (i : ℕ) (position : Position) → IsAt lines i position → IsFirst lines i → position ≡ Start
 at_first lines i Start at first = refl
 at_first lines i Assertion at first = absurd (first_behind lines i Assertion first at)
 at_first lines i Graph at first = absurd (first_behind lines i Graph first at)
@@ -106,7 +106,7 @@ at_first lines i Edge at first = absurd (first_behind lines i Edge first at)
 at_first lines i Ended at first = absurd (first_behind lines i Ended first at)
 
 -- a clause or a weakening with these times may stand
-clause_stands : (lines : List Entry) (i : ℕ) (place : Place) (times : Span) → IsAt lines i place → span_fits times place ≡ true → ClauseStands lines i times
+clause_stands : (lines : List Entry) (i : ℕ) (position : Position) (times : Span) → IsAt lines i position → span_fits times position ≡ true → ClauseStands lines i times
 clause_stands lines i Edge span.Absent at may = at
 clause_stands lines i Start span.Absent at may = absurd (cc may)
 clause_stands lines i Assertion span.Absent at may = absurd (cc may)
@@ -123,48 +123,48 @@ clause_stands lines i Graph span.Late at may = absurd (cc may)
 clause_stands lines i Edge span.Late at may = absurd (cc may)
 clause_stands lines i Ended span.Late at may = absurd (cc may)
 
-clause_stands_not : (lines : List Entry) (i : ℕ) (place : Place) (times : Span) → IsAt lines i place → span_fits times place ≡ false → ¬ ClauseStands lines i times
-clause_stands_not lines i place span.Absent at may b = let e = sym (ap (span_fits span.Absent) (at_behind lines i place Edge at b)) ∙ may in absurd (cc e)
-clause_stands_not lines i place (span.During x y) at may b = let e = sym (ap (span_fits (span.During x y)) (at_behind lines i place Assertion at b)) ∙ may in absurd (cc e)
-clause_stands_not lines i place span.Late at may b = let e = sym (ap (span_fits span.Late) (at_behind lines i place Assertion at b)) ∙ may in absurd (cc e)
+clause_stands_not : (lines : List Entry) (i : ℕ) (position : Position) (times : Span) → IsAt lines i position → span_fits times position ≡ false → ¬ ClauseStands lines i times
+clause_stands_not lines i position span.Absent at may b = let e = sym (ap (span_fits span.Absent) (at_behind lines i position Edge at b)) ∙ may in absurd (cc e)
+clause_stands_not lines i position (span.During x y) at may b = let e = sym (ap (span_fits (span.During x y)) (at_behind lines i position Assertion at b)) ∙ may in absurd (cc e)
+clause_stands_not lines i position span.Late at may b = let e = sym (ap (span_fits span.Late) (at_behind lines i position Assertion at b)) ∙ may in absurd (cc e)
 
 -- a line that may stand by what is kept stands
-pub stands : (lines : List Entry) (i : ℕ) (place : Place) (form : Form) → IsAt lines i place → may_stand form place ≡ true → Stands lines i form
+pub stands : (lines : List Entry) (i : ℕ) (position : Position) (form : Form) → IsAt lines i position → may_stand_at form position ≡ true → Stands lines i form
 stands lines i Start (form.vars names) at may = at
 stands lines i Assertion (form.vars names) at may = absurd (cc may)
 stands lines i Graph (form.vars names) at may = absurd (cc may)
 stands lines i Edge (form.vars names) at may = absurd (cc may)
 stands lines i Ended (form.vars names) at may = absurd (cc may)
-stands lines i place (form.ste name reset) at may = tt
-stands lines i place (form.gste name vertex reset) at may = tt
+stands lines i position (form.ste name reset) at may = tt
+stands lines i position (form.gste name vertex reset) at may = tt
 stands lines i Start (form.edge from to) at may = absurd (cc may)
 stands lines i Assertion (form.edge from to) at may = absurd (cc may)
 stands lines i Graph (form.edge from to) at may = inl at
 stands lines i Edge (form.edge from to) at may = inr at
 stands lines i Ended (form.edge from to) at may = absurd (cc may)
-stands lines i place (form.clause clause) at may = clause_stands lines i place clause.span at may
-stands lines i place (form.weak node times) at may = clause_stands lines i place times at may
+stands lines i position (form.clause clause) at may = clause_stands lines i position clause.span at may
+stands lines i position (form.weak node times) at may = clause_stands lines i position times at may
 stands lines i Start form.ending at may = absurd (cc may)
 stands lines i Assertion form.ending at may = inl at
 stands lines i Graph form.ending at may = inr (inl at)
 stands lines i Edge form.ending at may = inr (inr at)
 stands lines i Ended form.ending at may = absurd (cc may)
-stands lines i place form.wrong at may = absurd (cc may)
+stands lines i position form.wrong at may = absurd (cc may)
 
 -- a line that may not stand by what is kept does not stand
-pub stands_not : (lines : List Entry) (i : ℕ) (place : Place) (form : Form) → IsAt lines i place → may_stand form place ≡ false → ¬ Stands lines i form
-stands_not lines i place (form.vars names) at may first = let e = sym (ap (may_stand (form.vars names)) (at_first lines i place at first)) ∙ may in absurd (cc e)
-stands_not lines i place (form.ste name reset) at may s = absurd (cc may)
-stands_not lines i place (form.gste name vertex reset) at may s = absurd (cc may)
-stands_not lines i place (form.edge from to) at may (inl b) = let e = sym (ap (may_stand (form.edge from to)) (at_behind lines i place Graph at b)) ∙ may in absurd (cc e)
-stands_not lines i place (form.edge from to) at may (inr b) = let e = sym (ap (may_stand (form.edge from to)) (at_behind lines i place Edge at b)) ∙ may in absurd (cc e)
-stands_not lines i place (form.clause clause) at may s = clause_stands_not lines i place clause.span at may s
-stands_not lines i place (form.weak node times) at may s =
-    clause_stands_not lines i place times at may s
-stands_not lines i place form.ending at may (inl b) = let e = sym (ap (may_stand form.ending) (at_behind lines i place Assertion at b)) ∙ may in absurd (cc e)
-stands_not lines i place form.ending at may (inr (inl b)) = let e = sym (ap (may_stand form.ending) (at_behind lines i place Graph at b)) ∙ may in absurd (cc e)
-stands_not lines i place form.ending at may (inr (inr b)) = let e = sym (ap (may_stand form.ending) (at_behind lines i place Edge at b)) ∙ may in absurd (cc e)
-stands_not lines i place form.wrong at may s = s
+pub stands_not : (lines : List Entry) (i : ℕ) (position : Position) (form : Form) → IsAt lines i position → may_stand_at form position ≡ false → ¬ Stands lines i form
+stands_not lines i position (form.vars names) at may first = let e = sym (ap (may_stand_at (form.vars names)) (at_first lines i position at first)) ∙ may in absurd (cc e)
+stands_not lines i position (form.ste name reset) at may s = absurd (cc may)
+stands_not lines i position (form.gste name vertex reset) at may s = absurd (cc may)
+stands_not lines i position (form.edge from to) at may (inl b) = let e = sym (ap (may_stand_at (form.edge from to)) (at_behind lines i position Graph at b)) ∙ may in absurd (cc e)
+stands_not lines i position (form.edge from to) at may (inr b) = let e = sym (ap (may_stand_at (form.edge from to)) (at_behind lines i position Edge at b)) ∙ may in absurd (cc e)
+stands_not lines i position (form.clause clause) at may s = clause_stands_not lines i position clause.span at may s
+stands_not lines i position (form.weak node times) at may s =
+    clause_stands_not lines i position times at may s
+stands_not lines i position form.ending at may (inl b) = let e = sym (ap (may_stand_at form.ending) (at_behind lines i position Assertion at b)) ∙ may in absurd (cc e)
+stands_not lines i position form.ending at may (inr (inl b)) = let e = sym (ap (may_stand_at form.ending) (at_behind lines i position Graph at b)) ∙ may in absurd (cc e)
+stands_not lines i position form.ending at may (inr (inr b)) = let e = sym (ap (may_stand_at form.ending) (at_behind lines i position Edge at b)) ∙ may in absurd (cc e)
+stands_not lines i position form.wrong at may s = s
 
 -- the forms up to a place, with one more
 take_more : {A : Type 0} (xs : List A) (i : ℕ) (x : A) → slice_get xs i ≡ Some x → take (suc i) xs ≡ take i xs ++ x ∷ []
@@ -267,7 +267,7 @@ edges_are (form.weak node times) edges apart = omega arith
 edges_are form.ending edges apart = omega arith
 edges_are form.wrong edges apart = omega arith
 
--- one line more of a graph
+-- one more line of a graph
 pub graph_more : (lines : List Entry) (i start : ℕ) (form : Form) (vertices : List (List ℕ)) (edges : ℕ) → start ≤ i → HasForm lines i form → (opens form ≡ Some Graph → ⊥) → GraphTold lines i start vertices edges → GraphTold lines (suc i) start (vertices_behind form vertices) (edges_behind form edges)
 graph_more lines i start form vertices edges h has apart told =
     let w = drop start (take i (forms_of lines)) in
@@ -284,7 +284,7 @@ graph_starts lines i name vertex reset has =
 
 -- what the lines before place i say is kept so
 pub record Told (lines : List Entry) (i : ℕ) (c : Context) : Type 0 where
-  pub place : IsAt lines i c.place
+  pub position : IsAt lines i c.place
   pub vars : c.vars ≡ declared lines i
   pub names : c.names ≡ tasks_named lines i
   pub graph : (start : ℕ) → IsGraphAt lines i start → GraphTold lines i start c.vertices c.edges
@@ -307,7 +307,7 @@ graph_told lines i c (form.weak node times) told has start g =
 graph_told lines i c form.ending told has start g = graph_kept lines i c form.ending told has (λ e. absurd (cc e)) start g
 graph_told lines i c form.wrong told has start g = graph_kept lines i c form.wrong told has (λ e. absurd (cc e)) start g
 
-still_started : (lines : List Entry) (i : ℕ) (c : Context) (form : Form) → Told lines i c → HasForm lines i form → may_stand form c.place ≡ true → holds_edges (place_behind form c.place) ≡ true → (start : ℕ) × IsGraphAt lines (suc i) start
+still_started : (lines : List Entry) (i : ℕ) (c : Context) (form : Form) → Told lines i c → HasForm lines i form → may_stand_at form c.place ≡ true → holds_edges (position_behind form c.place) ≡ true → (start : ℕ) × IsGraphAt lines (suc i) start
 still_started lines i c (form.gste name vertex reset) told has may h = (i, graph_here lines i (form.gste name vertex reset) has refl)
 still_started lines i c (form.vars names) told has may h = let s = told.started h in (s.0, graph_on lines i s.0 (form.vars names) s.1 has (λ e. absurd (cc e)))
 still_started lines i c (form.ste name reset) told has may h = absurd (cc h)
@@ -319,10 +319,10 @@ still_started lines i c (form.weak node times) told has may h =
 still_started lines i c form.ending told has may h = absurd (cc h)
 still_started lines i c form.wrong told has may h = absurd (cc may)
 
--- one line more
-pub told_on : (lines : List Entry) (i : ℕ) (c : Context) (form : Form) → Told lines i c → HasForm lines i form → may_stand form c.place ≡ true → Told lines (suc i) (context_behind c form)
+-- one more line
+pub told_on : (lines : List Entry) (i : ℕ) (c : Context) (form : Form) → Told lines i c → HasForm lines i form → may_stand_at form c.place ≡ true → Told lines (suc i) (context_behind c form)
 told_on lines i c form told has may = record {
-  place = place_on lines i c.place form told.place has;
+  position = position_on lines i c.place form told.position has;
   vars = vars_on lines i form c.vars has told.vars;
   names = names_on lines i form c.names has told.names;
   graph = graph_told lines i c form told has;
@@ -332,7 +332,7 @@ told_on lines i c form told has may = record {
 -- before the first line
 pub told_first : (lines : List Entry) → Told lines 0 (context_of [])
 told_first lines = record {
-  place = λ k form below is. absurd (omega (arith, below));
+  position = λ k form below is. absurd (omega (arith, below));
   vars = refl;
   names = refl;
   graph = λ start g. absurd (omega (arith, g.earlier));

@@ -7,8 +7,9 @@ use Rattle.std.proofs.Math.ListN.{get_or-append}
 use Rattle.std.proofs.lemmas.List.{get_or-append-add, map-append}
 use Rattle.std.proofs.lemmas.List.Elements.{All-head, All-tail}
 use Rattle.std.proofs.lemmas.List.Sums.{fold-append, position_or_len_is}
+use Rattle.ste_base.specs.Limits.{most_variables}
 use Rattle.indexmap.specs.IndexSet.{insert_all, insert_key}
-use Rattle.blif_lines.specs.Laws.{spaced}
+use Rattle.blif_lines.specs.Laws.{text_of_words}
 use Rattle.bool_expr.specs.Grammar.{Expression, literal, nesting, single, spelling}
 use Rattle.bool_expr.specs.declared.token.Sign.TheVariants.{Or, Xor, And}
 use Rattle.bool_expr.specs.Read.{Spells, first_unknown, number_in}
@@ -18,16 +19,16 @@ use Rattle.assert_syntax.specs.declared.form.Side.{Side}
 use Rattle.assert_syntax.specs.declared.form.Side.TheVariants.{Antecedent, Consequent}
 use Rattle.assert_syntax.specs.declared.form.Span.{Span}
 use Rattle.assert_syntax.specs.declared.form.Span.TheVariants as span
-use Rattle.assert_syntax.specs.declared.place.Place.{Place}
-use Rattle.assert_syntax.specs.declared.place.Place.TheVariants as place
+use Rattle.assert_syntax.specs.declared.position.Position.{Position}
+use Rattle.assert_syntax.specs.declared.position.Position.TheVariants as position
 use Rattle.assert_syntax.specs.declared.form.LineFault.TheVariants.{Bad}
-use Rattle.assert_syntax.specs.Answer.{entry_of, entries_of}
-use Rattle.assert_syntax.specs.Forms.{Clause, Entry, Form, clause_of, clause_with, expression_length, form_of, guarded, span_of, valued, weak_with}
+use Rattle.assert_syntax.specs.Answer.{task_entry_of, task_entries_of}
+use Rattle.assert_syntax.specs.Forms.{Clause, Entry, Form, clause_of, clause_with, expression_length, task_form_of, guarded_form, span_of, valued_form, weak_with}
 use Rattle.assert_syntax.specs.Forms as form
 use Rattle.assert_syntax.specs.Parses.{Parse, IsParse, IsSpelled, is_deep, tree_over}
-use Rattle.assert_syntax.specs.Places.{Context, clause_fault, context_of, fault_or, first_double, first_fault, graph_fault, holds_edges, names_fault, span_fault, span_fits}
+use Rattle.assert_syntax.specs.Places.{Context, clause_fault, context_of, fault_or, first_double, first_task_fault, graph_fault, holds_edges, names_fault, span_fault, span_fits}
 use Rattle.assert_syntax.specs.Rules.{IsFirstDouble}
-use Rattle.assert_syntax.specs.Spelled.{BindTree, EdgeTree, MarkTree, QuintTree, WeakTree, assertion, graph, bind_said, binds_of, edges_of, from_of, is_side, marks_of, quint_said, quints_of, tasks_of, to_of, vars_with, vertex_number, vertices_of, weaks_of}
+use Rattle.assert_syntax.specs.Spelled.{RawBindTree, RawEdgeTree, MarkTree, RawQuintTree, RawWeakTree, assertion, graph, bind_said, binds_of, edges_of, from_of, is_side, marks_of, quint_said, quints_of, tasks_of, to_of, vars_with, vertex_number, vertices_of, weaks_of}
 use Rattle.assert_syntax.specs.Words.{ends_expression, is_variable}
 use Rattle.assert_syntax.specs.Written.{SaidClause, SaidEdge, SaidTask, SaidTimes, SaidWeak, ste, gste, AreSayable, AreTimes, IsBindSaid, IsEdgeSaid, IsExpression, IsGuard, IsQuintSaid, IsSayable, IsTimed, WrittenIsRead, clause_line, clause_words, edge_lines, ends_of, guard_text, guard_words, line_of, on_side, reset_words, said_bind, said_edge, said_from, said_mark, said_name, said_quint, said_task, said_to, said_weak, side_word, task_lines, times_words, vars_lines, vertices_said, weak_line, written}
 use Rattle.assert_syntax.proofs.Faults.{fault_from, same_fault}
@@ -40,7 +41,7 @@ said_span None = span.Absent
 said_span (Some times) = span.During times.from times.to
 
 abbrev said_clause : SaidClause → Clause
-said_clause c = record { side = c.side; node = c.node; value = spaced c.value; guard = guard_text c.guard; span = said_span c.times }
+said_clause c = record { side = c.side; node = c.node; value = text_of_words c.value; guard = guard_text c.guard; span = said_span c.times }
 
 -- the lines with their forms
 abbrev entry : ℕ → Form → Entry
@@ -103,35 +104,35 @@ abbrev IsOpen : Option (List (List ℕ)) → Type 0
 IsOpen None = Unit {0}
 IsOpen (Some words) = All (λ word. ends_expression word ≡ false) words
 
-guard_form : (side : Side) (node value : List ℕ) (words : List (List ℕ)) (times : Option SaidTimes) → All (λ word. ends_expression word ≡ false) words → AreSaid times → guarded side node value (words ++ times_words times) ≡ form.clause (record { side = side; node = node; value = value; guard = spaced words; span = said_span times })
+guard_form : (side : Side) (node value : List ℕ) (words : List (List ℕ)) (times : Option SaidTimes) → All (λ word. ends_expression word ≡ false) words → AreSaid times → guarded_form side node value (words ++ times_words times) ≡ form.clause (record { side = side; node = node; value = value; guard = text_of_words words; span = said_span times })
 guard_form side node value words times goes said =
     let rest = times_words times in
-    ap (λ n. clause_with side node value (spaced (take n (words ++ rest))) (span_of (drop n (words ++ rest)))) (up_to_end words rest goes (times_end times))
-    ∙ ap (λ k. clause_with side node value (spaced k) (span_of (drop (length words) (words ++ rest)))) (take-append_seam words rest)
-    ∙ ap (λ k. clause_with side node value (spaced words) (span_of k)) (drop-append_seam words rest)
-    ∙ ap (clause_with side node value (spaced words)) (span_is times said)
+    ap (λ n. clause_with side node value (text_of_words (take n (words ++ rest))) (span_of (drop n (words ++ rest)))) (up_to_end words rest goes (times_end times))
+    ∙ ap (λ k. clause_with side node value (text_of_words k) (span_of (drop (length words) (words ++ rest)))) (take-append_seam words rest)
+    ∙ ap (λ k. clause_with side node value (text_of_words words) (span_of k)) (drop-append_seam words rest)
+    ∙ ap (clause_with side node value (text_of_words words)) (span_is times said)
 
-valued_form : (side : Side) (node value : List ℕ) (guard : Option (List (List ℕ))) (times : Option SaidTimes) → IsOpen guard → AreSaid times → valued side node value (guard_words guard ++ times_words times) ≡ form.clause (record { side = side; node = node; value = value; guard = guard_text guard; span = said_span times })
-valued_form side node value None None goes said = refl
-valued_form side node value None (Some times) goes said = ap (clause_with side node value (codes "1")) (span_is (Some times) said)
-valued_form side node value (Some words) times goes said = guard_form side node value words times goes said
+valued_is : (side : Side) (node value : List ℕ) (guard : Option (List (List ℕ))) (times : Option SaidTimes) → IsOpen guard → AreSaid times → valued_form side node value (guard_words guard ++ times_words times) ≡ form.clause (record { side = side; node = node; value = value; guard = guard_text guard; span = said_span times })
+valued_is side node value None None goes said = refl
+valued_is side node value None (Some times) goes said = ap (clause_with side node value (codes "1")) (span_is (Some times) said)
+valued_is side node value (Some words) times goes said = guard_form side node value words times goes said
 
-behind_equals : (side : Side) (node : List ℕ) (value rest : List (List ℕ)) → All (λ word. ends_expression word ≡ false) value → Ends rest → clause_of side (node ∷ codes "=" ∷ (value ++ rest)) ≡ valued side node (spaced value) rest
+behind_equals : (side : Side) (node : List ℕ) (value rest : List (List ℕ)) → All (λ word. ends_expression word ≡ false) value → Ends rest → clause_of side (node ∷ codes "=" ∷ (value ++ rest)) ≡ valued_form side node (text_of_words value) rest
 behind_equals side node value rest goes ends =
-    ap (λ n. valued side node (spaced (take n (value ++ rest))) (drop n (value ++ rest))) (up_to_end value rest goes ends)
-    ∙ ap (λ k. valued side node (spaced k) (drop (length value) (value ++ rest))) (take-append_seam value rest)
-    ∙ ap (valued side node (spaced value)) (drop-append_seam value rest)
+    ap (λ n. valued_form side node (text_of_words (take n (value ++ rest))) (drop n (value ++ rest))) (up_to_end value rest goes ends)
+    ∙ ap (λ k. valued_form side node (text_of_words k) (drop (length value) (value ++ rest))) (take-append_seam value rest)
+    ∙ ap (valued_form side node (text_of_words value)) (drop-append_seam value rest)
 
-side_form : (side : Side) (words : List (List ℕ)) → form_of (side_word side ∷ words) ≡ clause_of side words
+side_form : (side : Side) (words : List (List ℕ)) → task_form_of (side_word side ∷ words) ≡ clause_of side words
 side_form Antecedent words = refl
 side_form Consequent words = refl
 
-clause_form : (c : SaidClause) → All (λ word. ends_expression word ≡ false) c.value → IsOpen c.guard → AreSaid c.times → form_of (clause_words c) ≡ form.clause (said_clause c)
+clause_form : (c : SaidClause) → All (λ word. ends_expression word ≡ false) c.value → IsOpen c.guard → AreSaid c.times → task_form_of (clause_words c) ≡ form.clause (said_clause c)
 clause_form c value guard times =
     let rest = guard_words c.guard ++ times_words c.times in
     side_form c.side (c.node ∷ codes "=" ∷ (c.value ++ rest))
     ∙ behind_equals c.side c.node c.value rest value (guard_ends c.guard c.times)
-    ∙ valued_form c.side c.node (spaced c.value) c.guard c.times guard times
+    ∙ valued_is c.side c.node (text_of_words c.value) c.guard c.times guard times
 
 open_guard : (vars : List (List ℕ)) (guard : Option (List (List ℕ))) → IsGuard vars guard → IsOpen guard
 open_guard vars None g = tt
@@ -145,35 +146,35 @@ bind_times : (times : Option SaidTimes) → times ≡ None → AreSaid times
 bind_times None e = tt
 bind_times (Some times) e = absurd (cc e)
 
-one_spelled : (c : SaidClause) → form_of (clause_words c) ≡ form.clause (said_clause c) → entry_of (clause_line c) ≡ clause_entry c
+one_spelled : (c : SaidClause) → task_form_of (clause_words c) ≡ form.clause (said_clause c) → task_entry_of (clause_line c) ≡ clause_entry c
 one_spelled c e = ap (entry c.line) e
 
-quints_spelled : (vars : List (List ℕ)) (cs : List SaidClause) → All (IsQuintSaid vars) cs → entries_of (map clause_line cs) ≡ map clause_entry cs
+quints_spelled : (vars : List (List ℕ)) (cs : List SaidClause) → All (IsQuintSaid vars) cs → task_entries_of (map clause_line cs) ≡ map clause_entry cs
 quints_spelled vars [] all = refl
 quints_spelled vars (c ∷ cs) all =
     let h = All-head (IsQuintSaid vars) c cs all in
-    ap (λ e. e ∷ entries_of (map clause_line cs)) (one_spelled c (clause_form c h.value.goes_on (open_guard vars c.guard h.guard) (quint_times c.times h.times)))
+    ap (λ e. e ∷ task_entries_of (map clause_line cs)) (one_spelled c (clause_form c h.value.goes_on (open_guard vars c.guard h.guard) (quint_times c.times h.times)))
     ∙ ap (λ es. clause_entry c ∷ es) (quints_spelled vars cs (All-tail (IsQuintSaid vars) c cs all))
 
-binds_spelled : (vars : List (List ℕ)) (cs : List SaidClause) → All (IsBindSaid vars) cs → entries_of (map clause_line cs) ≡ map clause_entry cs
+binds_spelled : (vars : List (List ℕ)) (cs : List SaidClause) → All (IsBindSaid vars) cs → task_entries_of (map clause_line cs) ≡ map clause_entry cs
 binds_spelled vars [] all = refl
 binds_spelled vars (c ∷ cs) all =
     let h = All-head (IsBindSaid vars) c cs all in
-    ap (λ e. e ∷ entries_of (map clause_line cs)) (one_spelled c (clause_form c h.value.goes_on (open_guard vars c.guard h.guard) (bind_times c.times h.times)))
+    ap (λ e. e ∷ task_entries_of (map clause_line cs)) (one_spelled c (clause_form c h.value.goes_on (open_guard vars c.guard h.guard) (bind_times c.times h.times)))
     ∙ ap (λ es. clause_entry c ∷ es) (binds_spelled vars cs (All-tail (IsBindSaid vars) c cs all))
 
 -- weakenings
-weak_spelled : (w : SaidWeak) → AreSaid w.times → entry_of (weak_line w) ≡ weak_entry w
+weak_spelled : (w : SaidWeak) → AreSaid w.times → task_entry_of (weak_line w) ≡ weak_entry w
 weak_spelled w said = ap (λ times. entry w.line (weak_with w.node times)) (span_is w.times said)
 
 abbrev WeaksSaid : List SaidWeak → Type 0
 WeaksSaid ws = All (λ w. AreSaid w.times) ws
 
 weaks_spelled : (ws : List SaidWeak) → WeaksSaid ws →
-    entries_of (map weak_line ws) ≡ map weak_entry ws
+    task_entries_of (map weak_line ws) ≡ map weak_entry ws
 weaks_spelled [] all = refl
 weaks_spelled (w ∷ ws) all =
-    ap (λ e. e ∷ entries_of (map weak_line ws))
+    ap (λ e. e ∷ task_entries_of (map weak_line ws))
     (weak_spelled w (All-head (λ w. AreSaid w.times) w ws all))
     ∙ ap (λ es. weak_entry w ∷ es)
     (weaks_spelled ws (All-tail (λ w. AreSaid w.times) w ws all))
@@ -185,72 +186,72 @@ bare_weaks : (ws : List SaidWeak) → All (λ w. w.times ≡ None) ws → WeaksS
 bare_weaks ws all = λ k d h. bind_times (get_or ws k d).times (all k d h)
 
 edge_spelled : (vars : List (List ℕ)) (e : SaidEdge) → IsEdgeSaid vars e →
-    entries_of (edge_lines e) ≡ edge_entries e
+    task_entries_of (edge_lines e) ≡ edge_entries e
 edge_spelled vars e said =
-    let inner : entries_of (map clause_line e.clauses ++ map weak_line e.weaks)
+    let inner : task_entries_of (map clause_line e.clauses ++ map weak_line e.weaks)
     ≡ map clause_entry e.clauses ++ map weak_entry e.weaks =
-    map-append entry_of (map clause_line e.clauses) (map weak_line e.weaks)
-    ∙ ap (λ k. k ++ entries_of (map weak_line e.weaks))
+    map-append task_entry_of (map clause_line e.clauses) (map weak_line e.weaks)
+    ∙ ap (λ k. k ++ task_entries_of (map weak_line e.weaks))
     (binds_spelled vars e.clauses said.clauses)
     ∙ ap (λ k. map clause_entry e.clauses ++ k)
     (weaks_spelled e.weaks (bare_weaks e.weaks said.weaks)) in
     ap (λ k. entry e.line (form.edge e.from e.to) ∷ k) inner
 
 edges_spelled : (vars : List (List ℕ)) (es : List SaidEdge) → All (IsEdgeSaid vars) es →
-    entries_of (flat_map edge_lines es) ≡ flat_map edge_entries es
+    task_entries_of (flat_map edge_lines es) ≡ flat_map edge_entries es
 edges_spelled vars [] all = refl
 edges_spelled vars (e ∷ es) all =
-    map-append entry_of (edge_lines e) (flat_map edge_lines es)
-    ∙ ap (λ k. k ++ entries_of (flat_map edge_lines es))
+    map-append task_entry_of (edge_lines e) (flat_map edge_lines es)
+    ∙ ap (λ k. k ++ task_entries_of (flat_map edge_lines es))
     (edge_spelled vars e (All-head (IsEdgeSaid vars) e es all))
     ∙ ap (λ k. edge_entries e ++ k) (edges_spelled vars es (All-tail (IsEdgeSaid vars) e es all))
 
-ste_form : (name : List ℕ) (reset : Bool) → form_of (codes ".ste" ∷ name ∷ reset_words reset) ≡ form.ste name reset
+ste_form : (name : List ℕ) (reset : Bool) → task_form_of (codes ".ste" ∷ name ∷ reset_words reset) ≡ form.ste name reset
 ste_form name true = refl
 ste_form name false = refl
 
-gste_form : (name vertex : List ℕ) (reset : Bool) → form_of (codes ".gste" ∷ name ∷ vertex ∷ reset_words reset) ≡ form.gste name vertex reset
+gste_form : (name vertex : List ℕ) (reset : Bool) → task_form_of (codes ".gste" ∷ name ∷ vertex ∷ reset_words reset) ≡ form.gste name vertex reset
 gste_form name vertex true = refl
 gste_form name vertex false = refl
 
-task_spelled : (vars : List (List ℕ)) (t : SaidTask) → IsSayable vars t → entries_of (task_lines t) ≡ task_entries t
+task_spelled : (vars : List (List ℕ)) (t : SaidTask) → IsSayable vars t → task_entries_of (task_lines t) ≡ task_entries t
 task_spelled vars (ste line name reset cs ws) say =
     let last = line_of line (codes ".end" ∷ []) ∷ [] in
-    let weakened : entries_of (map weak_line ws ++ last)
+    let weakened : task_entries_of (map weak_line ws ++ last)
     ≡ map weak_entry ws ++ entry line form.ending ∷ [] =
-    map-append entry_of (map weak_line ws) last
+    map-append task_entry_of (map weak_line ws) last
     ∙ ap (λ k. k ++ entry line form.ending ∷ []) (weaks_spelled ws (timed_weaks ws say.1)) in
-    let inner : entries_of (map clause_line cs ++ (map weak_line ws ++ last))
+    let inner : task_entries_of (map clause_line cs ++ (map weak_line ws ++ last))
     ≡ map clause_entry cs ++ (map weak_entry ws ++ entry line form.ending ∷ []) =
-    map-append entry_of (map clause_line cs) (map weak_line ws ++ last)
-    ∙ ap (λ k. k ++ entries_of (map weak_line ws ++ last)) (quints_spelled vars cs say.0)
+    map-append task_entry_of (map clause_line cs) (map weak_line ws ++ last)
+    ∙ ap (λ k. k ++ task_entries_of (map weak_line ws ++ last)) (quints_spelled vars cs say.0)
     ∙ ap (λ k. map clause_entry cs ++ k) weakened in
-    ap (λ f. entry line f ∷ entries_of (map clause_line cs ++ (map weak_line ws ++ last)))
+    ap (λ f. entry line f ∷ task_entries_of (map clause_line cs ++ (map weak_line ws ++ last)))
     (ste_form name reset)
     ∙ ap (λ k. entry line (form.ste name reset) ∷ k) inner
 task_spelled vars (gste line name vertex reset es) say =
-    ap (λ f. entry line f ∷ entries_of (flat_map edge_lines es ++ line_of line (codes ".end" ∷ []) ∷ [])) (gste_form name vertex reset)
-    ∙ ap (λ k. entry line (form.gste name vertex reset) ∷ k) (map-append entry_of (flat_map edge_lines es) (line_of line (codes ".end" ∷ []) ∷ []) ∙ ap (λ k. k ++ entry line form.ending ∷ []) (edges_spelled vars es say.2))
+    ap (λ f. entry line f ∷ task_entries_of (flat_map edge_lines es ++ line_of line (codes ".end" ∷ []) ∷ [])) (gste_form name vertex reset)
+    ∙ ap (λ k. entry line (form.gste name vertex reset) ∷ k) (map-append task_entry_of (flat_map edge_lines es) (line_of line (codes ".end" ∷ []) ∷ []) ∙ ap (λ k. k ++ entry line form.ending ∷ []) (edges_spelled vars es say.2))
 
-tasks_spelled : (vars : List (List ℕ)) (ts : List SaidTask) → All (IsSayable vars) ts → entries_of (flat_map task_lines ts) ≡ flat_map task_entries ts
+tasks_spelled : (vars : List (List ℕ)) (ts : List SaidTask) → All (IsSayable vars) ts → task_entries_of (flat_map task_lines ts) ≡ flat_map task_entries ts
 tasks_spelled vars [] all = refl
 tasks_spelled vars (t ∷ ts) all =
-    map-append entry_of (task_lines t) (flat_map task_lines ts)
-    ∙ ap (λ k. k ++ entries_of (flat_map task_lines ts)) (task_spelled vars t (All-head (IsSayable vars) t ts all))
+    map-append task_entry_of (task_lines t) (flat_map task_lines ts)
+    ∙ ap (λ k. k ++ task_entries_of (flat_map task_lines ts)) (task_spelled vars t (All-head (IsSayable vars) t ts all))
     ∙ ap (λ k. task_entries t ++ k) (tasks_spelled vars ts (All-tail (IsSayable vars) t ts all))
 
 vars_form : (b : Bool) (names : List (List ℕ)) → b ≡ true → (if b then form.vars names else form.wrong) ≡ form.vars names
 vars_form true names e = refl
 vars_form false names e = absurd (cc e)
 
-vars_spelled : (vars : List (List ℕ)) → list_all is_variable vars ≡ true → entries_of (vars_lines vars) ≡ vars_entries vars
+vars_spelled : (vars : List (List ℕ)) → list_all is_variable vars ≡ true → task_entries_of (vars_lines vars) ≡ vars_entries vars
 vars_spelled [] e = refl
 vars_spelled (name ∷ names) e = ap (λ f. entry 1 f ∷ []) (vars_form (list_all is_variable (name ∷ names)) (name ∷ names) e)
 
-all_spelled : (vars : List (List ℕ)) (ts : List SaidTask) → AreSayable vars ts → entries_of (written vars ts) ≡ vars_entries vars ++ flat_map task_entries ts
+all_spelled : (vars : List (List ℕ)) (ts : List SaidTask) → AreSayable vars ts → task_entries_of (written vars ts) ≡ vars_entries vars ++ flat_map task_entries ts
 all_spelled vars ts say =
-    map-append entry_of (vars_lines vars) (flat_map task_lines ts)
-    ∙ ap (λ k. k ++ entries_of (flat_map task_lines ts)) (vars_spelled vars say.variables)
+    map-append task_entry_of (vars_lines vars) (flat_map task_lines ts)
+    ∙ ap (λ k. k ++ task_entries_of (flat_map task_lines ts)) (vars_spelled vars say.variables)
     ∙ ap (λ k. vars_entries vars ++ k) (tasks_spelled vars ts say.each)
 
 -- what is read
@@ -264,14 +265,14 @@ to_is (Some times) = refl
 
 quint_is : (parse : Parse) (vars : List (List ℕ)) (c : SaidClause) → quint_said parse vars c.line (said_clause c) ≡ said_quint parse vars c
 quint_is parse vars c =
-    ap (λ n. record { line = c.line; guard = tree_over vars (parse (guard_text c.guard)); node = c.node; value = tree_over vars (parse (spaced c.value)); from = n; to = to_of (said_span c.times) }) (from_is c.times)
-    ∙ ap (λ n. record { line = c.line; guard = tree_over vars (parse (guard_text c.guard)); node = c.node; value = tree_over vars (parse (spaced c.value)); from = said_from c.times; to = n }) (to_is c.times)
+    ap (λ n. record { line = c.line; guard = tree_over vars (parse (guard_text c.guard)); node = c.node; value = tree_over vars (parse (text_of_words c.value)); from = n; to = to_of (said_span c.times) }) (from_is c.times)
+    ∙ ap (λ n. record { line = c.line; guard = tree_over vars (parse (guard_text c.guard)); node = c.node; value = tree_over vars (parse (text_of_words c.value)); from = said_from c.times; to = n }) (to_is c.times)
 
 one_more : {A B : Type 0} (b : Bool) (f : A → B) (c : A) (q : B) (ys : List A) (x z : List B) → q ≡ f c → x ≡ map f ys ++ z → (if b then q ∷ x else x) ≡ map f (cond b (c ∷ ys) ys) ++ z
 one_more true f c q ys x z e h = ap (λ k. k ∷ x) e ∙ ap (λ k. f c ∷ k) h
 one_more false f c q ys x z e h = h
 
-abbrev weak_said : ℕ → List ℕ → ℕ → ℕ → WeakTree
+abbrev weak_said : ℕ → List ℕ → ℕ → ℕ → RawWeakTree
 weak_said line node from to = record { line = line; node = node; from = from; to = to }
 
 weak_is : (w : SaidWeak) →
@@ -407,7 +408,7 @@ vertices_read vertices (e ∷ es) rest none =
     ∙ sym (fold-append _ vertices (ends_of e) (flat_map ends_of es))
 
 -- the edges
-abbrev one_edge : ℕ → ℕ → ℕ → List BindTree → List BindTree → List MarkTree → EdgeTree
+abbrev one_edge : ℕ → ℕ → ℕ → List RawBindTree → List RawBindTree → List MarkTree → RawEdgeTree
 one_edge line from to ant con weak =
     record { line = line; from = from; to = to; ant = ant; con = con; weak = weak }
 
@@ -432,7 +433,7 @@ edges_read parse vars vertices all (edge ∷ es) rest e none no_bind no_mark =
     let to : vertex_number more edge.to ≡ vertex_number all edge.to =
     sym (ap (λ vs. vertex_number vs edge.to) whole
     ∙ number_stays more (flat_map ends_of es) edge.to (inserted first edge.to)) in
-    let said : Side → List BindTree =
+    let said : Side → List RawBindTree =
     λ side. map (said_bind parse vars) (on_side side edge.clauses) in
     let side_read : (side : Side) → binds_of parse side vars lines ≡ said side =
     λ side. binds_read parse side vars edge.clauses edge.weaks behind
@@ -485,7 +486,7 @@ task_read : (parse : Parse) (vars : List (List ℕ)) (t : SaidTask) (ts : List S
 task_read parse vars (ste line name reset cs ws) ts =
     let rest = entry line form.ending ∷ Later ts in
     let lines = inside cs ws rest in
-    let said : Side → List QuintTree = λ side. map (said_quint parse vars) (on_side side cs) in
+    let said : Side → List RawQuintTree = λ side. map (said_quint parse vars) (on_side side cs) in
     let side_read : (side : Side) → quints_of parse side vars lines ≡ said side =
     λ side. quints_read parse side vars cs ws rest
     ∙ ap (λ k. said side ++ k) (no_quints parse side vars ts) ∙ append-nil (said side) in
@@ -564,10 +565,10 @@ fine_by vars text (Some e) d is s flat known =
 
 guard_fine : (parse : Parse) (vars : List (List ℕ)) (guard : Option (List (List ℕ))) → IsParse parse → IsGuard vars guard → IsFine vars (parse (guard_text guard))
 guard_fine parse vars None is g = fine_by vars (codes "1") (parse (codes "1")) (single Or (single Xor (single And (literal true)))) (is (codes "1")) refl (omega arith) refl
-guard_fine parse vars (Some words) is g = fine_by vars (spaced words) (parse (spaced words)) g.d (is (spaced words)) g.spells g.flat g.known
+guard_fine parse vars (Some words) is g = fine_by vars (text_of_words words) (parse (text_of_words words)) g.d (is (text_of_words words)) g.spells g.flat g.known
 
-value_fine : (parse : Parse) (vars words : List (List ℕ)) → IsParse parse → IsExpression vars words → IsFine vars (parse (spaced words))
-value_fine parse vars words is g = fine_by vars (spaced words) (parse (spaced words)) g.d (is (spaced words)) g.spells g.flat g.known
+value_fine : (parse : Parse) (vars words : List (List ℕ)) → IsParse parse → IsExpression vars words → IsFine vars (parse (text_of_words words))
+value_fine parse vars words is g = fine_by vars (text_of_words words) (parse (text_of_words words)) g.d (is (text_of_words words)) g.spells g.flat g.known
 
 -- times that are not late
 abbrev IsEarly : Span → Type 0
@@ -587,40 +588,40 @@ fault_none vars value guard times v g t =
     fine_clause (span.During a b) t = rw v.flat (rw g.flat (rw v.known (rw g.known refl)))
     fine_clause span.Late t = absurd t
 
-timed_fits : (times : Option SaidTimes) → IsTimed times → span_fits (said_span times) place.Assertion ≡ true
+timed_fits : (times : Option SaidTimes) → IsTimed times → span_fits (said_span times) position.Assertion ≡ true
 timed_fits None t = absurd t
 timed_fits (Some times) t = refl
 
-bare_fits : (times : Option SaidTimes) → times ≡ None → span_fits (said_span times) place.Edge ≡ true
+bare_fits : (times : Option SaidTimes) → times ≡ None → span_fits (said_span times) position.Edge ≡ true
 bare_fits None e = refl
 bare_fits (Some times) e = absurd (cc e)
 
--- the context of a place
-abbrev context : Place → List (List ℕ) → List (List ℕ) → List (List ℕ) → ℕ → Context
+-- the context of a position
+abbrev context : Position → List (List ℕ) → List (List ℕ) → List (List ℕ) → ℕ → Context
 context at vars names vertices edges = record { place = at; vars = vars; names = names; vertices = vertices; edges = edges }
 
-clause_clean : (parse : Parse) (c : Context) (clause : SaidClause) (rest : List Entry) → span_fits (said_span clause.times) c.place ≡ true → clause_fault c.vars (parse (spaced clause.value)) (parse (guard_text clause.guard)) (said_span clause.times) ≡ None → fault_from parse c (clause_entry clause ∷ rest) ≡ fault_from parse c rest
+clause_clean : (parse : Parse) (c : Context) (clause : SaidClause) (rest : List Entry) → span_fits (said_span clause.times) c.place ≡ true → clause_fault c.vars (parse (text_of_words clause.value)) (parse (guard_text clause.guard)) (said_span clause.times) ≡ None → fault_from parse c (clause_entry clause ∷ rest) ≡ fault_from parse c rest
 clause_clean parse c clause rest fits none =
     ap (λ f. fault_or clause.line f (fault_from parse c rest)) (stood (span_fits (said_span clause.times) c.place) fits none)
   where
-    stood : (b : Bool) → b ≡ true → clause_fault c.vars (parse (spaced clause.value)) (parse (guard_text clause.guard)) (said_span clause.times) ≡ None → (if b then clause_fault c.vars (parse (spaced clause.value)) (parse (guard_text clause.guard)) (said_span clause.times) else Some Bad) ≡ None
+    stood : (b : Bool) → b ≡ true → clause_fault c.vars (parse (text_of_words clause.value)) (parse (guard_text clause.guard)) (said_span clause.times) ≡ None → (if b then clause_fault c.vars (parse (text_of_words clause.value)) (parse (guard_text clause.guard)) (said_span clause.times) else Some Bad) ≡ None
     stood true e n = n
     stood false e n = absurd (cc e)
 
-quints_clean : (parse : Parse) (c : Context) (cs : List SaidClause) (rest : List Entry) → IsParse parse → c.place ≡ place.Assertion → All (IsQuintSaid c.vars) cs → fault_from parse c (map clause_entry cs ++ rest) ≡ fault_from parse c rest
+quints_clean : (parse : Parse) (c : Context) (cs : List SaidClause) (rest : List Entry) → IsParse parse → c.place ≡ position.Assertion → All (IsQuintSaid c.vars) cs → fault_from parse c (map clause_entry cs ++ rest) ≡ fault_from parse c rest
 quints_clean parse c [] rest is at all = refl
 quints_clean parse c (clause ∷ cs) rest is at all =
     let h = All-head (IsQuintSaid c.vars) clause cs all in
     clause_clean parse c clause (map clause_entry cs ++ rest) (ap (span_fits (said_span clause.times)) at ∙ timed_fits clause.times h.times)
-    (fault_none c.vars (parse (spaced clause.value)) (parse (guard_text clause.guard)) (said_span clause.times) (value_fine parse c.vars clause.value is h.value) (guard_fine parse c.vars clause.guard is h.guard) (early clause.times))
+    (fault_none c.vars (parse (text_of_words clause.value)) (parse (guard_text clause.guard)) (said_span clause.times) (value_fine parse c.vars clause.value is h.value) (guard_fine parse c.vars clause.guard is h.guard) (early clause.times))
     ∙ quints_clean parse c cs rest is at (All-tail (IsQuintSaid c.vars) clause cs all)
 
-binds_clean : (parse : Parse) (c : Context) (cs : List SaidClause) (rest : List Entry) → IsParse parse → c.place ≡ place.Edge → All (IsBindSaid c.vars) cs → fault_from parse c (map clause_entry cs ++ rest) ≡ fault_from parse c rest
+binds_clean : (parse : Parse) (c : Context) (cs : List SaidClause) (rest : List Entry) → IsParse parse → c.place ≡ position.Edge → All (IsBindSaid c.vars) cs → fault_from parse c (map clause_entry cs ++ rest) ≡ fault_from parse c rest
 binds_clean parse c [] rest is at all = refl
 binds_clean parse c (clause ∷ cs) rest is at all =
     let h = All-head (IsBindSaid c.vars) clause cs all in
     clause_clean parse c clause (map clause_entry cs ++ rest) (ap (span_fits (said_span clause.times)) at ∙ bare_fits clause.times h.times)
-    (fault_none c.vars (parse (spaced clause.value)) (parse (guard_text clause.guard)) (said_span clause.times) (value_fine parse c.vars clause.value is h.value) (guard_fine parse c.vars clause.guard is h.guard) (early clause.times))
+    (fault_none c.vars (parse (text_of_words clause.value)) (parse (guard_text clause.guard)) (said_span clause.times) (value_fine parse c.vars clause.value is h.value) (guard_fine parse c.vars clause.guard is h.guard) (early clause.times))
     ∙ binds_clean parse c cs rest is at (All-tail (IsBindSaid c.vars) clause cs all)
 
 if_may : (b : Bool) (found : Option LineFault) → b ≡ true → found ≡ None → (if b then found else Some Bad) ≡ None
@@ -631,8 +632,8 @@ not_late : (times : Option SaidTimes) → span_fault (said_span times) ≡ None
 not_late None = refl
 not_late (Some times) = refl
 
--- weakenings whose times fit the place
-abbrev WeaksFit : Place → List SaidWeak → Type 0
+-- weakenings whose times fit the position
+abbrev WeaksFit : Position → List SaidWeak → Type 0
 WeaksFit at ws = All (λ w. span_fits (said_span w.times) at ≡ true) ws
 
 weaks_clean : (parse : Parse) (c : Context) (ws : List SaidWeak) (rest : List Entry) →
@@ -647,10 +648,10 @@ weaks_clean parse c (w ∷ ws) rest all =
     ∙ weaks_clean parse c ws rest
     (All-tail (λ w. span_fits (said_span w.times) c.place ≡ true) w ws all)
 
-timed_fit : (ws : List SaidWeak) → All (λ w. IsTimed w.times) ws → WeaksFit place.Assertion ws
+timed_fit : (ws : List SaidWeak) → All (λ w. IsTimed w.times) ws → WeaksFit position.Assertion ws
 timed_fit ws all = λ k d h. timed_fits (get_or ws k d).times (all k d h)
 
-bare_fit : (ws : List SaidWeak) → All (λ w. w.times ≡ None) ws → WeaksFit place.Edge ws
+bare_fit : (ws : List SaidWeak) → All (λ w. w.times ≡ None) ws → WeaksFit position.Edge ws
 bare_fit ws all = λ k d h. bare_fits (get_or ws k d).times (all k d h)
 
 -- vertices only grow
@@ -668,7 +669,7 @@ all_grow vertices (x ∷ xs) =
 graph_fine : (vertices : List (List ℕ)) (edges : ℕ) → length vertices ≤ 1000 → edges ≤ 10000 → graph_fault vertices edges ≡ None
 graph_fine vertices edges v e = rw (le_true (length vertices) 1000 v) (rw (le_true edges 10000 e) refl)
 
-edges_clean : (parse : Parse) (at : Place) (vars names vertices : List (List ℕ)) (edges : ℕ) (es : List SaidEdge) (rest : List Entry) → IsParse parse → holds_edges at ≡ true → length (insert_all bytes_eq vertices (flat_map ends_of es)) ≤ 1000 → edges + length es ≤ 10000 → All (IsEdgeSaid vars) es → ((next : Place) (vs : List (List ℕ)) (k : ℕ) → holds_edges next ≡ true → fault_from parse (context next vars names vs k) rest ≡ None) → fault_from parse (context at vars names vertices edges) (flat_map edge_entries es ++ rest) ≡ None
+edges_clean : (parse : Parse) (at : Position) (vars names vertices : List (List ℕ)) (edges : ℕ) (es : List SaidEdge) (rest : List Entry) → IsParse parse → holds_edges at ≡ true → length (insert_all bytes_eq vertices (flat_map ends_of es)) ≤ 1000 → edges + length es ≤ 10000 → All (IsEdgeSaid vars) es → ((next : Position) (vs : List (List ℕ)) (k : ℕ) → holds_edges next ≡ true → fault_from parse (context next vars names vs k) rest ≡ None) → fault_from parse (context at vars names vertices edges) (flat_map edge_entries es ++ rest) ≡ None
 edges_clean parse at vars names vertices edges [] rest is holds few most all later = later at vertices edges holds
 edges_clean parse at vars names vertices edges (e ∷ es) rest is holds few most all later =
     let more = insert_all bytes_eq vertices (ends_of e) in
@@ -676,7 +677,7 @@ edges_clean parse at vars names vertices edges (e ∷ es) rest is holds few most
     let few2 : length (insert_all bytes_eq more (flat_map ends_of es)) ≤ 1000 = subst (λ k. length k ≤ 1000) whole few in
     let grown = all_grow more (flat_map ends_of es) in
     let said = All-head (IsEdgeSaid vars) e es all in
-    let now = context place.Edge vars names more (suc edges) in
+    let now = context position.Edge vars names more (suc edges) in
     let behind = flat_map edge_entries es ++ rest in
     let fine : graph_fault more (suc edges) ≡ None = graph_fine more (suc edges) (omega (arith, few2, grown)) (omega (arith, most)) in
     ap (fault_from parse (context at vars names vertices edges)) (edge_apart e es rest)
@@ -684,7 +685,7 @@ edges_clean parse at vars names vertices edges (e ∷ es) rest is holds few most
     (if_may (holds_edges at) (graph_fault more (suc edges)) holds fine)
     ∙ binds_clean parse now e.clauses (map weak_entry e.weaks ++ behind) is refl said.clauses
     ∙ weaks_clean parse now e.weaks behind (bare_fit e.weaks said.weaks)
-    ∙ edges_clean parse place.Edge vars names more (suc edges) es rest is refl few2
+    ∙ edges_clean parse position.Edge vars names more (suc edges) es rest is refl few2
     (omega (arith, most)) (All-tail (IsEdgeSaid vars) e es all) later
 
 -- names
@@ -696,20 +697,20 @@ names_fine : (names : List (List ℕ)) (name : List ℕ) → list_any (bytes_eq 
 names_fine names name new few = rw new (let n = length-append names (name ∷ []) in rw (le_true (length (names ++ name ∷ [])) 256 (omega (arith, n, few))) refl)
 
 -- the end of a graph, and the later tasks
-behind_graph : (parse : Parse) (vars names : List (List ℕ)) (line : ℕ) (ts : List SaidTask) → ((vs : List (List ℕ)) (k : ℕ) → fault_from parse (context place.Ended vars names vs k) (Later ts) ≡ None) → (next : Place) (vs : List (List ℕ)) (k : ℕ) → holds_edges next ≡ true → fault_from parse (context next vars names vs k) (entry line form.ending ∷ Later ts) ≡ None
-behind_graph parse vars names line ts clean place.Graph vs k h = clean vs k
-behind_graph parse vars names line ts clean place.Edge vs k h = clean vs k
-behind_graph parse vars names line ts clean place.Start vs k h = absurd (cc h)
-behind_graph parse vars names line ts clean place.Assertion vs k h = absurd (cc h)
-behind_graph parse vars names line ts clean place.Ended vs k h = absurd (cc h)
+behind_graph : (parse : Parse) (vars names : List (List ℕ)) (line : ℕ) (ts : List SaidTask) → ((vs : List (List ℕ)) (k : ℕ) → fault_from parse (context position.Ended vars names vs k) (Later ts) ≡ None) → (next : Position) (vs : List (List ℕ)) (k : ℕ) → holds_edges next ≡ true → fault_from parse (context next vars names vs k) (entry line form.ending ∷ Later ts) ≡ None
+behind_graph parse vars names line ts clean position.Graph vs k h = clean vs k
+behind_graph parse vars names line ts clean position.Edge vs k h = clean vs k
+behind_graph parse vars names line ts clean position.Start vs k h = absurd (cc h)
+behind_graph parse vars names line ts clean position.Assertion vs k h = absurd (cc h)
+behind_graph parse vars names line ts clean position.Ended vs k h = absurd (cc h)
 
-tasks_clean : (parse : Parse) (at : Place) (vars names vertices : List (List ℕ)) (edges : ℕ) (ts : List SaidTask) → IsParse parse → All (IsSayable vars) ts → first_double names (map said_name ts) ≡ None → length names + length ts ≤ 256 → fault_from parse (context at vars names vertices edges) (Later ts) ≡ None
+tasks_clean : (parse : Parse) (at : Position) (vars names vertices : List (List ℕ)) (edges : ℕ) (ts : List SaidTask) → IsParse parse → All (IsSayable vars) ts → first_double names (map said_name ts) ≡ None → length names + length ts ≤ 256 → fault_from parse (context at vars names vertices edges) (Later ts) ≡ None
 tasks_clean parse at vars names vertices edges [] is all new few = refl
 tasks_clean parse at vars names vertices edges (ste line name reset cs ws ∷ ts) is all new few =
     let say = All-head (IsSayable vars) (ste line name reset cs ws) ts all in
     let fresh = first_new (list_any (bytes_eq name) names) name (first_double (names ++ name ∷ []) (map said_name ts)) new in
     let n = length-append names (name ∷ []) in
-    let now = context place.Assertion vars (names ++ name ∷ []) vertices edges in
+    let now = context position.Assertion vars (names ++ name ∷ []) vertices edges in
     let behind = entry line form.ending ∷ Later ts in
     let before = context at vars names vertices edges in
     ap (λ k. fault_from parse before (entry line (form.ste name reset) ∷ k))
@@ -718,7 +719,7 @@ tasks_clean parse at vars names vertices edges (ste line name reset cs ws ∷ ts
     (names_fine names name fresh.0 (omega (arith, few)))
     ∙ quints_clean parse now cs (map weak_entry ws ++ behind) is refl say.0
     ∙ weaks_clean parse now ws behind (timed_fit ws say.1)
-    ∙ tasks_clean parse place.Ended vars (names ++ name ∷ []) vertices edges ts is
+    ∙ tasks_clean parse position.Ended vars (names ++ name ∷ []) vertices edges ts is
     (All-tail (IsSayable vars) (ste line name reset cs ws) ts all) fresh.1 (omega (arith, n, few))
 tasks_clean parse at vars names vertices edges (gste line name vertex reset es ∷ ts) is all new few =
     let say = All-head (IsSayable vars) (gste line name vertex reset es) ts all in
@@ -726,26 +727,26 @@ tasks_clean parse at vars names vertices edges (gste line name vertex reset es �
     let n = length-append names (name ∷ []) in
     let behind = entry line form.ending ∷ Later ts in
     ap (λ k. fault_from parse (context at vars names vertices edges) (entry line (form.gste name vertex reset) ∷ k)) (ended (flat_map edge_entries es) line ts)
-    ∙ ap (λ f. fault_or line f (fault_from parse (context place.Graph vars (names ++ name ∷ []) (vertex ∷ []) 0) (flat_map edge_entries es ++ behind))) (names_fine names name fresh.0 (omega (arith, few)))
-    ∙ edges_clean parse place.Graph vars (names ++ name ∷ []) (vertex ∷ []) 0 es behind is refl say.0 (omega (arith, say.1)) say.2
-    (behind_graph parse vars (names ++ name ∷ []) line ts (λ vs k. tasks_clean parse place.Ended vars (names ++ name ∷ []) vs k ts is (All-tail (IsSayable vars) (gste line name vertex reset es) ts all) fresh.1 (omega (arith, n, few))))
+    ∙ ap (λ f. fault_or line f (fault_from parse (context position.Graph vars (names ++ name ∷ []) (vertex ∷ []) 0) (flat_map edge_entries es ++ behind))) (names_fine names name fresh.0 (omega (arith, few)))
+    ∙ edges_clean parse position.Graph vars (names ++ name ∷ []) (vertex ∷ []) 0 es behind is refl say.0 (omega (arith, say.1)) say.2
+    (behind_graph parse vars (names ++ name ∷ []) line ts (λ vs k. tasks_clean parse position.Ended vars (names ++ name ∷ []) vs k ts is (All-tail (IsSayable vars) (gste line name vertex reset es) ts all) fresh.1 (omega (arith, n, few))))
 
 once_by : (names : List (List ℕ)) (found : Option (List ℕ)) → first_double [] names ≡ found → ((name : List ℕ) → IsFirstDouble [] names name → ⊥) → first_double [] names ≡ None
 once_by names None e once = e
 once_by names (Some name) e once = absurd (once name (double_found [] names name e))
 
-vars_fine : (vars : List (List ℕ)) → first_double [] vars ≡ None → length vars ≤ 1000 → names_fault 1000 (first_double [] vars) vars ≡ None
-vars_fine vars new few = rw new (rw (le_true (length vars) 1000 few) refl)
+vars_fine : (vars : List (List ℕ)) → first_double [] vars ≡ None → length vars ≤ most_variables → names_fault most_variables (first_double [] vars) vars ≡ None
+vars_fine vars new few = rw new (rw (le_true (length vars) most_variables few) refl)
 
 all_clean : (parse : Parse) (vars : List (List ℕ)) (ts : List SaidTask) → IsParse parse → AreSayable vars ts → fault_from parse (context_of []) (vars_entries vars ++ Later ts) ≡ None
-all_clean parse [] ts is say = tasks_clean parse place.Start [] [] [] 0 ts is say.each (once_by (map said_name ts) (first_double [] (map said_name ts)) refl say.names_once) (let n = say.few_tasks in omega (arith, n))
+all_clean parse [] ts is say = tasks_clean parse position.Start [] [] [] 0 ts is say.each (once_by (map said_name ts) (first_double [] (map said_name ts)) refl say.names_once) (let n = say.few_tasks in omega (arith, n))
 all_clean parse (v ∷ vs) ts is say =
-    ap (λ f. fault_or 1 f (fault_from parse (context place.Start (v ∷ vs) [] [] 0) (Later ts))) (vars_fine (v ∷ vs) (once_by (v ∷ vs) (first_double [] (v ∷ vs)) refl say.vars_once) say.few_vars)
-    ∙ tasks_clean parse place.Start (v ∷ vs) [] [] 0 ts is say.each (once_by (map said_name ts) (first_double [] (map said_name ts)) refl say.names_once) (let n = say.few_tasks in omega (arith, n))
+    ap (λ f. fault_or 1 f (fault_from parse (context position.Start (v ∷ vs) [] [] 0) (Later ts))) (vars_fine (v ∷ vs) (once_by (v ∷ vs) (first_double [] (v ∷ vs)) refl say.vars_once) say.few_vars)
+    ∙ tasks_clean parse position.Start (v ∷ vs) [] [] 0 ts is say.each (once_by (map said_name ts) (first_double [] (map said_name ts)) refl say.names_once) (let n = say.few_tasks in omega (arith, n))
 
 pub written_is_read : WrittenIsRead
 written_is_read = record {
-  sound = λ parse vars ts is say. ap (first_fault parse []) (all_spelled vars ts say) ∙ same_fault parse [] (vars_entries vars ++ Later ts) ∙ all_clean parse vars ts is say;
+  sound = λ parse vars ts is say. ap (first_task_fault parse []) (all_spelled vars ts say) ∙ same_fault parse [] (vars_entries vars ++ Later ts) ∙ all_clean parse vars ts is say;
   vars = λ vars ts say. ap (vars_with []) (all_spelled vars ts say) ∙ vars_read vars ts;
   same = λ parse vars ts say. ap (tasks_of parse []) (all_spelled vars ts say) ∙ all_read parse vars ts;
 }

@@ -4,7 +4,7 @@ use Rattle.bool_expr.specs.declared.expr.Expr.{Expr}
 use Rattle.bool_expr.specs.declared.fault.ExprFault.{ExprFault}
 use Rattle.bool_expr.specs.declared.fault.ExprFault.TheVariants.{BadExpr, TooDeep, UnknownVar, OutOfMemory}
 use Rattle.bool_expr.specs.Grammar.{Expression, spelling, nesting}
-use Rattle.bool_expr.specs.Read.{Spells, IsAnswer, HasCause, first_unknown, number_in}
+use Rattle.bool_expr.specs.Read.{Spells, IsExprAnswer, HasCause, first_unknown, number_in}
 use Rattle.assert_syntax.specs.declared.fault.TaskFault.{TaskFault}
 use Rattle.assert_syntax.specs.declared.form.LineFault.TheVariants.{Deep}
 use Rattle.assert_syntax.specs.declared.form.Span.{Span}
@@ -14,7 +14,7 @@ use Rattle.assert_syntax.specs.Places.{clause_fault, unknown_fault}
 use Rattle.assert_syntax.specs.private.Drafts.{IsRead, IsClauseRead, both_read}
 
 -- what a text is read as, by what it spells
-read_by : (vars : List (List ℕ)) (text : List ℕ) (answer : Result Expr ExprFault) (o : Option Expression) → ((d : Expression) → Spells d text → IsAnswer vars d answer) → HasCause vars text answer → IsSpelled text o → IsRead vars o answer
+read_by : (vars : List (List ℕ)) (text : List ℕ) (answer : Result Expr ExprFault) (o : Option Expression) → ((d : Expression) → Spells d text → IsExprAnswer vars d answer) → HasCause vars text answer → IsSpelled text o → IsRead vars o answer
 read_by vars text answer (Some d) exact cause s = exact d s
 read_by vars text (Ok expr) None exact cause s = absurd (s cause.0 cause.1)
 read_by vars text (Err BadExpr) None exact cause s = tt
@@ -22,10 +22,10 @@ read_by vars text (Err TooDeep) None exact cause s = absurd (s cause.0 cause.1)
 read_by vars text (Err (UnknownVar name)) None exact cause s = absurd (s cause.0 cause.1)
 read_by vars text (Err OutOfMemory) None exact cause s = tt
 
-pub read_as : (vars : List (List ℕ)) (text : List ℕ) (answer : Result Expr ExprFault) → ((d : Expression) → Spells d text → IsAnswer vars d answer) → HasCause vars text answer → (parse : Parse) → IsParse parse → IsRead vars (parse text) answer
+pub read_as : (vars : List (List ℕ)) (text : List ℕ) (answer : Result Expr ExprFault) → ((d : Expression) → Spells d text → IsExprAnswer vars d answer) → HasCause vars text answer → (parse : Parse) → IsParse parse → IsRead vars (parse text) answer
 read_as vars text answer exact cause parse is = read_by vars text answer (parse text) exact cause (is text)
 
--- what a text is read as for which memory is wanting
+-- what a text is read as when memory runs out
 no_memory_by : (vars : List (List ℕ)) (o : Option Expression) → IsRead vars o (Err OutOfMemory)
 no_memory_by vars None = tt
 no_memory_by vars (Some d) = tt

@@ -2,7 +2,7 @@
 use Rattle.std.proofs.Common.{ℕ, ◌+◌, ◌<◌, ◌≡◌, refl, ap, sym, ◌∙◌, List, [], ◌∷◌, ◌++◌, length, get_or, drop, Bool, true, false, not, Option, Some, append_assoc, append-nil, bytes_eq}
 use Rattle.std.specs.List.{list_any}
 use Rattle.std.proofs.lemmas.List.{drop_more}
-use Rattle.blif_lines.specs.Laws.{spaced}
+use Rattle.blif_lines.specs.Laws.{text_of_words}
 use Rattle.assert_syntax.specs.Places.{first_double}
 
 -- words that stand behind another, each with a blank before it
@@ -10,11 +10,11 @@ abbrev pub behind_word : List (List ℕ) → List ℕ
 behind_word [] = []
 behind_word (word ∷ words) = 32 ∷ (word ++ behind_word words)
 
-spaced_is : (word : List ℕ) (words : List (List ℕ)) → word ++ behind_word words ≡ spaced (word ∷ words)
+spaced_is : (word : List ℕ) (words : List (List ℕ)) → word ++ behind_word words ≡ text_of_words (word ∷ words)
 spaced_is word [] = append-nil word
 spaced_is word (next ∷ words) = ap (λ text. word ++ 32 ∷ text) (spaced_is next words)
 
-pub words_begin : (words rest : List (List ℕ)) (word bytes : List ℕ) → words ≡ word ∷ rest → bytes ≡ word → bytes ++ behind_word rest ≡ spaced words
+pub words_begin : (words rest : List (List ℕ)) (word bytes : List ℕ) → words ≡ word ∷ rest → bytes ≡ word → bytes ++ behind_word rest ≡ text_of_words words
 words_begin words rest word bytes e b = rw e (rw b (spaced_is word rest))
 
 all_gone : (xs : List (List ℕ)) → drop (length xs) xs ≡ []

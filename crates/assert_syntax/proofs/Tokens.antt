@@ -6,7 +6,7 @@ use Rattle.std.specs.Prelude.{cond}
 use Rattle.std.specs.List.{flat_map, take_while}
 use Rattle.std.proofs.lemmas.Grind.{flat_map-append}
 use Rattle.ste_base.specs.Bytes.{is_blank, is_letter}
-use Rattle.blif_lines.specs.Laws.{Part, all_words, spaced}
+use Rattle.blif_lines.specs.Laws.{Part, all_words, text_of_words}
 use Rattle.blif_lines.specs.Lines.{is_filled, onto_first, pieces, words_of}
 use Rattle.bool_expr.specs.Tokens.{Token, is_name_byte, tokens_behind, tokens_of, word_token}
 use Rattle.assert_syntax.specs.Texts.{WordsAreTheText}
@@ -39,15 +39,15 @@ parted w (byte ∷ text) more =
     turn_on (w && is_name_byte byte) (is_blank byte) (is_letter byte) _ _ _ _ _ _ _ (tokens_of more) (parted true text more) (parted false text more)
     (ap (λ word. word_token (byte ∷ word)) (same_word text more))
 
-joined_words : (words : List (List ℕ)) → tokens_of (spaced words) ≡ flat_map tokens_of words
+joined_words : (words : List (List ℕ)) → tokens_of (text_of_words words) ≡ flat_map tokens_of words
 joined_words [] = refl
 joined_words (word ∷ []) = sym (append-nil (tokens_of word))
-joined_words (word ∷ next ∷ words) = parted false word (spaced (next ∷ words)) ∙ ap (λ k. tokens_of word ++ k) (joined_words (next ∷ words))
+joined_words (word ∷ next ∷ words) = parted false word (text_of_words (next ∷ words)) ∙ ap (λ k. tokens_of word ++ k) (joined_words (next ∷ words))
 
 -- words that stand in several lines
-broken : (parts : List Part) → flat_map tokens_of (all_words parts) ≡ flat_map (λ part. tokens_of (spaced part.words)) parts
+broken : (parts : List Part) → flat_map tokens_of (all_words parts) ≡ flat_map (λ part. tokens_of (text_of_words part.words)) parts
 broken [] = refl
-broken (part ∷ parts) = flat_map-append tokens_of part.words (all_words parts) ∙ ap (λ k. flat_map tokens_of part.words ++ k) (broken parts) ∙ ap (λ k. k ++ flat_map (λ part. tokens_of (spaced part.words)) parts) (sym (joined_words part.words))
+broken (part ∷ parts) = flat_map-append tokens_of part.words (all_words parts) ∙ ap (λ k. flat_map tokens_of part.words ++ k) (broken parts) ∙ ap (λ k. k ++ flat_map (λ part. tokens_of (text_of_words part.words)) parts) (sym (joined_words part.words))
 
 -- the tokens of pieces, the first of which goes on with a word or not
 abbrev in_pieces : Bool → List (List ℕ) → List Token
@@ -121,7 +121,7 @@ filled [] = refl
 filled ([] ∷ ps) = filled ps
 filled ((byte ∷ piece) ∷ ps) = ap (λ k. tokens_of (byte ∷ piece) ++ k) (filled ps)
 
-same_tokens : (text : List ℕ) → tokens_of (spaced (words_of text)) ≡ tokens_of text
+same_tokens : (text : List ℕ) → tokens_of (text_of_words (words_of text)) ≡ tokens_of text
 same_tokens text = joined_words (words_of text) ∙ filled (pieces is_blank text) ∙ from_start (pieces is_blank text) ∙ in_text false text
 
 pub words_are_the_text : WordsAreTheText

@@ -2,7 +2,7 @@
 use Rattle.std.proofs.Common.{ℕ, ◌≡◌, refl, List, Option, Some, None}
 use Rattle.bool_expr.specs.Grammar.{Expression}
 use Rattle.bool_expr.specs.Tokens.{tokens_of}
-use Rattle.bool_expr.specs.private.Scan.{scan_from, scan_start}
+use Rattle.bool_expr.specs.Scan.{scan_from, scan_start}
 use Rattle.bool_expr.proofs.Answered.{none_spelled, some_spelled}
 use Rattle.assert_syntax.specs.Parses.{Parse, IsParse, IsSpelled}
 

@@ -1,8 +1,8 @@
 //! What the words of an `.ant` or `.con` line say; begin with `clause_of`.
 
 ghost use Rattle.std.specs.Prelude.{◌≡◌, length, take, drop};
-ghost use Rattle.blif_lines.specs.Laws.{spaced};
-ghost use Rattle.assert_syntax.specs.Forms.{span_between, span_of, expression_length, clause_with, guarded, valued, clause_of};
+ghost use Rattle.blif_lines.specs.Laws.{text_of_words};
+ghost use Rattle.assert_syntax.specs.Forms.{span_between, span_of, expression_length, clause_with, guarded_form, valued_form, clause_of};
 ghost use Rattle.assert_syntax.specs.private.Held.{guard_held, form_held};
 
 use crate::form::{Clause, Form, Guard, Moment, Side, Span};
@@ -48,8 +48,9 @@ pub fn span_of(words: &[Name]) -> Option<Span>
     }
 }
 
-/// The words up to the first that ends an expression, or to the end of the line, and the words from there on.
-fn parted(words: &[Name]) -> (&[Name], &[Name])
+/// The words up to the first that ends an expression, or to the end of the line, and the words from
+/// there on.
+fn split_at_end(words: &[Name]) -> (&[Name], &[Name])
     ensures front { result.0.now ≡ take (expression_length words.now) words.now }
     ensures back { result.1.now ≡ drop (expression_length words.now) words.now }
 {
@@ -68,7 +69,7 @@ fn clause_with<'a>(
     span: Option<Span>,
 ) -> Form<'a>
     ensures { form_held result
-        ≡ clause_with side node.now (spaced value.now) (guard_held guard.entry) span }
+        ≡ clause_with side node.now (text_of_words value.now) (guard_held guard.entry) span }
 {
     match span {
         Some(span) => Form::Clause(Clause {
@@ -83,21 +84,21 @@ fn clause_with<'a>(
 }
 
 /// A clause with a guard, by the words behind `when`.
-fn guarded<'a>(side: Side, node: &'a Name, value: &'a [Name], words: &'a [Name]) -> Form<'a>
-    ensures { form_held result ≡ guarded side node.now (spaced value.now) words.now }
+fn guarded_form<'a>(side: Side, node: &'a Name, value: &'a [Name], words: &'a [Name]) -> Form<'a>
+    ensures { form_held result ≡ guarded_form side node.now (text_of_words value.now) words.now }
 {
-    let (guard, rest) = parted(words);
+    let (guard, rest) = split_at_end(words);
     clause_with(side, node, value, Guard::Words(guard), span_of(rest))
 }
 
 /// A clause by the words behind its value.
-fn valued<'a>(side: Side, node: &'a Name, value: &'a [Name], words: &'a [Name]) -> Form<'a>
-    ensures { form_held result ≡ valued side node.now (spaced value.now) words.now }
+fn valued_form<'a>(side: Side, node: &'a Name, value: &'a [Name], words: &'a [Name]) -> Form<'a>
+    ensures { form_held result ≡ valued_form side node.now (text_of_words value.now) words.now }
 {
     if let Some((word, rest)) = words.split_first()
         && is(word.bytes(), "when")
     {
-        return guarded(side, node, value, rest);
+        return guarded_form(side, node, value, rest);
     }
     clause_with(side, node, value, Guard::Absent, span_of(words))
 }
@@ -112,6 +113,6 @@ pub fn clause_of(side: Side, words: &[Name]) -> Form<'_>
     if !is(equals.bytes(), "=") {
         return Form::Wrong;
     }
-    let (value, behind) = parted(rest);
-    valued(side, node, value, behind)
+    let (value, behind) = split_at_end(rest);
+    valued_form(side, node, value, behind)
 }

@@ -1,7 +1,7 @@
 //! The expressions of a clause; begin with `exprs_of`.
 
 ghost use Rattle.std.specs.Prelude.{◌≡◌, ◌<◌, ◌^◌, length};
-ghost use Rattle.blif_lines.specs.Laws.{spaced};
+ghost use Rattle.blif_lines.specs.Laws.{text_of_words};
 ghost use Rattle.assert_syntax.specs.Parses.{Parse, IsParse};
 ghost use Rattle.assert_syntax.specs.private.Drafts.{IsRead, both_read, IsClauseRead};
 ghost use Rattle.assert_syntax.specs.private.Held.{guard_held, clause_held};
@@ -22,11 +22,13 @@ fn text_read(alloc: Global, text: &[u8], vars: &Variables) -> Result<Expr, ExprF
     read_expr_over(alloc, text, vars)
 }
 
-/// Reads the expression of some words, whose text has a blank between two of them. One word is read where it lies.
+/// Reads the expression of some words, whose text has a blank between two of them. One word is read
+/// where it lies.
 #[tactic(auto, using(crate::proofs::ReadBoth::no_memory))]
 fn words_read(alloc: Global, words: &[Name], vars: &Variables) -> Result<Expr, ExprFault>
     requires { length vars.now < 2 ^ 32 }
-    ensures { (parse : Parse) → IsParse parse → IsRead vars.now (parse (spaced words.now)) result }
+    ensures { (parse : Parse) → IsParse parse →
+        IsRead vars.now (parse (text_of_words words.now)) result }
 {
     if let [word] = words {
         return text_read(alloc, word.bytes(), vars);

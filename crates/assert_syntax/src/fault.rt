@@ -10,7 +10,8 @@ use thiserror::Error;
 /// Why lines are not read as tasks. `line` is the number of the first faulty line.
 #[derive(Debug, Drop, Error)]
 pub enum TaskFault {
-    /// The line has none of the forms, stands where it may not, or has a text for an expression that is none.
+    /// The line has none of the forms, stands where it may not, or has a text for an expression
+    /// that is none.
     #[error("bad line")]
     BadLine { line: u32 },
     /// An expression of the line is nested above 100.
@@ -22,14 +23,14 @@ pub enum TaskFault {
     /// An expression of the line uses a variable that is not declared: the first such in the line.
     #[error("unknown variable")]
     UnknownVar { line: u32, name: Name },
-    /// With this line there are more than 1,000 variables, 256 tasks, or 1,000 vertices or 10,000 edges of a graph, or a
-    /// time of the line is above 10,000.
+    /// With this line there are more than 4,000 variables, 256 tasks, or 1,000 vertices or 10,000
+    /// edges of a graph, or a time of the line is above 100,000.
     #[error("too many")]
     TooMany { line: u32 },
     /// No line is faulty, and no line starts a task.
     #[error("no task")]
     NoTask,
-    /// Memory is wanting.
+    /// Out of memory.
     #[error("out of memory")]
     OutOfMemory,
 }

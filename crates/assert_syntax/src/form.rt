@@ -27,9 +27,9 @@ pub enum Side {
 /// What a word says as a time.
 #[derive(Clone, Copy, PartialEq, Eq)]
 pub enum Moment {
-    /// A time of at most 10,000.
+    /// A time of at most 100,000.
     At(Time),
-    /// A number above 10,000.
+    /// A number above 100,000.
     Late,
     /// No number.
     Never,
@@ -42,7 +42,7 @@ pub enum Span {
     Absent,
     /// From the first up to, but not at, the second. The first is not above the second.
     During(Time, Time),
-    /// One of the two is above 10,000.
+    /// One of the two is above 100,000.
     Late,
 }
 
@@ -55,7 +55,8 @@ pub enum Guard<'a> {
     Words(&'a [Name]),
 }
 
-/// A line of an antecedent or of a consequent, over the words of its line. The text of its value may be no expression.
+/// A line of an antecedent or of a consequent, over the words of its line. The text of its value
+/// may be no expression.
 #[derive(Clone, Copy)]
 pub struct Clause<'a> {
     pub side: Side,
@@ -70,9 +71,11 @@ pub struct Clause<'a> {
 pub enum Form<'a> {
     /// A line that declares these variables.
     Vars(&'a [Name]),
-    /// A line that starts an assertion: its name, and whether latches begin with their initial values.
+    /// A line that starts an assertion: its name, and whether latches begin with their initial
+    /// values.
     Ste(&'a Name, bool),
-    /// A line that starts a graph: its name, its initial vertex, and whether latches begin with their initial values.
+    /// A line that starts a graph: its name, its initial vertex, and whether latches begin with
+    /// their initial values.
     Gste(&'a Name, &'a Name, bool),
     /// A line that starts an edge between two vertices.
     Edge(&'a Name, &'a Name),

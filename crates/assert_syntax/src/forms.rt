@@ -1,7 +1,7 @@
 //! The form of a line by its words; begin with `form_of`.
 
 ghost use Rattle.std.specs.Prelude.{◌≡◌};
-ghost use Rattle.assert_syntax.specs.Forms.{vars_of, ste_of, gste_of, edge_of, end_of, form_of};
+ghost use Rattle.assert_syntax.specs.Forms.{vars_of, ste_of, gste_of, edge_of, end_of, task_form_of};
 ghost use Rattle.assert_syntax.specs.Forms.{weak_with, weak_of};
 ghost use Rattle.assert_syntax.specs.private.Held.{form_held};
 
@@ -98,7 +98,7 @@ fn end_of(words: &[Name]) -> Form<'_>
 
 /// What the words of a line spell. It takes no memory.
 pub fn form_of(words: &[Name]) -> Form<'_>
-    ensures { form_held result ≡ form_of words.now }
+    ensures { form_held result ≡ task_form_of words.now }
 {
     let [first, rest @ ..] = words else {
         return Form::Wrong;

@@ -2,20 +2,21 @@
 
 ghost use Rattle.std.specs.Prelude.{◌≡◌, ◌≤◌, ◌<◌, ◌^◌, ◌++◌, ◌∷◌, [], suc, length, Bool, true, not, Some, None, OnOk, IfOk, IfErr, IfNone, bytes_eq};
 ghost use Rattle.std.specs.List.{list_any};
+ghost use Rattle.ste_base.specs.Limits.{most_variables};
 ghost use Rattle.assert_syntax.specs.Forms as form;
 ghost use Rattle.assert_syntax.specs.Places.{context_of, context_behind, first_double, names_fault, graph_fault, vertices_behind};
 ghost use Rattle.assert_syntax.specs.Spelled.{vertex_number};
 ghost use Rattle.assert_syntax.specs.private.Drafts.{context_held, IsFault};
 
 use crate::fault::TaskFault;
-use crate::place::Place;
+use crate::position::Position;
 use bool_expr::Variables;
 use indexmap::IndexSet;
 use std::alloc::{AllocError, Global};
 use ste_base::Name;
 
 /// The greatest number of variables.
-const MAX_VARS: usize = 1_000;
+const MAX_VARIABLES: usize = 4_000;
 
 /// The greatest number of tasks.
 const MAX_TASKS: usize = 256;
@@ -26,11 +27,11 @@ const MAX_VERTICES: usize = 1_000;
 /// The greatest number of edges of a graph.
 const MAX_EDGES: u32 = 10_000;
 
-/// What is known of the lines that are read: the place behind them, the variables, the names of the tasks, and the
-/// vertices and the number of edges of the last graph.
+/// What is known of the lines that are read: the position behind them, the variables, the names of
+/// the tasks, and the vertices and the number of edges of the last graph.
 #[derive(Drop)]
 pub struct Known {
-    pub place: Place,
+    pub position: Position,
     pub vars: Variables,
     pub names: IndexSet<Name>,
     pub vertices: IndexSet<Name>,
@@ -82,7 +83,7 @@ impl Known {
         ensures { context_held result ≡ context_of [] }
     {
         Known {
-            place: Place::Start,
+            position: Position::Start,
             vars: Variables::new(alloc),
             names: IndexSet::new(alloc),
             vertices: IndexSet::new(alloc),
@@ -94,24 +95,25 @@ impl Known {
     pub fn declare(&mut self, line: u32, names: &[Name]) -> Result<(), TaskFault>
         ensures context { OnOk result (context_held self.new
             ≡ context_behind (context_held self.old) (form.vars names.now)) }
-        ensures sound { OnOk result (names_fault 1000 (first_double self.old.vars names.now)
+        ensures sound { OnOk result (names_fault most_variables
+            (first_double self.old.vars names.now)
             (self.old.vars ++ names.now) ≡ None) }
         ensures err { IfErr result (λ fault. IsFault line
-            (names_fault 1000 (first_double self.old.vars names.now)
+            (names_fault most_variables (first_double self.old.vars names.now)
             (self.old.vars ++ names.now)) fault) }
     {
         if let Some(name) = add_up_to_double(&mut self.vars, names)? {
             return Err(TaskFault::DoubleName { line, name });
         }
-        if self.vars.names().len() > MAX_VARS {
+        if self.vars.names().len() > MAX_VARIABLES {
             return Err(TaskFault::TooMany { line });
         }
         Ok(())
     }
 
     /// Behind a line that starts a task of this name.
-    fn name_task(&mut self, line: u32, name: &Name, place: Place) -> Result<(), TaskFault>
-        ensures place { OnOk result (self.new.place ≡ place) }
+    fn name_task(&mut self, line: u32, name: &Name, position: Position) -> Result<(), TaskFault>
+        ensures position { OnOk result (self.new.position ≡ position) }
         ensures names { OnOk result (self.new.names.keys ≡ self.old.names.keys ++ name.now ∷ []) }
         ensures vars { self.new.vars ≡ self.old.vars }
         ensures vertices { self.new.vertices ≡ self.old.vertices }
@@ -132,7 +134,7 @@ impl Known {
         if self.names.len() > MAX_TASKS {
             return Err(TaskFault::TooMany { line });
         }
-        self.place = place;
+        self.position = position;
         Ok(())
     }
 
@@ -148,7 +150,7 @@ impl Known {
             (self.old.names.keys ++ name.now ∷ [])) fault) }
     {
         let _ = reset;
-        self.name_task(line, name, Place::Assertion)
+        self.name_task(line, name, Position::Assertion)
     }
 
     /// Behind a line that starts a graph of this name from this vertex.
@@ -170,7 +172,7 @@ impl Known {
             (self.old.names.keys ++ name.now ∷ [])) fault) }
     {
         let _ = reset;
-        self.name_task(line, name, Place::Graph)?;
+        self.name_task(line, name, Position::Graph)?;
         let mut vertices = IndexSet::new(alloc);
         vertices.insert(vertex.clone()?)?;
         self.vertices = vertices;
@@ -199,7 +201,7 @@ impl Known {
             return Err(TaskFault::TooMany { line });
         }
         self.edges += 1;
-        self.place = Place::Edge;
+        self.position = Position::Edge;
         Ok((from as u32, to as u32))
     }
 }

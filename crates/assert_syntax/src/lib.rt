@@ -1,5 +1,5 @@
-//! The grammar of task files: from logical lines to tasks with the names of their nodes, or to the first faulty line. Begin
-//! with `read_tasks`.
+//! The grammar of task files: from logical lines to tasks with the names of their nodes, or to the
+//! first faulty line. Begin with `read_tasks`.
 #![tactic(auto)]
 
 mod clauses;
@@ -10,7 +10,7 @@ pub mod form;
 mod forms;
 mod known;
 pub mod laws;
-pub mod place;
+pub mod position;
 pub mod read;
 pub mod tasks;
 mod words;

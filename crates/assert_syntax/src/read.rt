@@ -2,7 +2,7 @@
 
 ghost use Rattle.std.specs.Prelude.{◌≡◌, []};
 ghost use Rattle.assert_syntax.specs.Forms as form;
-ghost use Rattle.assert_syntax.specs.Answer.{IsAnswer, entries_of};
+ghost use Rattle.assert_syntax.specs.Answer.{IsTasksAnswer, task_entries_of};
 ghost use Rattle.assert_syntax.specs.Parses.{Parse, IsParse};
 ghost use Rattle.assert_syntax.specs.Places.{Context, context_of};
 ghost use Rattle.assert_syntax.specs.declared.draft.OpenTask.TheVariants as task;
@@ -16,7 +16,7 @@ use crate::fault::TaskFault;
 use crate::form::{Clause, Form, Span};
 use crate::forms::form_of;
 use crate::known::Known;
-use crate::place::{Place, may_stand};
+use crate::position::{Position, may_stand};
 use crate::tasks::RawTasks;
 use blif_lines::Line;
 use std::alloc::Global;
@@ -154,14 +154,15 @@ fn line_read(
         Form::Clause(clause) => clause_read(alloc, known, draft, line, clause),
         Form::Weak(node, times) => weak_read(draft, line, node, *times),
         Form::End => {
-            known.place = Place::Ended;
+            known.position = Position::Ended;
             Ok(())
         }
         Form::Wrong => Ok(()),
     }
 }
 
-/// The tasks that lines spell, or the fault of the first faulty line, from where nothing is known and no task is read.
+/// The tasks that lines spell, or the fault of the first faulty line, from where nothing is known
+/// and no task is read.
 fn tasks_from(
     alloc: Global,
     known: &mut Known,
@@ -171,11 +172,12 @@ fn tasks_from(
     requires known { context_held known.old ≡ context_of [] }
     requires tasks { draft.old.tasks ≡ [] }
     requires task { draft.old.task ≡ task.Closed }
-    ensures { (parse : Parse) → IsParse parse → IsAnswer parse (entries_of lines.now) result }
+    ensures { (parse : Parse) → IsParse parse →
+        IsTasksAnswer parse (task_entries_of lines.now) result }
 {
     for line in lines {
         let form = form_of(line.words.as_slice());
-        if !may_stand(&form, known.place) {
+        if !may_stand(&form, known.position) {
             return Err(TaskFault::BadLine { line: line.number });
         }
         match line_read(alloc, known, draft, line.number, &form) {
@@ -195,7 +197,8 @@ fn tasks_from(
 
 /// The tasks that lines spell, or the fault of the first faulty line.
 fn tasks_read(alloc: Global, lines: &[Line]) -> Result<RawTasks, TaskFault>
-    ensures { (parse : Parse) → IsParse parse → IsAnswer parse (entries_of lines.now) result }
+    ensures { (parse : Parse) → IsParse parse →
+        IsTasksAnswer parse (task_entries_of lines.now) result }
 {
     let mut known = Known::new(alloc);
     let mut draft = Draft {
@@ -205,22 +208,27 @@ fn tasks_read(alloc: Global, lines: &[Line]) -> Result<RawTasks, TaskFault>
     tasks_from(alloc, &mut known, &mut draft, lines)
 }
 
-/// Reads the tasks that a task file's lines spell. The errors come by the first line that has a fault, and each has that
-/// line's number; where a line has several, the first of these:
+/// Reads the tasks that a task file's lines spell. The errors come by the first line that has a
+/// fault, and each has that line's number; where a line has several, the first of these:
 ///
-/// - `BadLine` where the line has none of the forms, stands where it may not, or the text of an expression is none.
+/// - `BadLine` where the line has none of the forms, stands where it may not, or the text of an
+///   expression is none.
 /// - `TooDeep` where an expression is nested above 100.
-/// - `DoubleName` where a variable is declared or a task is named a second time, with the first such name.
-/// - `UnknownVar` where an expression uses a variable that is not declared, with the first such in the line.
-/// - `TooMany` where with this line there are more than 1,000 variables, 256 tasks, or 1,000 vertices or 10,000 edges of
-///   a graph, or where a time is above 10,000.
+/// - `DoubleName` where a variable is declared or a task is named a second time, with the first
+///   such name.
+/// - `UnknownVar` where an expression uses a variable that is not declared, with the first such in
+///   the line.
+/// - `TooMany` where with this line there are more than 4,000 variables, 256 tasks, or 1,000
+///   vertices or 10,000 edges of a graph, or where a time is above 100,000.
 ///
-/// `NoTask` comes where no line has a fault and none starts a task. `OutOfMemory` may come at any lines. No call depth
-/// grows with the lines.
+/// `NoTask` comes where no line has a fault and none starts a task. `OutOfMemory` may come at any
+/// lines. No call depth grows with the lines.
 #[tactic(auto, using(crate::proofs::Turn::caused))]
 pub fn read_tasks(alloc: Global, lines: &[Line]) -> Result<RawTasks, TaskFault>
-    ensures exact { (parse : Parse) → IsParse parse → IsAnswer parse (entries_of lines.now) result }
-    ensures cause { (parse : Parse) × IsParse parse × IsAnswer parse (entries_of lines.now) result }
+    ensures exact { (parse : Parse) → IsParse parse →
+        IsTasksAnswer parse (task_entries_of lines.now) result }
+    ensures cause { (parse : Parse) × IsParse parse
+        × IsTasksAnswer parse (task_entries_of lines.now) result }
 {
     tasks_read(alloc, lines)
 }

@@ -1,12 +1,13 @@
 //! What a task file says, with the nodes by name; begin with `RawTasks`.
 
+ghost use Rattle.ste_base.specs.Limits.{most_variables};
 ghost use Rattle.std.specs.Prelude.{◌≡◌, ◌≤◌, length};
 
 use bool_expr::Expr;
 use ste_base::{Items, Name, Time};
 
-/// Where the guard is 1, the node has the value's bit at each time step from `from` up to, but not at, `to`. `line` is
-/// the number of its line.
+/// Where the guard is 1, the node has the value's bit at each time step from `from` up to, but not
+/// at, `to`. `line` is the number of its line.
 #[derive(Drop)]
 pub struct RawQuint {
     pub line: u32,
@@ -17,7 +18,8 @@ pub struct RawQuint {
     pub to: Time,
 }
 
-/// Where the guard is 1, the node has the value's bit at the edge's time step. `line` is the number of its line.
+/// Where the guard is 1, the node has the value's bit at the edge's time step. `line` is the number
+/// of its line.
 #[derive(Drop)]
 pub struct RawBind {
     pub line: u32,
@@ -36,15 +38,16 @@ pub struct RawWeak {
     pub to: Time,
 }
 
-/// What drives the node is not looked at, at the edge's time step. `line` is the number of its line.
+/// What drives the node is not looked at, at the edge's time step. `line` is the number of its
+/// line.
 #[derive(Drop)]
 pub struct RawMark {
     pub line: u32,
     pub node: Name,
 }
 
-/// An edge of a graph: the number of its line, the places of its two ends among the vertices, and what it gives and
-/// asks and which nodes it weakens, each in order.
+/// An edge of a graph: the number of its line, the places of its two ends among the vertices, and
+/// what it gives and asks and which nodes it weakens, each in order.
 #[derive(Drop)]
 pub struct RawEdge {
     pub line: u32,
@@ -55,7 +58,8 @@ pub struct RawEdge {
     pub weak: Items<RawMark>,
 }
 
-/// A task: the number of its first line, its name, and whether latches begin with their initial values.
+/// A task: the number of its first line, its name, and whether latches begin with their initial
+/// values.
 #[derive(Drop)]
 pub enum RawTask {
     /// What is given, what has to follow, and the weakenings, each in the order of the lines.
@@ -67,7 +71,8 @@ pub enum RawTask {
         con: Items<RawQuint>,
         weak: Items<RawWeak>,
     },
-    /// The vertices in the order of first mention, of which the first is the initial one, and the edges in order.
+    /// The vertices in the order of first mention, of which the first is the initial one, and the
+    /// edges in order.
     Gste {
         line: u32,
         name: Name,
@@ -77,12 +82,13 @@ pub enum RawTask {
     },
 }
 
-/// The tasks of a file, at most 256, and the variables that it declares, at most 1,000, each in order.
+/// The tasks of a file, at most 256, and the variables that it declares, at most 4,000, each in
+/// order.
 #[derive(Drop)]
 pub struct RawTasks {
     pub vars: Items<Name>,
     pub tasks: Items<RawTask>,
-    ghost declared: { length vars ≤ 1000 },
+    ghost declared: { length vars ≤ most_variables },
     ghost few: { length tasks ≤ 256 },
 }
 

@@ -4,7 +4,7 @@ ghost use Rattle.std.specs.Prelude.{◌≡◌, ◌++◌, ◌∷◌, IfOk, OnOk, 
 ghost use Rattle.std.specs.List.{list_all, position};
 ghost use Rattle.ste_base.specs.Bytes.{is_digit};
 ghost use Rattle.bool_expr.specs.Tokens.{is_kept, is_name_byte};
-ghost use Rattle.blif_lines.specs.Laws.{spaced};
+ghost use Rattle.blif_lines.specs.Laws.{text_of_words};
 ghost use Rattle.assert_syntax.specs.Words.{is_variable, ends_expression, is_number, moment_of};
 
 use crate::form::Moment;
@@ -12,7 +12,7 @@ use std::alloc::{AllocError, Global};
 use ste_base::{Name, is_digit, is_letter, read_number};
 
 /// The greatest time of a task.
-const MAX_TIME: u64 = 10_000;
+const MAX_TIME: u64 = 100_000;
 
 /// Whether a word has these characters.
 pub fn is(word: &[u8], text: &str) -> bool
@@ -105,7 +105,7 @@ fn add_word(text: &mut Vec<u8>, word: &[u8]) -> Result<(), AllocError>
 /// The words with a blank between.
 #[tactic(auto, using(crate::proofs::Texts::words_begin, crate::proofs::Texts::words_end, crate::proofs::Texts::word_turn))]
 pub fn spaced(alloc: Global, words: &[Name]) -> Result<Vec<u8>, AllocError>
-    ensures { IfOk result (λ text. text.items ≡ spaced words.now) }
+    ensures { IfOk result (λ text. text.items ≡ text_of_words words.now) }
 {
     let Some((first, rest)) = words.split_first() else {
         return Ok(Vec::new(alloc));

@@ -85,7 +85,8 @@ fn compare_orders(rt: &impl Abort, names: &[Name]) {
     }
 }
 
-/// Each of these names is the beginning of the next, so they are equal and ordered as their lengths are.
+/// Each of these names is the beginning of the next, so they are equal and ordered as their lengths
+/// are.
 #[test]
 fn names_in_order(rt: HostRuntime) -> Result<(), Fail> {
     let names = names_of(rt.alloc())?;
@@ -101,7 +102,8 @@ fn last_name_of(alloc: Global, length: usize) -> Result<Name, AllocError> {
     Name::from_bytes(alloc, text.as_slice())
 }
 
-/// Whether a name of this length differs from the one whose last byte is greater, and stands before it.
+/// Whether a name of this length differs from the one whose last byte is greater, and stands before
+/// it.
 fn is_before(alloc: Global, length: usize) -> Result<bool, AllocError> {
     let name = name_of(alloc, length)?;
     let other = last_name_of(alloc, length)?;

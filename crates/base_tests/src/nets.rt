@@ -43,8 +43,8 @@ const COVERS: &[(u32, &[&[u8]], u32, &[&[u8]])] = &[
     (2, &[b"--1", b"1--"], 2, &[]),
 ];
 
-/// Gates by their three inputs, and the least net that does not settle. Gate k drives net k, and the net behind the
-/// last of them is the output of a latch that reads net 0.
+/// Gates by their three inputs, and the least net that does not settle. Gate k drives net k, and
+/// the net behind the last of them is the output of a latch that reads net 0.
 const NETS: &[(&[[u32; 3]], Option<u32>)] = &[
     (&[], None),
     // In order, in reverse order, and with an input twice.

@@ -1,4 +1,5 @@
-//! The least route against all lists of hop numbers, a chain and parallel hops; begin with `all_small_graphs`.
+//! The least route against all lists of hop numbers, a chain and parallel hops; begin with
+//! `all_small_graphs`.
 
 ghost use Rattle.std.specs.Prelude.{◌≡◌, ◌<◌, ◌≤◌, length, All, IfOk};
 
@@ -6,8 +7,8 @@ use graph_path::{Hop, path_of};
 use std::alloc::{AllocError, Global};
 use std::test::Fail;
 
-/// A list of hop numbers below 4: its length, and the numbers as digits to the base 4, the first one in front. Of lists of
-/// one length the least has the least code.
+/// A list of hop numbers below 4: its length, and the numbers as digits to the base 4, the first
+/// one in front. Of lists of one length the least has the least code.
 #[derive(Clone, Copy, PartialEq, Eq)]
 struct Numbers {
     length: usize,
@@ -75,7 +76,8 @@ fn first_of(hops: &[Hop], length: usize, count: u32) -> Option<Numbers> {
     None
 }
 
-/// The least route of a graph of three vertices, among all lists: a route with the fewest hops comes to no vertex twice.
+/// The least route of a graph of three vertices, among all lists: a route with the fewest hops
+/// comes to no vertex twice.
 fn least_of(hops: &[Hop]) -> Option<Numbers> {
     match first_of(hops, 1, 4) {
         Some(numbers) => Some(numbers),

@@ -1,4 +1,5 @@
-//! The texts of one and of two stages, whole, and the ends of the texts of a thousand; begin with `one_stage`.
+//! The texts of one and of two stages, whole, and the ends of the texts of a thousand; begin with
+//! `one_stage`.
 
 use crate::written::{
     NET_END_OF_THOUSAND, NET_OF_ONE, NET_OF_TWO, TASK_END_OF_THOUSAND, TASK_OF_ONE, TASK_OF_TWO,

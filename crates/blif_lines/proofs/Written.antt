@@ -3,7 +3,7 @@ use Rattle.std.proofs.Common.{◌+◌, take, append-nil, length-append, ℕ, zer
 use Rattle.std.proofs.lemmas.List.Elements.{All-cons, All-nil, All-head, All-tail, All-append, All-weaker}
 use Rattle.ste_base.specs.Bytes.{is_blank}
 use Rattle.blif_lines.specs.Lines.{pieces, before, is_line_feed, is_hash, trimmed_text, unless_last, without_last, joined_lines, treated_line, words_of, is_filled, is_continued, has_words, word_lines}
-use Rattle.blif_lines.specs.Laws.{text_of_lines, IsPlain, IsBehind, Part, IsPart, spaced, written_line, written_lines, all_words, numbered_lines, WrittenLinesAreReadBack}
+use Rattle.blif_lines.specs.Laws.{text_of_lines, IsPlain, IsBehind, Part, IsPart, text_of_words, written_line, written_lines, all_words, numbered_lines, WrittenLinesAreReadBack}
 use Rattle.blif_lines.proofs.Physical.{IsFree}
 use Rattle.blif_lines.proofs.Words.{with_front, front_words}
 
@@ -55,29 +55,29 @@ free_word : (cuts : ℕ → Bool) → ((b : ℕ) → IsPlain b → cuts b ≡ fa
 free_word cuts pick word h = All-weaker IsPlain (λ x. cuts x ≡ false) pick word h
 
 -- what holds of plain bytes and the space holds of plain words with spaces between
-free_spaced : (cuts : ℕ → Bool) → ((b : ℕ) → IsPlain b → cuts b ≡ false) → cuts 32 ≡ false → (words : List (List ℕ)) → All IsPlainWord words → IsFree cuts (spaced words)
+free_spaced : (cuts : ℕ → Bool) → ((b : ℕ) → IsPlain b → cuts b ≡ false) → cuts 32 ≡ false → (words : List (List ℕ)) → All IsPlainWord words → IsFree cuts (text_of_words words)
 free_spaced cuts pick e [] h = All-nil (λ x. cuts x ≡ false)
 free_spaced cuts pick e (word ∷ []) h = free_word cuts pick word (All-head IsPlainWord word [] h).1
-free_spaced cuts pick e (word ∷ next ∷ words) h = All-append (λ x. cuts x ≡ false) word (32 ∷ spaced (next ∷ words)) (free_word cuts pick word (All-head IsPlainWord word (next ∷ words) h).1) (All-cons (λ x. cuts x ≡ false) 32 (spaced (next ∷ words)) e (free_spaced cuts pick e (next ∷ words) (All-tail IsPlainWord word (next ∷ words) h)))
+free_spaced cuts pick e (word ∷ next ∷ words) h = All-append (λ x. cuts x ≡ false) word (32 ∷ text_of_words (next ∷ words)) (free_word cuts pick word (All-head IsPlainWord word (next ∷ words) h).1) (All-cons (λ x. cuts x ≡ false) 32 (text_of_words (next ∷ words)) e (free_spaced cuts pick e (next ∷ words) (All-tail IsPlainWord word (next ∷ words) h)))
 
-spaced_some : (word : List ℕ) (words : List (List ℕ)) → 0 < length word → 0 < length (spaced (word ∷ words))
+spaced_some : (word : List ℕ) (words : List (List ℕ)) → 0 < length word → 0 < length (text_of_words (word ∷ words))
 spaced_some [] words h = absurd (omega (arith, h))
 spaced_some (b ∷ word) [] h = h
 spaced_some (b ∷ word) (next ∷ words) h = omega arith
 
-trimmed_spaced : (words : List (List ℕ)) → All IsPlainWord words → trimmed_text (spaced words) ≡ spaced words
+trimmed_spaced : (words : List (List ℕ)) → All IsPlainWord words → trimmed_text (text_of_words words) ≡ text_of_words words
 trimmed_spaced [] h = refl
 trimmed_spaced ([] ∷ words) h = absurd (omega (arith, (All-head IsPlainWord [] words h).0))
 trimmed_spaced ((b ∷ word) ∷ []) h = trimmed_word b word (free_word is_blank (λ x p. p.0) (b ∷ word) (All-head IsPlainWord (b ∷ word) [] h).1)
 trimmed_spaced ((b ∷ word) ∷ next ∷ words) h =
     let rest = All-tail IsPlainWord (b ∷ word) (next ∷ words) h in
-    trimmed_after (b ∷ word) 32 (spaced (next ∷ words)) (ap (unless_last 32) (trimmed_spaced (next ∷ words) rest) ∙ unless_more 32 (spaced (next ∷ words)) (spaced_some next words (All-head IsPlainWord next words rest).0))
+    trimmed_after (b ∷ word) 32 (text_of_words (next ∷ words)) (ap (unless_last 32) (trimmed_spaced (next ∷ words) rest) ∙ unless_more 32 (text_of_words (next ∷ words)) (spaced_some next words (All-head IsPlainWord next words rest).0))
 
-words_spaced : (words : List (List ℕ)) → All IsPlainWord words → words_of (spaced words) ≡ words
+words_spaced : (words : List (List ℕ)) → All IsPlainWord words → words_of (text_of_words words) ≡ words
 words_spaced [] h = refl
 words_spaced ([] ∷ words) h = absurd (omega (arith, (All-head IsPlainWord [] words h).0))
 words_spaced ((b ∷ word) ∷ []) h = ap (filter is_filled) (only_of is_blank b word (free_word is_blank (λ x p. p.0) (b ∷ word) (All-head IsPlainWord (b ∷ word) [] h).1))
-words_spaced ((b ∷ word) ∷ next ∷ words) h = ap (filter is_filled) (first_of is_blank 32 (b ∷ word) (spaced (next ∷ words)) refl (free_word is_blank (λ x p. p.0) (b ∷ word) (All-head IsPlainWord (b ∷ word) (next ∷ words) h).1)) ∙ ap (λ l. (b ∷ word) ∷ l) (words_spaced (next ∷ words) (All-tail IsPlainWord (b ∷ word) (next ∷ words) h))
+words_spaced ((b ∷ word) ∷ next ∷ words) h = ap (filter is_filled) (first_of is_blank 32 (b ∷ word) (text_of_words (next ∷ words)) refl (free_word is_blank (λ x p. p.0) (b ∷ word) (All-head IsPlainWord (b ∷ word) (next ∷ words) h).1)) ∙ ap (λ l. (b ∷ word) ∷ l) (words_spaced (next ∷ words) (All-tail IsPlainWord (b ∷ word) (next ∷ words) h))
 
 before_after : (cuts : ℕ → Bool) (text behind : List ℕ) → IsFree cuts text → before cuts (text ++ behind) ≡ text ++ before cuts behind
 before_after cuts [] behind h = refl
@@ -117,20 +117,20 @@ front_at (b ∷ front) (suc i) e = ap (λ t. b ∷ t) (front_at front i (omega (
 end_at : (front : List ℕ) → length (front ++ 92 ∷ []) - 1 ≡ length front
 end_at front = rw (length-append front (92 ∷ [])) (omega arith)
 
-free_open : (words : List (List ℕ)) → All IsPlainWord words → IsFree is_hash (spaced words ++ 92 ∷ [])
-free_open words h = All-append (λ x. is_hash x ≡ false) (spaced words) (92 ∷ []) (free_spaced is_hash (λ x p. p.2) refl words h) (All-cons (λ x. is_hash x ≡ false) 92 [] refl (All-nil (λ x. is_hash x ≡ false)))
+free_open : (words : List (List ℕ)) → All IsPlainWord words → IsFree is_hash (text_of_words words ++ 92 ∷ [])
+free_open words h = All-append (λ x. is_hash x ≡ false) (text_of_words words) (92 ∷ []) (free_spaced is_hash (λ x p. p.2) refl words h) (All-cons (λ x. is_hash x ≡ false) 92 [] refl (All-nil (λ x. is_hash x ≡ false)))
 
 -- the physical lines of one logical line are read as that line
 parts_read : (n : ℕ) (part : Part) (parts : List Part) (rest : List (List ℕ)) → All IsPart (part ∷ parts) → word_lines n (written_line (part ∷ parts) ++ rest) ≡ record { number = n; words = all_words (part ∷ parts) } ∷ word_lines (n + length (part ∷ parts)) rest
 parts_read n part [] rest h =
     let p = All-head IsPart part [] h in
     let next : n + 1 ≡ suc n = omega arith in
-    rw next (rw (append-nil part.words) (line_alone n (spaced part.words ++ part.behind) (spaced part.words) rest (treated_behind (spaced part.words) part.behind (free_spaced is_hash (λ x q. q.2) refl part.words p.0) (trimmed_spaced part.words p.0) p.1) (get_free (spaced part.words) (length (spaced part.words) - 1) (free_spaced (λ b. nat_eq b 92) (λ x q. q.3) refl part.words p.0)) ∙ ap (λ w. record { number = n; words = w } ∷ word_lines (suc n) rest) (words_spaced part.words p.0)))
+    rw next (rw (append-nil part.words) (line_alone n (text_of_words part.words ++ part.behind) (text_of_words part.words) rest (treated_behind (text_of_words part.words) part.behind (free_spaced is_hash (λ x q. q.2) refl part.words p.0) (trimmed_spaced part.words p.0) p.1) (get_free (text_of_words part.words) (length (text_of_words part.words) - 1) (free_spaced (λ b. nat_eq b 92) (λ x q. q.3) refl part.words p.0)) ∙ ap (λ w. record { number = n; words = w } ∷ word_lines (suc n) rest) (words_spaced part.words p.0)))
 parts_read n part (other ∷ parts) rest h =
     let p = All-head IsPart part (other ∷ parts) h in
-    let line = spaced part.words ++ 92 ∷ [] in
+    let line = text_of_words part.words ++ 92 ∷ [] in
     let next : n + suc (suc (length parts)) ≡ suc n + suc (length parts) = omega arith in
-    rw next (line_open n (line ++ part.behind) line (spaced part.words) (written_line (other ∷ parts) ++ rest) (treated_behind line part.behind (free_open part.words p.0) (trimmed_after (spaced part.words) 92 [] refl) p.1) (ap (λ b. nat_eq b 92) (last_at (spaced part.words) (length line - 1) (end_at (spaced part.words)))) (front_at (spaced part.words) (length line - 1) (end_at (spaced part.words))) ∙ ap (λ w. with_front n w (word_lines (suc n) (written_line (other ∷ parts) ++ rest))) (words_spaced part.words p.0) ∙ ap (with_front n part.words) (parts_read (suc n) other parts rest (All-tail IsPart part (other ∷ parts) h)))
+    rw next (line_open n (line ++ part.behind) line (text_of_words part.words) (written_line (other ∷ parts) ++ rest) (treated_behind line part.behind (free_open part.words p.0) (trimmed_after (text_of_words part.words) 92 [] refl) p.1) (ap (λ b. nat_eq b 92) (last_at (text_of_words part.words) (length line - 1) (end_at (text_of_words part.words)))) (front_at (text_of_words part.words) (length line - 1) (end_at (text_of_words part.words))) ∙ ap (λ w. with_front n w (word_lines (suc n) (written_line (other ∷ parts) ++ rest))) (words_spaced part.words p.0) ∙ ap (with_front n part.words) (parts_read (suc n) other parts rest (All-tail IsPart part (other ∷ parts) h)))
 
 lines_read : (n : ℕ) (lines : List (List Part)) → All (λ parts. All IsPart parts) lines → filter has_words (word_lines n (written_lines lines)) ≡ filter has_words (numbered_lines n lines)
 lines_read n [] h = refl
@@ -144,20 +144,20 @@ ended_pieces : (lines : List (List ℕ)) → All (IsFree is_line_feed) lines →
 ended_pieces [] h = refl
 ended_pieces (line ∷ lines) h = first_of is_line_feed 10 line (text_of_lines lines) refl (All-head (IsFree is_line_feed) line lines h) ∙ ap (λ l. line ∷ l) (ended_pieces lines (All-tail (IsFree is_line_feed) line lines h))
 
-fed_spaced : (words : List (List ℕ)) → All IsPlainWord words → IsFree is_line_feed (spaced words)
+fed_spaced : (words : List (List ℕ)) → All IsPlainWord words → IsFree is_line_feed (text_of_words words)
 fed_spaced words h = free_spaced is_line_feed (λ x p. p.1) refl words h
 
-fed_open : (words : List (List ℕ)) → All IsPlainWord words → IsFree is_line_feed (spaced words ++ 92 ∷ [])
-fed_open words h = All-append (λ x. is_line_feed x ≡ false) (spaced words) (92 ∷ []) (fed_spaced words h) (All-cons (λ x. is_line_feed x ≡ false) 92 [] refl (All-nil (λ x. is_line_feed x ≡ false)))
+fed_open : (words : List (List ℕ)) → All IsPlainWord words → IsFree is_line_feed (text_of_words words ++ 92 ∷ [])
+fed_open words h = All-append (λ x. is_line_feed x ≡ false) (text_of_words words) (92 ∷ []) (fed_spaced words h) (All-cons (λ x. is_line_feed x ≡ false) 92 [] refl (All-nil (λ x. is_line_feed x ≡ false)))
 
 written_free : (parts : List Part) → All IsPart parts → All (IsFree is_line_feed) (written_line parts)
 written_free [] h = All-nil (IsFree is_line_feed)
 written_free (part ∷ []) h =
     let p = All-head IsPart part [] h in
-    All-cons (IsFree is_line_feed) (spaced part.words ++ part.behind) [] (All-append (λ x. is_line_feed x ≡ false) (spaced part.words) part.behind (fed_spaced part.words p.0) p.1.0) (All-nil (IsFree is_line_feed))
+    All-cons (IsFree is_line_feed) (text_of_words part.words ++ part.behind) [] (All-append (λ x. is_line_feed x ≡ false) (text_of_words part.words) part.behind (fed_spaced part.words p.0) p.1.0) (All-nil (IsFree is_line_feed))
 written_free (part ∷ other ∷ parts) h =
     let p = All-head IsPart part (other ∷ parts) h in
-    All-cons (IsFree is_line_feed) (spaced part.words ++ 92 ∷ [] ++ part.behind) (written_line (other ∷ parts)) (All-append (λ x. is_line_feed x ≡ false) (spaced part.words ++ 92 ∷ []) part.behind (fed_open part.words p.0) p.1.0) (written_free (other ∷ parts) (All-tail IsPart part (other ∷ parts) h))
+    All-cons (IsFree is_line_feed) (text_of_words part.words ++ 92 ∷ [] ++ part.behind) (written_line (other ∷ parts)) (All-append (λ x. is_line_feed x ≡ false) (text_of_words part.words ++ 92 ∷ []) part.behind (fed_open part.words p.0) p.1.0) (written_free (other ∷ parts) (All-tail IsPart part (other ∷ parts) h))
 
 all_free : (lines : List (List Part)) → All (λ parts. All IsPart parts) lines → All (IsFree is_line_feed) (written_lines lines)
 all_free [] h = All-nil (IsFree is_line_feed)

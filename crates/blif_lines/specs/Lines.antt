@@ -1,5 +1,5 @@
--- Meaning. The logical lines of a text, as netlists, task files and input files are read by. The rules are this project's own
--- choice, after the Berkeley description of BLIF.
+-- Meaning. The logical lines of a text, as netlists, task files and input files are read by. The
+-- rules are this project's own choice, after the Berkeley description of BLIF.
 use Rattle.std.specs.Prelude.{ℕ, suc, ◌-◌, List, [], ◌∷◌, ◌++◌, length, map, filter, take, get_or, Bool, true, false, if◌then◌else◌, nat_eq, not}
 use Rattle.ste_base.specs.Bytes.{backslash, hash_sign, is_blank, line_feed, space}
 use Rattle.blif_lines.specs.declared.lines.Line.{Line}
@@ -20,7 +20,8 @@ onto_first byte (piece ∷ pieces) = (byte ∷ piece) ∷ pieces
 -- the text cut at each byte that passes, which is in no piece; an empty last piece does not count
 abbrev pub pieces : (ℕ → Bool) → List ℕ → List (List ℕ)
 pieces cuts [] = []
-pieces cuts (byte ∷ text) = if cuts byte then [] ∷ pieces cuts text else onto_first byte (pieces cuts text)
+pieces cuts (byte ∷ text) =
+    if cuts byte then [] ∷ pieces cuts text else onto_first byte (pieces cuts text)
 
 -- what stands before the first byte that passes, or the whole text
 abbrev pub before : (ℕ → Bool) → List ℕ → List ℕ
@@ -54,12 +55,14 @@ pub record Numbered : Type 0 where
   pub number : ℕ
   pub text : List ℕ
 
--- these lines, with a text from line n at the head of the first; where there is none, that text alone
+-- these lines, with a text from line n at the head of the first; where there is none, that text
+-- alone
 abbrev pub onto_next : ℕ → List ℕ → List Numbered → List Numbered
 onto_next n text [] = record { number = n; text = text } ∷ []
 onto_next n text (next ∷ lines) = record { number = n; text = text ++ next.text } ∷ lines
 
--- the treated physical lines from number n on; the backslash at the end of one becomes a space, and the next is joined
+-- the treated physical lines from number n on; the backslash at the end of one becomes a space, and
+-- the next is joined
 abbrev pub joined_lines : ℕ → List (List ℕ) → List Numbered
 joined_lines n [] = []
 joined_lines n (line ∷ lines) = if is_continued line
@@ -87,6 +90,7 @@ has_words line = not (nat_eq (length line.words) 0)
 abbrev pub word_lines : ℕ → List (List ℕ) → List Line
 word_lines n lines = map line_of (joined_lines n (map treated_line lines))
 
--- the logical lines of a text: its physical lines are numbered from 1, and lines without words are passed over
+-- the logical lines of a text: its physical lines are numbered from 1, and lines without words are
+-- passed over
 abbrev pub lines_of : List ℕ → List Line
 lines_of text = filter has_words (word_lines 1 (pieces is_line_feed text))

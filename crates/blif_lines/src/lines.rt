@@ -39,8 +39,9 @@ fn add_words(words: &mut Items<Name>, alloc: Global, text: &[u8]) -> Result<(), 
     Ok(())
 }
 
-/// Reads the first logical line, which may have no words, from a text that begins with the physical line of this
-/// number: the line, the rest of the text, and the number of the physical line that the rest begins with.
+/// Reads the first logical line, which may have no words, from a text that begins with the physical
+/// line of this number: the line, the rest of the text, and the number of the physical line that
+/// the rest begins with.
 #[tactic(auto, using(crate::proofs::Words::begin, crate::proofs::Words::finish))]
 fn read_line(alloc: Global, text: &[u8], number: u32) -> Result<(Line, &[u8], u32), AllocError>
     requires some { 0 < length text.now }
@@ -65,7 +66,8 @@ fn read_line(alloc: Global, text: &[u8], number: u32) -> Result<(Line, &[u8], u3
     Ok((Line { number, words }, rest, next))
 }
 
-/// The logical lines of a text, in order. A text has at most 67,108,864 bytes. The only error is want of memory.
+/// The logical lines of a text, in order. A text has at most 67,108,864 bytes. The only error is
+/// out of memory.
 pub fn logical_lines(alloc: Global, bytes: &[u8]) -> Result<Items<Line>, AllocError>
     requires { length bytes.now ≤ 67108864 }
     ensures { IfOk result (λ lines. lines ≡ lines_of bytes.now) }

@@ -28,7 +28,8 @@ fn hash(text: &[u8]) -> Option<usize>
     text.iter().position(|byte| *byte == b'#')
 }
 
-/// What stands before the byte at this place, and what stands after it; without a place all of the text, and nothing.
+/// What stands before the byte at this place, and what stands after it; without a place all of the
+/// text, and nothing.
 pub fn cut(text: &[u8], place: Option<usize>) -> (&[u8], &[u8])
     requires { IfSome place (λ at. at < length text.now) }
     ensures front { result.0.now ≡ take (unwrap_or place (length text.now)) text.now }

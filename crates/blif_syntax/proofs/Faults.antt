@@ -9,7 +9,7 @@ use Rattle.blif_syntax.specs.declared.form.Form.TheVariants as form
 use Rattle.blif_syntax.specs.declared.form.LineFault.{LineFault}
 use Rattle.blif_syntax.specs.declared.models.Model.{Model}
 use Rattle.blif_syntax.specs.declared.open_cover.OpenCover.{OpenCover}
-use Rattle.blif_syntax.specs.private.Drafts.{closed, line_added, open_cover_of}
+use Rattle.blif_syntax.specs.private.Drafts.{with_pending_cover, line_added, open_cover_of}
 use Rattle.blif_syntax.specs.Places.{opens, covers, may_stand, in_model, cover_at, first_fault, line_fault_of}
 
 -- the first line that may not stand, where a model is open, or none is, and where a row may go on with this cover
@@ -34,7 +34,7 @@ whole lines = sym (same_fault [] lines)
 abbrev pub fault_after : Draft → List Entry → Option (ℕ × LineFault)
 fault_after draft rest = fault_from (is_some draft.model) (open_cover_of draft.cover) rest
 
-still_open : (model : Option Model) (cover : Option Pending) → is_some (closed model cover) ≡ is_some model
+still_open : (model : Option Model) (cover : Option Pending) → is_some (with_pending_cover model cover) ≡ is_some model
 still_open None cover = refl
 still_open (Some model) cover = refl
 

@@ -38,7 +38,7 @@ items_closed : (items more : List Item) (cover : Option Pending) → closed_item
 items_closed items more None = refl
 items_closed items more (Some cover) = append_assoc items (cover_item cover ∷ []) more ∙ ap (λ item. items ++ item ∷ more) (item_closed cover)
 
--- a row more, or one row less to come
+-- one more row, or one row less to come
 row_grown : (cover : Pending) (row : List Lit) (on : Bool) (rows : List (List Lit × Bool)) → grown_items (row_added row on (Some cover)) rows ≡ grown cover ((row, on) ∷ rows) ∷ []
 row_grown cover row on rows = ap (λ all. record { line = cover.line; what = what.Names cover.inputs cover.output (record { inputs = cover.opened.width; on = first_or cover.opened.first on; rows = all }) } ∷ []) (append_assoc cover.rows (row ∷ []) (map (λ row. row.0) rows))
 

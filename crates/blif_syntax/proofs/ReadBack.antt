@@ -114,11 +114,11 @@ cover_back width cover rows is e =
     ∙ ap (λ on. made cover.inputs on (map (λ (row : List Lit × Bool). row.0) rows)) same
     ∙ ap (made cover.inputs cover.on) firsts
 
--- an item of one line more
+-- an item of one more line
 line_more : (n : ℕ) (said : What) (rest : List Entry) (items : List Item) (models : List Model) → IsInside rest items models → IsInside (record { line = n; form = form.Item said } ∷ rest) (record { line = n; what = said } ∷ items) models
 line_more n said rest items models is = record { fault = λ cover. is.fault None; rows = refl; own = ap (λ more. record { line = n; what = said } ∷ more) is.own; later = is.later }
 
--- an item more
+-- one more item
 item_more : (n : ℕ) (said : What) (rest : List Entry) (items : List Item) (models : List Model) → IsSayable said → IsInside rest items models → IsInside (item_entries n said ++ rest) (record { line = n; what = said } ∷ items) models
 item_more n (what.Names inputs output cover) rest items models say is = record {
   fault = λ place. rows_stand n (length inputs) cover.on cover.rows None rest (subst (λ (n : ℕ). All (λ row. length row ≡ n) cover.rows) say.0 say.1.wide) refl is.fault;
@@ -156,7 +156,7 @@ at_model n name lines items models is = record {
   later = ap (λ own. record { line = n; name = name; items = own } ∷ models_of lines) is.own ∙ ap (λ more. record { line = n; name = name; items = items } ∷ more) is.later;
 }
 
--- a model more
+-- one more model
 model_more : (model : Model) (rest : List Line) (models : List Model) → All (λ item. IsSayable item.what) model.items → IsOutside (entries_of rest) models → IsOutside (entries_of (model_lines model ++ rest)) (model ∷ models)
 model_more model rest models say is =
     let end : Line = record { number = model.line; words = codes ".end" ∷ [] } in

@@ -119,7 +119,7 @@ at_row_of : (lines : List Entry) (i : ℕ) (inside : Bool) (cover : Option OpenC
 at_row_of lines i inside None row on has may t = absurd (cc may)
 at_row_of lines i inside (Some opened) row on has may t = at_row lines i inside opened.width opened.first row on has may t
 
--- a line more
+-- one more line
 tied : (lines : List Entry) (i : ℕ) (inside : Bool) (cover : Option OpenCover) (form : Form) → HasForm lines i form → may_stand form inside cover ≡ true → IsTied lines i inside cover → IsTied lines (suc i) (opens form inside) (covers form cover)
 tied lines i inside cover Skipped has may t = at_passed lines i inside cover has t
 tied lines i inside cover (Model name) has may t = at_model lines i name has

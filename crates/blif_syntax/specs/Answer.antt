@@ -25,12 +25,14 @@ fault_of line line_fault.Bad = BadLine line
 fault_of line (line_fault.Unknown word) = UnknownWord line word
 fault_of line (line_fault.LeftOut word) = LeftOut line word
 
--- the answer on these lines: the models that they spell, or the fault of the first faulty line, or that there is no
--- model, or want of memory
-abbrev pub IsAnswer : List Entry → Result Models BlifFault → Type 0
-IsAnswer lines (Ok models) = (first_fault [] lines ≡ None) × (models.models ≡ models_of lines)
-IsAnswer lines (Err (BadLine line)) = first_fault [] lines ≡ Some (line, line_fault.Bad)
-IsAnswer lines (Err (UnknownWord line word)) = first_fault [] lines ≡ Some (line, line_fault.Unknown word)
-IsAnswer lines (Err (LeftOut line word)) = first_fault [] lines ≡ Some (line, line_fault.LeftOut word)
-IsAnswer lines (Err NoModel) = (first_fault [] lines ≡ None) × (models_of lines ≡ [])
-IsAnswer lines (Err OutOfMemory) = Unit {0}
+-- the answer on these lines: the models that they spell, or the fault of the first faulty line, or
+-- that there is no model, or out of memory
+abbrev pub IsBlifAnswer : List Entry → Result Models BlifFault → Type 0
+IsBlifAnswer lines (Ok models) = (first_fault [] lines ≡ None) × (models.models ≡ models_of lines)
+IsBlifAnswer lines (Err (BadLine line)) = first_fault [] lines ≡ Some (line, line_fault.Bad)
+IsBlifAnswer lines (Err (UnknownWord line word)) = first_fault [] lines
+    ≡ Some (line, line_fault.Unknown word)
+IsBlifAnswer lines (Err (LeftOut line word)) = first_fault [] lines
+    ≡ Some (line, line_fault.LeftOut word)
+IsBlifAnswer lines (Err NoModel) = (first_fault [] lines ≡ None) × (models_of lines ≡ [])
+IsBlifAnswer lines (Err OutOfMemory) = Unit {0}

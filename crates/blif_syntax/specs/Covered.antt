@@ -1,4 +1,4 @@
--- Meaning. What models owe of their covers.
+-- Meaning. What has to hold of the covers of models.
 use Rattle.std.specs.Prelude.{◌≡◌, List, length, All}
 use Rattle.net_core.specs.Cover.{IsCover}
 use Rattle.blif_syntax.specs.declared.models.Model.{Model}

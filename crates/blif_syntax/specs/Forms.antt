@@ -20,10 +20,12 @@ bad = Wrong Bad
 -- a row with these characters, and the character of its output
 abbrev pub row_with : List ℕ → List ℕ → Form
 row_with characters (byte ∷ []) =
-    if is_bit byte && list_all is_literal characters then Row (map literal_of characters) (nat_eq byte digit_one) else bad
+    if is_bit byte && list_all is_literal characters then Row (map literal_of characters)
+    (nat_eq byte digit_one) else bad
 row_with characters other = bad
 
--- a line whose first word does not begin with a dot: a row of one word, which has no literals, or of two
+-- a line whose first word does not begin with a dot: a row of one word, which has no literals, or
+-- of two
 abbrev pub form_of_row : List ℕ → List (List ℕ) → Form
 form_of_row first [] = row_with [] first
 form_of_row first (output ∷ []) = if is_filled first then row_with first output else bad
@@ -36,7 +38,8 @@ names_with inputs (Some output) = Names (length inputs) inputs output
 
 -- what the words behind `.names` spell
 abbrev pub form_of_names : List (List ℕ) → Form
-form_of_names words = names_with (take (length words - 1) words) (slice_get words (length words - 1))
+form_of_names words =
+    names_with (take (length words - 1) words) (slice_get words (length words - 1))
 
 -- what the words behind `.model` spell; a model without a name has the empty one
 abbrev pub form_of_model : List (List ℕ) → Form
@@ -51,7 +54,8 @@ form_of_end (word ∷ more) = bad
 
 -- a latch, where its type and its initial value are known
 abbrev pub latch_with : List ℕ → List ℕ → Option LatchKind → Option (List ℕ) → Option Init → Form
-latch_with input output (Some kind) control (Some init) = Item (what.Latch input output kind control init)
+latch_with input output (Some kind) control (Some init) =
+    Item (what.Latch input output kind control init)
 latch_with input output kind control init = bad
 
 -- a latch with a type
@@ -63,9 +67,12 @@ latch_typed input output kind control init =
 -- what the words behind `.latch` spell; a latch without an initial value is free
 abbrev pub form_of_latch : List (List ℕ) → Form
 form_of_latch (input ∷ output ∷ []) = latch_with input output (Some Plain) None (Some Free)
-form_of_latch (input ∷ output ∷ init ∷ []) = latch_with input output (Some Plain) None (init_of init)
-form_of_latch (input ∷ output ∷ kind ∷ control ∷ []) = latch_typed input output kind control (Some Free)
-form_of_latch (input ∷ output ∷ kind ∷ control ∷ init ∷ []) = latch_typed input output kind control (init_of init)
+form_of_latch (input ∷ output ∷ init ∷ []) =
+    latch_with input output (Some Plain) None (init_of init)
+form_of_latch (input ∷ output ∷ kind ∷ control ∷ []) =
+    latch_typed input output kind control (Some Free)
+form_of_latch (input ∷ output ∷ kind ∷ control ∷ init ∷ []) =
+    latch_typed input output kind control (init_of init)
 form_of_latch other = bad
 
 -- the character that parts a formal from its actual
@@ -74,14 +81,17 @@ is_equals byte = nat_eq byte equals_sign
 
 -- a formal and its actual, neither of which is empty
 abbrev pub binding_with : List ℕ → List ℕ → Option (List ℕ × List ℕ)
-binding_with formal actual = if is_filled formal && is_filled actual then Some (formal, actual) else None
+binding_with formal actual =
+    if is_filled formal && is_filled actual then Some (formal, actual) else None
 
 -- a word cut at its first `=`
 abbrev pub binding_of : List ℕ → Option (List ℕ × List ℕ)
-binding_of word = let formal = before is_equals word in binding_with formal (drop (suc (length formal)) word)
+binding_of word =
+    let formal = before is_equals word in binding_with formal (drop (suc (length formal)) word)
 
--- one binding more, where all are bindings
-abbrev pub with_binding : Option (List ℕ × List ℕ) → Option (List (List ℕ × List ℕ)) → Option (List (List ℕ × List ℕ))
+-- one more binding, where all are bindings
+abbrev pub with_binding : Option (List ℕ × List ℕ) → Option (List (List ℕ × List ℕ)) →
+    Option (List (List ℕ × List ℕ))
 with_binding (Some binding) (Some bindings) = Some (binding ∷ bindings)
 with_binding one all = None
 

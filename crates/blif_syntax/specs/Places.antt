@@ -1,4 +1,5 @@
--- Meaning. Where a line may stand, read from the lines before it, the nearest first; and the first line that may not.
+-- Meaning. Where a line may stand, read from the lines before it, the nearest first; and the first
+-- line that may not.
 use Rattle.std.specs.Prelude.{ℕ, ◌∷◌, [], List, length, Bool, true, false, not, Option, Some, None, if◌then◌else◌, nat_eq, ◌&&◌}
 use Rattle.blif_syntax.specs.declared.form.Entry.{Entry}
 use Rattle.blif_syntax.specs.declared.form.Form.{Form}
@@ -23,10 +24,11 @@ abbrev pub first_or : Option Bool → Bool → Bool
 first_or None on = on
 first_or (Some first) on = first
 
--- the cover, with a row more
+-- the cover, with one more row
 abbrev pub with_row : Bool → Option OpenCover → Option OpenCover
 with_row on None = None
-with_row on (Some opened) = Some (record { width = opened.width; first = Some (first_or opened.first on) })
+with_row on (Some opened) =
+    Some (record { width = opened.width; first = Some (first_or opened.first on) })
 
 -- the cover that a row may go on with behind a line of this form, from the one before it
 abbrev pub covers : Form → Option OpenCover → Option OpenCover
@@ -50,7 +52,8 @@ abbrev pub row_fits : ℕ → Bool → Option OpenCover → Bool
 row_fits width on None = false
 row_fits width on (Some opened) = nat_eq width opened.width && is_same (first_or opened.first on) on
 
--- a line of this form may stand where a model is open, or none is, and where a row may go on with this cover
+-- a line of this form may stand where a model is open, or none is, and where a row may go on with
+-- this cover
 abbrev pub may_stand : Form → Bool → Option OpenCover → Bool
 may_stand Skipped inside cover = true
 may_stand (Model name) inside cover = true
@@ -67,5 +70,6 @@ line_fault_of other = Bad
 abbrev pub first_fault : List Entry → List Entry → Option (ℕ × LineFault)
 first_fault earlier [] = None
 first_fault earlier (line ∷ lines) =
-    if may_stand line.form (in_model earlier) (cover_at earlier) then first_fault (line ∷ earlier) lines
+    if may_stand line.form (in_model earlier) (cover_at earlier)
+    then first_fault (line ∷ earlier) lines
     else Some (line.line, line_fault_of line.form)

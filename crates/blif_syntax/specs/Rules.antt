@@ -19,15 +19,17 @@ pub record IsOpen (lines : List Entry) (i : ℕ) : Type 0 where
   pub starts : HasForm lines start (Model name)
   pub unended : (k : ℕ) → start < k → k < i → HasForm lines k End → ⊥
 
--- A row of this width and output character belongs to a cover at place i: a `.names` line of this width stands before it,
--- and between them stand only lines that are skipped, and rows with this output character.
+-- A row of this width and output character belongs to a cover at place i: a `.names` line of this
+-- width stands before it, and between them stand only lines that are skipped, and rows with this
+-- output character.
 pub record GoesOn (lines : List Entry) (i width : ℕ) (on : Bool) : Type 0 where
   pub head : ℕ
   pub inputs : List (List ℕ)
   pub output : List ℕ
   pub earlier : head < i
   pub heads : HasForm lines head (Names width inputs output)
-  pub between : (k : ℕ) → head < k → k < i → HasForm lines k Skipped ⊎ ((row : List Lit) × HasForm lines k (Row row on))
+  pub between : (k : ℕ) → head < k → k < i → HasForm lines k Skipped
+      ⊎ ((row : List Lit) × HasForm lines k (Row row on))
 
 -- a line of this form may stand at place i
 abbrev pub Stands : List Entry → ℕ → Form → Type 0
@@ -53,7 +55,9 @@ pub record IsFirstFault (lines : List Entry) (number : ℕ) (kind : LineFault) :
   pub numbered : entry.line ≡ number
   pub called : line_fault_of entry.form ≡ kind
 
--- Law: the first fault is that of the first line that may not stand, and where there is none each line may.
+-- Law: the first fault is that of the first line that may not stand, and where there is none each
+-- line may.
 pub record FirstFaultIsLeast : Type 0 where
-  pub some : (lines : List Entry) (number : ℕ) (kind : LineFault) → first_fault [] lines ≡ Some (number, kind) → IsFirstFault lines number kind
+  pub some : (lines : List Entry) (number : ℕ) (kind : LineFault) →
+      first_fault [] lines ≡ Some (number, kind) → IsFirstFault lines number kind
   pub none : (lines : List Entry) → first_fault [] lines ≡ None → StandsBefore lines (length lines)

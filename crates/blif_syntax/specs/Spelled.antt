@@ -26,12 +26,17 @@ on_of (row ∷ rows) = row.1
 -- the item of a `.names` line with these rows
 abbrev pub names_item : ℕ → ℕ → List (List ℕ) → List ℕ → List (List Lit × Bool) → Item
 names_item line width inputs output rows =
-    record { line = line; what = what.Names inputs output (record { inputs = width; on = on_of rows; rows = map (λ row. row.0) rows }) }
+    record {
+      line = line;
+      what = what.Names inputs output
+          (record { inputs = width; on = on_of rows; rows = map (λ row. row.0) rows });
+    }
 
 -- the items up to the next line that starts or ends a model
 abbrev pub items_with : ℕ → Form → List Entry → List Item → List Item
 items_with line (form.Item what) lines later = record { line = line; what = what } ∷ later
-items_with line (form.Names width inputs output) lines later = names_item line width inputs output (rows_of lines) ∷ later
+items_with line (form.Names width inputs output) lines later =
+    names_item line width inputs output (rows_of lines) ∷ later
 items_with line (form.Model name) lines later = []
 items_with line form.End lines later = []
 items_with line other lines later = later
@@ -42,7 +47,8 @@ items_of (line ∷ lines) = items_with line.line line.form lines (items_of lines
 
 -- a model for each line that starts one
 abbrev pub models_with : ℕ → Form → List Entry → List Model → List Model
-models_with line (form.Model name) lines later = record { line = line; name = name; items = items_of lines } ∷ later
+models_with line (form.Model name) lines later =
+    record { line = line; name = name; items = items_of lines } ∷ later
 models_with line other lines later = later
 
 abbrev pub models_of : List Entry → List Model

@@ -1,4 +1,5 @@
--- Meaning. The first words of lines, and single words that have a meaning. Source: the Berkeley description of BLIF.
+-- Meaning. The first words of lines, and single words that have a meaning. Source: the Berkeley
+-- description of BLIF.
 use Rattle.std.specs.Prelude.{ℕ, ◌∷◌, [], List, Bool, false, Option, Some, None, if◌then◌else◌, nat_eq, ◌||◌, bytes_eq, codes}
 use Rattle.std.specs.List.{list_any}
 use Rattle.ste_base.specs.Bytes.{dash, digit_one, digit_zero, dot}
@@ -16,15 +17,19 @@ is_one_of words word = list_any (bytes_eq word) words
 -- lines with these first words are skipped unread
 abbrev pub skipped_words : List (List ℕ)
 skipped_words =
-    codes ".area" ∷ codes ".delay" ∷ codes ".wire_load_slope" ∷ codes ".wire" ∷ codes ".input_arrival"
-    ∷ codes ".default_input_arrival" ∷ codes ".output_required" ∷ codes ".default_output_required" ∷ codes ".input_drive"
-    ∷ codes ".default_input_drive" ∷ codes ".output_load" ∷ codes ".default_output_load" ∷ codes ".max_input_load"
+    codes ".area" ∷ codes ".delay" ∷ codes ".wire_load_slope" ∷ codes ".wire"
+    ∷ codes ".input_arrival"
+    ∷ codes ".default_input_arrival" ∷ codes ".output_required" ∷ codes ".default_output_required"
+    ∷ codes ".input_drive"
+    ∷ codes ".default_input_drive" ∷ codes ".output_load" ∷ codes ".default_output_load"
+    ∷ codes ".max_input_load"
     ∷ codes ".default_max_input_load" ∷ codes ".attr" ∷ codes ".param" ∷ codes ".cname" ∷ []
 
 -- lines with these first words are left out
 abbrev pub left_out_words : List (List ℕ)
 left_out_words =
-    codes ".gate" ∷ codes ".mlatch" ∷ codes ".exdc" ∷ codes ".start_kiss" ∷ codes ".search" ∷ codes ".blackbox"
+    codes ".gate" ∷ codes ".mlatch" ∷ codes ".exdc" ∷ codes ".start_kiss" ∷ codes ".search"
+    ∷ codes ".blackbox"
     ∷ codes ".conn" ∷ []
 
 -- latches of these types are left out
@@ -46,7 +51,8 @@ is_literal byte = is_bit byte || nat_eq byte dash
 
 -- the literal of a character
 abbrev pub literal_of : ℕ → Lit
-literal_of byte = if nat_eq byte digit_zero then lit.Zero else if nat_eq byte digit_one then lit.One else lit.Any
+literal_of byte =
+    if nat_eq byte digit_zero then lit.Zero else if nat_eq byte digit_one then lit.One else lit.Any
 
 -- the initial value of a word: 0, 1, and 2 or 3 for a free one
 abbrev pub init_of : List ℕ → Option Init

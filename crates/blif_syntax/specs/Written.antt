@@ -57,7 +57,8 @@ abbrev pub item_words : What → List (List (List ℕ))
 item_words (Inputs names) = (codes ".inputs" ∷ names) ∷ []
 item_words (Outputs names) = (codes ".outputs" ∷ names) ∷ []
 item_words (Clock names) = (codes ".clock" ∷ names) ∷ []
-item_words (Names inputs output cover) = (codes ".names" ∷ (inputs ++ output ∷ [])) ∷ map (row_words cover.on) cover.rows
+item_words (Names inputs output cover) = (codes ".names" ∷ (inputs ++ output ∷ []))
+    ∷ map (row_words cover.on) cover.rows
 item_words (Latch input output kind control init) =
     (codes ".latch" ∷ input ∷ output ∷ (kind_words kind control ++ init_word init ∷ [])) ∷ []
 item_words (Subckt model formals) =
@@ -78,7 +79,8 @@ head_words name = codes ".model" ∷ (if is_filled name then name ∷ [] else []
 -- the lines of a model
 abbrev pub model_lines : Model → List Line
 model_lines model =
-    lines_with_number model.line (head_words model.name ∷ []) ++ (flat_map item_lines model.items ++ lines_with_number model.line ((codes ".end" ∷ []) ∷ []))
+    lines_with_number model.line (head_words model.name ∷ [])
+    ++ (flat_map item_lines model.items ++ lines_with_number model.line ((codes ".end" ∷ []) ∷ []))
 
 -- the models, written out
 abbrev pub written_models : List Model → List Line
@@ -104,5 +106,7 @@ AreSayable models = All (λ model. All (λ item. IsSayable item.what) model.item
 
 -- Law: models that are written out are read back.
 pub record WrittenIsRead : Type 0 where
-  pub sound : (models : List Model) → AreSayable models → first_fault [] (entries_of (written_models models)) ≡ None
-  pub same : (models : List Model) → AreSayable models → models_of (entries_of (written_models models)) ≡ models
+  pub sound : (models : List Model) → AreSayable models →
+      first_fault [] (entries_of (written_models models)) ≡ None
+  pub same : (models : List Model) → AreSayable models →
+      models_of (entries_of (written_models models)) ≡ models

@@ -2,7 +2,7 @@
 
 ghost use Rattle.std.specs.Prelude.{◌≡◌, [], None, IfOk};
 ghost use Rattle.blif_syntax.specs.Places.{first_or};
-ghost use Rattle.blif_syntax.specs.private.Drafts.{open_cover_of, row_added, cover_item, closed_items, closed, item_added, model_added, line_behind, line_added};
+ghost use Rattle.blif_syntax.specs.private.Drafts.{open_cover_of, row_added, cover_item, closed_items, with_pending_cover, item_added, model_added, line_behind, line_added};
 
 use crate::form::{Entry, Form};
 use crate::models::{Item, Model, What};
@@ -22,7 +22,8 @@ pub struct Pending {
     pub rows: Items<Row>,
 }
 
-/// What is read so far: the models that are ended, the one that is open, and its last cover, where rows may follow.
+/// What is read so far: the models that are ended, the one that is open, and its last cover, where
+/// rows may follow.
 #[derive(Drop)]
 pub struct Draft {
     pub models: Items<Model>,
@@ -40,7 +41,7 @@ pub fn open_cover_of(cover: &Option<Pending>) -> Option<OpenCover>
     }
 }
 
-/// The cover, with a row more.
+/// The cover, with one more row.
 fn row_added(row: Row, on: bool, cover: Option<Pending>) -> Result<Option<Pending>, AllocError>
     ensures { IfOk result (λ grown. grown ≡ row_added row on cover) }
 {
@@ -95,7 +96,7 @@ fn cover_item(cover: Pending) -> Item
     }
 }
 
-/// The open model, with an item more.
+/// The open model, with one more item.
 fn item_added(model: Option<Model>, item: Item) -> Result<Option<Model>, AllocError>
     ensures { IfOk result (λ grown. grown ≡ item_added model item) }
 {
@@ -114,8 +115,11 @@ fn item_added(model: Option<Model>, item: Item) -> Result<Option<Model>, AllocEr
 }
 
 /// The open model, with the item of a cover.
-fn closed(model: Option<Model>, cover: Option<Pending>) -> Result<Option<Model>, AllocError>
-    ensures { IfOk result (λ grown. grown ≡ closed model cover) }
+fn with_pending_cover(
+    model: Option<Model>,
+    cover: Option<Pending>,
+) -> Result<Option<Model>, AllocError>
+    ensures { IfOk result (λ grown. grown ≡ with_pending_cover model cover) }
 {
     match cover {
         None => Ok(model),
@@ -137,17 +141,18 @@ fn model_added(models: Items<Model>, model: Option<Model>) -> Result<Items<Model
 /// The models, when the last line is read.
 pub fn models_of(draft: Draft) -> Result<Items<Model>, AllocError>
     ensures { IfOk result (λ models. models
-        ≡ model_added draft.models (closed draft.model draft.cover)) }
+        ≡ model_added draft.models (with_pending_cover draft.model draft.cover)) }
 {
     let Draft {
         models,
         model,
         cover,
     } = draft;
-    model_added(models, closed(model, cover)?)
+    model_added(models, with_pending_cover(model, cover)?)
 }
 
-/// What is read, with a line more that goes on with no cover, behind these models and this open one.
+/// What is read, with one more line that goes on with no cover, behind these models and this open
+/// one.
 fn line_behind(
     alloc: Global,
     models: Items<Model>,
@@ -196,7 +201,7 @@ fn line_behind(
     }
 }
 
-/// What is read, with a line more.
+/// What is read, with one more line.
 pub fn line_added(alloc: Global, draft: Draft, entry: Entry) -> Result<Draft, AllocError>
     ensures { IfOk result (λ grown. grown ≡ line_added draft entry.line entry.form) }
 {
@@ -217,6 +222,12 @@ pub fn line_added(alloc: Global, draft: Draft, entry: Entry) -> Result<Draft, Al
             model,
             cover: row_added(row, on, cover)?,
         }),
-        other => line_behind(alloc, models, closed(model, cover)?, line, other),
+        other => line_behind(
+            alloc,
+            models,
+            with_pending_cover(model, cover)?,
+            line,
+            other,
+        ),
     }
 }

@@ -22,7 +22,7 @@ pub enum BlifFault {
     /// No line is faulty, and no line starts a model.
     #[error("no model")]
     NoModel,
-    /// Memory is wanting.
+    /// Out of memory.
     #[error("out of memory")]
     OutOfMemory,
 }

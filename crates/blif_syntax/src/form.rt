@@ -1,4 +1,5 @@
-//! The forms of lines; begin with `Form`, and for a line's form by its words with `forms::entry_of`.
+//! The forms of lines; begin with `Form`, and for a line's form by its words with
+//! `forms::entry_of`.
 
 pub(crate) mod forms;
 mod latches;

@@ -14,8 +14,8 @@ pub fn written_is_read()
     ensures { WrittenIsRead }
 {}
 
-/// Law: models that are read from lines without a fault can be written out. Each cover is sound, and has as many inputs
-/// as its line names.
+/// Law: models that are read from lines without a fault can be written out. Each cover is sound,
+/// and has as many inputs as its line names.
 pub fn read_is_sayable()
     ensures { ReadIsSayable }
 {}

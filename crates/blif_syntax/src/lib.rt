@@ -1,4 +1,5 @@
-//! The grammar of BLIF netlists: from logical lines to models, or to the first faulty line. Begin with `read_models`.
+//! The grammar of BLIF netlists: from logical lines to models, or to the first faulty line. Begin
+//! with `read_models`.
 #![tactic(auto)]
 
 mod draft;

@@ -22,13 +22,15 @@ pub enum What {
     Outputs(Items<Name>),
     /// The words of a `.clock` line, in order.
     Clock(Items<Name>),
-    /// A `.names` line with the rows that follow it: one input for each input position of the cover.
+    /// A `.names` line with the rows that follow it: one input for each input position of the
+    /// cover.
     Names {
         inputs: Items<Name>,
         output: Name,
         cover: Cover,
     },
-    /// A `.latch` line. `control` is None where there is none, or it is `NIL`. Without an initial value `init` is free.
+    /// A `.latch` line. `control` is None where there is none, or it is `NIL`. Without an initial
+    /// value `init` is free.
     Latch {
         input: Name,
         output: Name,
@@ -36,7 +38,8 @@ pub enum What {
         control: Option<Name>,
         init: Init,
     },
-    /// A `.subckt` line: the name of the model that is used, and each formal with its actual, in order.
+    /// A `.subckt` line: the name of the model that is used, and each formal with its actual, in
+    /// order.
     Subckt {
         model: Name,
         formals: Items<(Name, Name)>,

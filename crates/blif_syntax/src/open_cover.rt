@@ -5,8 +5,8 @@ ghost use Rattle.blif_syntax.specs.Places.{first_or, row_fits, may_stand};
 
 use crate::form::Form;
 
-/// The cover that a row may go on with: the number of its inputs, and the output character of its first row, once there
-/// is one.
+/// The cover that a row may go on with: the number of its inputs, and the output character of its
+/// first row, once there is one.
 #[derive(Clone, Copy, PartialEq, Eq)]
 pub struct OpenCover {
     pub width: u32,
@@ -33,7 +33,8 @@ fn row_fits(width: usize, on: bool, cover: Option<OpenCover>) -> bool
     }
 }
 
-/// Whether a line of this form may stand where a model is open, or none is, and where a row may go on with this cover.
+/// Whether a line of this form may stand where a model is open, or none is, and where a row may go
+/// on with this cover.
 pub(crate) fn may_stand(form: &Form, inside: bool, cover: Option<OpenCover>) -> bool
     ensures { result ≡ may_stand form.now inside cover }
 {

@@ -1,7 +1,7 @@
 //! From lines to models; begin with `read_models`.
 
 ghost use Rattle.std.specs.Prelude.{◌≡◌, ◌<◌, ◌^◌, All, length};
-ghost use Rattle.blif_syntax.specs.Answer.{IsAnswer, entries_of, fault_of};
+ghost use Rattle.blif_syntax.specs.Answer.{IsBlifAnswer, entries_of, fault_of};
 ghost use Rattle.blif_syntax.specs.Places.{line_fault_of};
 
 use crate::draft::{Draft, line_added, models_of, open_cover_of};
@@ -27,15 +27,15 @@ fn fault_of(line: u32, form: Form) -> BlifFault
 
 /// Reads the models that a netlist's lines spell. A line has fewer than 2^32 words. The errors:
 ///
-/// - `BadLine`, `UnknownWord` or `LeftOut` where some line may not stand where it does: the number of the first such
-///   line. It is `LeftOut` where the line's first word is one of those that are left out, or where it is a latch of a
-///   type that is left out; `UnknownWord` where its first word begins with a dot and is none that is known; and else
-///   `BadLine`.
+/// - `BadLine`, `UnknownWord` or `LeftOut` where some line may not stand where it does: the number
+///   of the first such line. It is `LeftOut` where the line's first word is one of those that are
+///   left out, or where it is a latch of a type that is left out; `UnknownWord` where its first
+///   word begins with a dot and is none that is known; and else `BadLine`.
 /// - `NoModel` where each line may stand and none starts a model.
 /// - `OutOfMemory`.
 pub fn read_models(alloc: Global, lines: &[Line]) -> Result<Models, BlifFault>
     requires words { All (λ line. length line.words < 2 ^ 32) lines.now }
-    ensures { IsAnswer (entries_of lines.now) result }
+    ensures { IsBlifAnswer (entries_of lines.now) result }
 {
     let mut draft = Draft {
         models: Items::new(alloc),

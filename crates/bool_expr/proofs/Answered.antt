@@ -8,9 +8,9 @@ use Rattle.bool_expr.specs.declared.fault.ExprFault.TheVariants.{BadExpr, TooDee
 use Rattle.bool_expr.specs.Tokens.{variable, tokens_of}
 use Rattle.bool_expr.specs.Tree.{bit, place, tree_of}
 use Rattle.bool_expr.specs.Grammar.{Phrase, factor, Expression, literal, named, single, spelling, nesting}
-use Rattle.bool_expr.specs.private.Scan.{scan_from, scan_start}
+use Rattle.bool_expr.specs.Scan.{scan_from, scan_start}
 use Rattle.bool_expr.specs.private.Build.{build_from, build_start}
-use Rattle.bool_expr.specs.Read.{Spells, IsAnswer, HasCause, first_unknown, place_by, number_in}
+use Rattle.bool_expr.specs.Read.{Spells, IsExprAnswer, HasCause, first_unknown, place_by, number_in}
 use Rattle.bool_expr.specs.private.Held.{IsCause}
 use Rattle.bool_expr.specs.Laws.{OneTextSpellsOneTree}
 use Rattle.bool_expr.proofs.Deep.{expression_depth}
@@ -46,7 +46,7 @@ pub some_spelled : (text : List ℕ) (found : Option ℕ) (depth : ℕ) → foun
 some_spelled text found depth e n = expression_found 101 (tokens_of text) depth (sym e ∙ n)
 
 -- the answer of the second pass, where the first finds a depth of at most 100
-pub answered : (vars : List (List ℕ)) (text : List ℕ) (depth : ℕ) (number : List ℕ → Option ℕ) (answer : Result Expr ExprFault) → depth ≤ 100 → number ≡ number_in vars → IfOk answer (λ expr. tree_of expr ≡ build_from (place_by number) build_start (tokens_of text)) → IfOk answer (λ _. first_unknown number (tokens_of text) ≡ None) → IfErr answer (λ fault. IsCause number (tokens_of text) fault) → (d : Expression) → Spells d text → depth ≡ min (nesting d) 101 → IsAnswer vars d answer
+pub answered : (vars : List (List ℕ)) (text : List ℕ) (depth : ℕ) (number : List ℕ → Option ℕ) (answer : Result Expr ExprFault) → depth ≤ 100 → number ≡ number_in vars → IfOk answer (λ expr. tree_of expr ≡ build_from (place_by number) build_start (tokens_of text)) → IfOk answer (λ _. first_unknown number (tokens_of text) ≡ None) → IfErr answer (λ fault. IsCause number (tokens_of text) fault) → (d : Expression) → Spells d text → depth ≡ min (nesting d) 101 → IsExprAnswer vars d answer
 answered vars text depth number (Ok expr) h same ok known err d s e =
     (omega arith, ap (λ f. first_unknown f (spelling d)) (sym same) ∙ ap (first_unknown number) s ∙ known, ok ∙ ap (λ f. build_from (place_by f) build_start (tokens_of text)) same ∙ ap (build_from (place_by (number_in vars)) build_start) (sym s) ∙ expression_tree (place_by (number_in vars)) d)
 answered vars text depth number (Err BadExpr) h same ok known err d s e = err
@@ -55,8 +55,8 @@ answered vars text depth number (Err (UnknownVar name)) h same ok known err d s 
     (omega arith, ap (λ f. first_unknown f (spelling d)) (sym same) ∙ ap (first_unknown number) s ∙ err)
 answered vars text depth number (Err OutOfMemory) h same ok known err d s e = tt
 
--- an answer that is no want of memory has its cause, where the text spells an expression
-pub caused : (vars : List (List ℕ)) (text : List ℕ) (answer : Result Expr ExprFault) (d : Expression) → Spells d text → IsAnswer vars d answer → HasCause vars text answer
+-- an answer other than out of memory has its cause, where the text spells an expression
+pub caused : (vars : List (List ℕ)) (text : List ℕ) (answer : Result Expr ExprFault) (d : Expression) → Spells d text → IsExprAnswer vars d answer → HasCause vars text answer
 caused vars text (Ok expr) d s a = (d, s, a)
 caused vars text (Err BadExpr) d s a = absurd a
 caused vars text (Err TooDeep) d s a = (d, s, a)
@@ -64,7 +64,7 @@ caused vars text (Err (UnknownVar name)) d s a = (d, s, a)
 caused vars text (Err OutOfMemory) d s a = tt
 
 -- an answer for one expression that a text spells is one for each
-pub answers_each : (vars : List (List ℕ)) (text : List ℕ) (answer : Result Expr ExprFault) (one : Expression) → Spells one text → IsAnswer vars one answer → (d : Expression) → Spells d text → IsAnswer vars d answer
+pub answers_each : (vars : List (List ℕ)) (text : List ℕ) (answer : Result Expr ExprFault) (one : Expression) → Spells one text → IsExprAnswer vars one answer → (d : Expression) → Spells d text → IsExprAnswer vars d answer
 answers_each vars text (Ok expr) one e a d s =
     let same = one_tree text one d e s in
     let nested = same.0 in
@@ -80,10 +80,10 @@ answers_each vars text (Err OutOfMemory) one e a d s = tt
 abbrev pub alone : Phrase factor → Expression
 alone f = single Or (single Xor (single And f))
 
-pub bit_answer : (vars : List (List ℕ)) (b : Bool) (expr : Expr) → tree_of expr ≡ bit b → IsAnswer vars (alone (literal b)) (Ok expr)
+pub bit_answer : (vars : List (List ℕ)) (b : Bool) (expr : Expr) → tree_of expr ≡ bit b → IsExprAnswer vars (alone (literal b)) (Ok expr)
 bit_answer vars b expr same = (omega arith, refl, same)
 
-pub word_answer : (vars : List (List ℕ)) (word : List ℕ) (answer : Result Expr ExprFault) → IfOk answer (λ expr. tree_of expr ≡ place (place_by (number_in vars) word)) → IfOk answer (λ _. IsTrue (is_some (number_in vars word))) → IfErr answer (λ fault. IsCause (number_in vars) (variable word ∷ []) fault) → IsAnswer vars (alone (named word)) answer
+pub word_answer : (vars : List (List ℕ)) (word : List ℕ) (answer : Result Expr ExprFault) → IfOk answer (λ expr. tree_of expr ≡ place (place_by (number_in vars) word)) → IfOk answer (λ _. IsTrue (is_some (number_in vars word))) → IfErr answer (λ fault. IsCause (number_in vars) (variable word ∷ []) fault) → IsExprAnswer vars (alone (named word)) answer
 word_answer vars word (Ok expr) ok known err = let k : is_some (number_in vars word) ≡ true = known in (omega arith, rw k refl, ok)
 word_answer vars word (Err BadExpr) ok known err = err
 word_answer vars word (Err TooDeep) ok known err = absurd err

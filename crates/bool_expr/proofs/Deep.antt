@@ -2,12 +2,12 @@
 use Rattle.std.proofs.Common.{ℕ, ◌+◌, ◌≤◌, ◌≡◌, refl, sym, ap, ◌∙◌, min, max, List, [], ◌∷◌, ◌++◌, arith, true, false, Some, append_assoc, append-nil}
 use Rattle.bool_expr.specs.Tokens.{Token, sign, closing}
 use Rattle.bool_expr.specs.Grammar.{Level, factor, chained, Phrase, Expression, literal, named, negated, bracketed, single, joined, spelling, nesting}
-use Rattle.bool_expr.specs.private.Scan.{Scanned, scan_from, scan_start, deeper}
+use Rattle.bool_expr.specs.Scan.{ScanState, scan_from, scan_start, deeper}
 
-abbrev at_start : ℕ → ℕ → ℕ → List ℕ → Scanned
+abbrev at_start : ℕ → ℕ → ℕ → List ℕ → ScanState
 at_start depth base deepest outer = record { wants = true; depth = depth; base = base; deepest = deepest; outer = outer }
 
-abbrev at_end : ℕ → ℕ → List ℕ → Scanned
+abbrev at_end : ℕ → ℕ → List ℕ → ScanState
 at_end base deepest outer = record { wants = false; depth = base; base = base; deepest = deepest; outer = outer }
 
 -- a chain has no `!` before it

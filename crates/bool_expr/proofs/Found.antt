@@ -4,7 +4,7 @@ use Rattle.bool_expr.specs.declared.token.Sign.{Sign}
 use Rattle.bool_expr.specs.declared.token.Sign.TheVariants.{Or, Xor, And}
 use Rattle.bool_expr.specs.Tokens.{Token, sign, negation, opening, closing, constant, variable, wrong}
 use Rattle.bool_expr.specs.Grammar.{Level, factor, chained, Phrase, Expression, literal, named, negated, bracketed, single, joined, spelling}
-use Rattle.bool_expr.specs.private.Scan.{scan_from, scan_start}
+use Rattle.bool_expr.specs.Scan.{scan_from, scan_start}
 
 -- what may stand behind a factor, up to the end of its bracket
 abbrev pub IsTail : List Token → Type 0

@@ -7,9 +7,9 @@ use Rattle.bool_expr.specs.declared.token.Sign.{Sign}
 use Rattle.bool_expr.specs.Grammar.{Level, Phrase, chained, literal, named, negated, bracketed, single, joined, tree, parts}
 use Rattle.bool_expr.specs.Laws.{TreesAreFull}
 use Rattle.bool_expr.specs.Read.{HasCause}
-use Rattle.bool_expr.specs.Tree.{Tree, AreFull, IsFull, all_of, chain, tree_of}
+use Rattle.bool_expr.specs.Tree.{Tree, AreFull, IsFull, all_of, tree_of_chain, tree_of}
 
-chain_full : (s : Sign) (part : Tree) (rest : List Tree) → IsFull part → AreFull (all_of rest) → IsFull (chain s (part ∷ rest))
+chain_full : (s : Sign) (part : Tree) (rest : List Tree) → IsFull part → AreFull (all_of rest) → IsFull (tree_of_chain s (part ∷ rest))
 chain_full s part [] h all = h
 chain_full s part (next ∷ rest) h all = (tt, (h, all))
 

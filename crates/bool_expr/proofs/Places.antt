@@ -3,7 +3,7 @@ use Rattle.std.proofs.Common.{ℕ, suc, ◌+◌, ◌<◌, ◌≡◌, refl, sym, 
 use Rattle.std.specs.Prelude.{bytes_eq, if◌then◌else◌, is_some, IfSome, ◌||◌}
 use Rattle.std.specs.List.{list_any}
 use Rattle.std.proofs.lemmas.Slice.Eq.{bytes_eq-Decides}
-use Rattle.bool_expr.specs.Read.{number_from, number_in}
+use Rattle.bool_expr.specs.Read.{place_from, number_in}
 use Rattle.bool_expr.specs.private.Held.{with_place}
 
 keeps : (o : Option ℕ) (n : ℕ) → o ≡ with_place o false n
@@ -39,7 +39,7 @@ more_one true c n m whole front e = refl
 more_one false c n m whole front e = e
 
 -- the numbers in one more variable
-last_number : (n m : ℕ) (vars : List (List ℕ)) (name word : List ℕ) → m ≡ n + length vars → number_from n (vars ++ name ∷ []) word ≡ with_place (number_from n vars word) (bytes_eq name word) m
+last_number : (n m : ℕ) (vars : List (List ℕ)) (name word : List ℕ) → m ≡ n + length vars → place_from n (vars ++ name ∷ []) word ≡ with_place (place_from n vars word) (bytes_eq name word) m
 last_number n m [] name word e = last_one (bytes_eq name word) n m (omega (arith, e))
 last_number n m (var ∷ vars) name word e =
     more_one (bytes_eq var word) (bytes_eq name word) n m _ _ (last_number (suc n) m vars name word (omega (arith, e)))
@@ -63,19 +63,19 @@ found_one true c number n any e h = rw (sym e) refl
 found_one false c number n any e h = rw (sym e) h
 
 -- a word has a number just where it is one of the names
-pub has_number : (n : ℕ) (names : List (List ℕ)) (word : List ℕ) → is_some (number_from n names word) ≡ list_any (bytes_eq word) names
+pub has_number : (n : ℕ) (names : List (List ℕ)) (word : List ℕ) → is_some (place_from n names word) ≡ list_any (bytes_eq word) names
 has_number n [] word = refl
-has_number n (name ∷ names) word = found_one (bytes_eq name word) (bytes_eq word name) (number_from (suc n) names word) n (list_any (bytes_eq word) names) (eq_either_way name word) (has_number (suc n) names word)
+has_number n (name ∷ names) word = found_one (bytes_eq name word) (bytes_eq word name) (place_from (suc n) names word) n (list_any (bytes_eq word) names) (eq_either_way name word) (has_number (suc n) names word)
 
 found_within : (b : Bool) (n m most : ℕ) (later : Option ℕ) → n < most → ((k : ℕ) → later ≡ Some k → k < most) → (if b then Some n else later) ≡ Some m → m < most
 found_within true n m most later h rest e = let same : n ≡ m = cc in omega (arith, same, h)
 found_within false n m most later h rest e = rest m e
 
 -- a number is below the number of names
-pub within_names : (n : ℕ) (names : List (List ℕ)) (word : List ℕ) (m : ℕ) → number_from n names word ≡ Some m → m < n + length names
+pub within_names : (n : ℕ) (names : List (List ℕ)) (word : List ℕ) (m : ℕ) → place_from n names word ≡ Some m → m < n + length names
 within_names n [] word m e = absurd (cc e)
 within_names n (name ∷ names) word m e =
-    found_within (bytes_eq name word) n m (n + length (name ∷ names)) (number_from (suc n) names word) (omega arith) (λ k f. let h = within_names (suc n) names word k f in omega (arith, h)) e
+    found_within (bytes_eq name word) n m (n + length (name ∷ names)) (place_from (suc n) names word) (omega arith) (λ k f. let h = within_names (suc n) names word k f in omega (arith, h)) e
 
 pub if_within : (vars : List (List ℕ)) (word : List ℕ) (found : Option ℕ) → found ≡ number_in vars word → IfSome found (λ place. place < length vars)
 if_within vars word None e = tt

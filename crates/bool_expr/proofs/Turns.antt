@@ -7,14 +7,14 @@ use Rattle.std.specs.Prelude.{is_some, if◌then◌else◌}
 use Rattle.bool_expr.specs.Tokens.{Token, sign, negation, opening, closing, constant, variable, wrong}
 use Rattle.bool_expr.specs.Read.{first_unknown}
 use Rattle.bool_expr.specs.private.Held.{IsCause}
-use Rattle.bool_expr.specs.private.Build.{Built, Opened, turn, shut}
+use Rattle.bool_expr.specs.private.Build.{OpenBrackets, OpenBracket, turn, behind_closing}
 
-shut_signs : (b : Built) (outer : List Opened) → (shut b outer).inner.signs ≤ suc b.inner.signs
+shut_signs : (b : OpenBrackets) (outer : List OpenBracket) → (behind_closing b outer).inner.signs ≤ suc b.inner.signs
 shut_signs b [] = omega arith
 shut_signs b (o ∷ outer) = omega arith
 
 -- a token is at most one more `!`
-pub turn_signs : (number : List ℕ → ℕ) (b : Built) (token : Token) → (turn number b token).inner.signs ≤ suc b.inner.signs
+pub turn_signs : (number : List ℕ → ℕ) (b : OpenBrackets) (token : Token) → (turn number b token).inner.signs ≤ suc b.inner.signs
 turn_signs number b (sign Or) = omega arith
 turn_signs number b (sign Xor) = omega arith
 turn_signs number b (sign And) = omega arith

@@ -1,33 +1,16 @@
 -- The value of an expression is that of its tree.
-use Rattle.std.proofs.Common.{◌≡◌, Bool, false, not, List, [], ◌∷◌, map, ap, refl, sym, subst, ◌∙◌}
-use Rattle.std.specs.Prelude.{slice_index_or}
+use Rattle.std.proofs.Common.{◌≡◌, Bool, not, List, [], ◌∷◌, map, ap, refl, sym, subst, ◌∙◌}
 use Rattle.std.specs.List.{list_all, list_any}
 use Rattle.bool_expr.specs.declared.expr.Expr.{Expr, map-Expr}
 use Rattle.bool_expr.specs.declared.expr.Expr.TheOpen.{Expr-F, Const, Var, Not, All, Odd, Any}
 use Rattle.bool_expr.specs.declared.expr.Expr.TheFolds.{fold-roll-Expr, ind-Expr}
-use Rattle.bool_expr.specs.declared.token.Sign.{Sign}
-use Rattle.bool_expr.specs.declared.token.Sign.TheVariants.{Or, Xor, And}
 use Rattle.bool_expr.specs.Laws.{OneTreeHasOneValue}
-use Rattle.bool_expr.specs.Tree.{Tree, Trees, bit, place, opposite, under, none, more, all_of, tree_of, tree_step}
+use Rattle.bool_expr.specs.Tree.{Tree, all_of, tree_of, tree_step}
+use Rattle.bool_expr.specs.TreeValue.{tree_value, tree_values}
 use Rattle.bool_expr.specs.Value.{odd_of, value_of, value_step}
 
-abbrev sign_value : Sign → List Bool → Bool
-sign_value And bits = list_all (λ b. b) bits
-sign_value Xor bits = odd_of bits
-sign_value Or bits = list_any (λ b. b) bits
-
-abbrev mutual
-  tree_value : List Bool → Tree → Bool
-  tree_value bits (bit b) = b
-  tree_value bits (place n) = slice_index_or bits n false
-  tree_value bits (opposite part) = not (tree_value bits part)
-  tree_value bits (under s parts) = sign_value s (tree_values bits parts)
-
-  tree_values : List Bool → Trees → List Bool
-  tree_values bits none = []
-  tree_values bits (more part parts) = tree_value bits part ∷ tree_values bits parts
-
-abbrev IsTreeValue : List Bool → Expr → Type 0
+-- an expression has the value of its tree
+abbrev pub IsTreeValue : List Bool → Expr → Type 0
 IsTreeValue bits expr = value_of expr bits ≡ tree_value bits (tree_of expr)
 
 each_value : (bits : List Bool) (parts : List ((e : Expr) × IsTreeValue bits e)) → map (λ e. value_of e bits) (map (λ p. p.0) parts) ≡ tree_values bits (all_of (map tree_of (map (λ p. p.0) parts)))
@@ -46,7 +29,7 @@ layer_value bits (All parts) = ap (list_all (λ b. b)) (each_value bits parts.it
 layer_value bits (Odd parts) = ap odd_of (each_value bits parts.items)
 layer_value bits (Any parts) = ap (list_any (λ b. b)) (each_value bits parts.items)
 
-value_is : (bits : List Bool) (expr : Expr) → IsTreeValue bits expr
+pub value_is : (bits : List Bool) (expr : Expr) → IsTreeValue bits expr
 value_is bits = ind-Expr (IsTreeValue bits) (λ x y is.
     let here = subst (λ (z : Expr-F Expr). value_step bits (map-Expr Expr Bool (λ e. value_of e bits) z) ≡ tree_value bits (tree_step (map-Expr Expr Tree tree_of z))) is (layer_value bits y) in
     fold-roll-Expr Bool (value_step bits) x ∙ here ∙ ap (tree_value bits) (sym (fold-roll-Expr Tree tree_step x)))

@@ -1,17 +1,18 @@
--- Meaning. The grammar of expressions: which tree a list of tokens spells, and how deep it is nested. The rules are this
--- project's own choice.
+-- Meaning. The grammar of expressions: which tree a list of tokens spells, and how deep it is
+-- nested. The rules are this project's own choice.
 use Rattle.std.specs.Prelude.{ℕ, suc, max, List, [], ◌∷◌, ◌++◌, Bool}
 use Rattle.bool_expr.specs.declared.token.Sign.{Sign}
 use Rattle.bool_expr.specs.declared.token.Sign.TheVariants.{Or, Xor, And}
 use Rattle.bool_expr.specs.Tokens.{Token, sign, negation, opening, closing, constant, variable}
-use Rattle.bool_expr.specs.Tree.{Tree, bit, place, opposite, chain}
+use Rattle.bool_expr.specs.Tree.{Tree, bit, place, opposite, tree_of_chain}
 
 -- what a phrase is: a factor, or a chain of parts with one sign between them
 pub data Level : Type 0 where
   factor : Level
   chained : Sign → Level
 
--- the parts of a chain: `|` stands between chains of `^`, `^` between chains of `&`, and `&` between factors
+-- the parts of a chain: `|` stands between chains of `^`, `^` between chains of `&`, and `&`
+-- between factors
 abbrev pub part_of : Sign → Level
 part_of Or = chained Xor
 part_of Xor = chained And
@@ -53,8 +54,8 @@ nesting (bracketed part) = suc (nesting part)
 nesting (single s part) = nesting part
 nesting (joined s part rest) = max (nesting part) (nesting rest)
 
--- The tree of a phrase, where each variable has a number. A chain of two or more parts is one list; brackets and chains
--- of one part leave no trace.
+-- The tree of a phrase, where each variable has a number. A chain of two or more parts is one list;
+-- brackets and chains of one part leave no trace.
 abbrev mutual
   pub tree : {level : Level} → (List ℕ → ℕ) → Phrase level → Tree
   tree number (literal b) = bit b
@@ -62,7 +63,7 @@ abbrev mutual
   tree number (negated part) = opposite (tree number part)
   tree number (bracketed part) = tree number part
   tree number (single s part) = tree number part
-  tree number (joined s part rest) = chain s (tree number part ∷ parts number rest)
+  tree number (joined s part rest) = tree_of_chain s (tree number part ∷ parts number rest)
 
   -- the trees of the parts of a chain
   pub parts : {s : Sign} → (List ℕ → ℕ) → Phrase (chained s) → List Tree

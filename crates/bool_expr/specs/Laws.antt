@@ -14,7 +14,8 @@ OneTextSpellsOneTree =
 
 -- expressions with one tree have one value under each assignment
 abbrev pub OneTreeHasOneValue : Type 0
-OneTreeHasOneValue = (one other : Expr) (bits : List Bool) → tree_of one ≡ tree_of other → value_of one bits ≡ value_of other bits
+OneTreeHasOneValue = (one other : Expr) (bits : List Bool) → tree_of one ≡ tree_of other →
+    value_of one bits ≡ value_of other bits
 
 -- each list of a tree that is spelled has two or more parts
 abbrev pub TreesAreFull : Type 0

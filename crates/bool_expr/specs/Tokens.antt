@@ -5,7 +5,8 @@ use Rattle.ste_base.specs.Bytes.{digit_one, digit_zero, is_blank, is_digit, is_l
 use Rattle.bool_expr.specs.declared.token.Sign.{Sign}
 use Rattle.bool_expr.specs.declared.token.Sign.TheVariants.{Or, Xor, And}
 
--- a token: a sign between two parts, `!`, a bracket, `0` or `1`, a variable, or what is none of these
+-- a token: a sign between two parts, `!`, a bracket, `0` or `1`, a variable, or what is none of
+-- these
 pub data Token : Type 0 where
   sign : Sign → Token
   negation : Token
@@ -21,7 +22,8 @@ is_name_byte byte = is_letter byte || is_digit byte
 
 -- the word is one that task files keep for themselves
 abbrev pub is_kept : List ℕ → Bool
-is_kept word = bytes_eq word (codes "when") || bytes_eq word (codes "from") || bytes_eq word (codes "to")
+is_kept word = bytes_eq word (codes "when") || bytes_eq word (codes "from")
+    || bytes_eq word (codes "to")
 
 -- the token that a word is
 abbrev pub word_token : List ℕ → Token
@@ -40,14 +42,15 @@ byte_token byte =
     else if nat_eq byte digit_one then constant true
     else wrong
 
--- The tokens that begin in a text, where it is known whether a word stands before it. A word goes on as long as it can,
--- and blanks are in no token.
+-- The tokens that begin in a text, where it is known whether a word stands before it. A word goes
+-- on as long as it can, and blanks are in no token.
 abbrev pub tokens_behind : Bool → List ℕ → List Token
 tokens_behind word [] = []
 tokens_behind word (byte ∷ text) =
     if word && is_name_byte byte then tokens_behind true text
     else if is_blank byte then tokens_behind false text
-    else if is_letter byte then word_token (byte ∷ take_while is_name_byte text) ∷ tokens_behind true text
+    else if is_letter byte then word_token (byte ∷ take_while is_name_byte text)
+    ∷ tokens_behind true text
     else byte_token byte ∷ tokens_behind false text
 
 -- the tokens of a text

@@ -23,9 +23,9 @@ all_of [] = none
 all_of (part ∷ parts) = more part (all_of parts)
 
 -- the tree of a chain: its only part, or all its parts under the sign
-abbrev pub chain : Sign → List Tree → Tree
-chain s (part ∷ []) = part
-chain s parts = under s (all_of parts)
+abbrev pub tree_of_chain : Sign → List Tree → Tree
+tree_of_chain s (part ∷ []) = part
+tree_of_chain s parts = under s (all_of parts)
 
 -- one step of an expression, with the tree of each part in the part's place
 abbrev pub tree_step : Expr-F Tree → Tree

@@ -1,4 +1,3 @@
 -- Definitions that serve private functions.
-pub mod Scan
 pub mod Build
 pub mod Held

@@ -2,10 +2,10 @@
 
 ghost use Rattle.std.specs.Prelude.{◌≡◌, ◌<◌, ◌^◌, ◌∷◌, [], IfOk, IfErr, None, length, map, ◌++◌};
 ghost use Rattle.bool_expr.specs.Tokens.{tokens_of, negation};
-ghost use Rattle.bool_expr.specs.Tree.{tree_of, chain};
+ghost use Rattle.bool_expr.specs.Tree.{tree_of, tree_of_chain};
 ghost use Rattle.bool_expr.specs.Read.{number_in, place_by, first_unknown};
 ghost use Rattle.bool_expr.specs.private.Held.{token_of, IsCause};
-ghost use Rattle.bool_expr.specs.private.Build.{opened, built, nothing, behind_signs, with_factor, shut, with_sign, closed, turn, build_from, build_start};
+ghost use Rattle.bool_expr.specs.private.Build.{bracket_of, brackets_of, nothing, behind_signs, with_factor, behind_closing, with_sign, tree_in_bracket, turn, build_from, build_start};
 
 use crate::expr::Expr;
 use crate::fault::ExprFault;
@@ -14,7 +14,8 @@ use crate::vars::{Variables, variable_of};
 use std::alloc::{AllocError, Global};
 use std::collections::VecDeque;
 
-/// What stands in a bracket so far: the number of `!` before the next factor, and the parts of the chains that are open.
+/// What stands in a bracket so far: the number of `!` before the next factor, and the parts of the
+/// chains that are open.
 #[derive(Drop)]
 pub struct Inner {
     pub signs: usize,
@@ -32,7 +33,7 @@ pub struct Build {
 
 /// The expression that a chain is: its only part, or the list of its parts.
 fn chain(sign: Sign, mut parts: Vec<Expr>) -> Expr
-    ensures { tree_of result ≡ chain sign (map tree_of parts.items) }
+    ensures { tree_of result ≡ tree_of_chain sign (map tree_of parts.items) }
 {
     if parts.len() == 1
         && let Some(only) = parts.pop()
@@ -60,10 +61,11 @@ fn behind_signs(alloc: Global, signs: usize, expr: Expr) -> Result<Expr, AllocEr
     Ok(whole)
 }
 
-/// The expression that a chain is with this last part. Where that is the only one it takes no memory.
+/// The expression that a chain is with this last part. Where that is the only one it takes no
+/// memory.
 fn chain_to(sign: Sign, mut parts: Vec<Expr>, last: Expr) -> Result<Expr, AllocError>
     ensures { IfOk result (λ whole. tree_of whole
-        ≡ chain sign (map tree_of parts.items ++ tree_of last ∷ [])) }
+        ≡ tree_of_chain sign (map tree_of parts.items ++ tree_of last ∷ [])) }
 {
     if parts.is_empty() {
         return Ok(last);
@@ -75,7 +77,7 @@ fn chain_to(sign: Sign, mut parts: Vec<Expr>, last: Expr) -> Result<Expr, AllocE
 /// The parts of a chain of `^`, with the chain of `&` that is open.
 fn odd_parts(mut odd: Vec<Expr>, all: Vec<Expr>) -> Result<Vec<Expr>, AllocError>
     ensures { IfOk result (λ parts. map tree_of parts.items ≡ map tree_of odd.items
-        ++ chain Sign.And (map tree_of all.items) ∷ []) }
+        ++ tree_of_chain Sign.And (map tree_of all.items) ∷ []) }
 {
     odd.push(chain(Sign::And, all))?;
     Ok(odd)
@@ -83,8 +85,8 @@ fn odd_parts(mut odd: Vec<Expr>, all: Vec<Expr>) -> Result<Vec<Expr>, AllocError
 
 /// The last part of a chain of `|`: the chains of `^` and `&` that are open.
 fn last_part(odd: Vec<Expr>, all: Vec<Expr>) -> Result<Expr, AllocError>
-    ensures { IfOk result (λ part. tree_of part ≡ chain Sign.Xor (map tree_of odd.items
-        ++ chain Sign.And (map tree_of all.items) ∷ [])) }
+    ensures { IfOk result (λ part. tree_of part ≡ tree_of_chain Sign.Xor (map tree_of odd.items
+        ++ tree_of_chain Sign.And (map tree_of all.items) ∷ [])) }
 {
     chain_to(Sign::Xor, odd, chain(Sign::And, all))
 }
@@ -92,8 +94,8 @@ fn last_part(odd: Vec<Expr>, all: Vec<Expr>) -> Result<Expr, AllocError>
 /// The parts of a chain of `|`, with the chains of `^` and `&` that are open.
 fn any_parts(mut any: Vec<Expr>, odd: Vec<Expr>, all: Vec<Expr>) -> Result<Vec<Expr>, AllocError>
     ensures { IfOk result (λ parts. map tree_of parts.items ≡ map tree_of any.items
-        ++ chain Sign.Xor (map tree_of odd.items
-        ++ chain Sign.And (map tree_of all.items) ∷ []) ∷ []) }
+        ++ tree_of_chain Sign.Xor (map tree_of odd.items
+        ++ tree_of_chain Sign.And (map tree_of all.items) ∷ []) ∷ []) }
 {
     any.push(last_part(odd, all)?)?;
     Ok(any)
@@ -102,7 +104,7 @@ fn any_parts(mut any: Vec<Expr>, odd: Vec<Expr>, all: Vec<Expr>) -> Result<Vec<E
 impl Inner {
     /// An empty bracket.
     fn new(alloc: Global) -> Inner
-        ensures { opened result ≡ nothing }
+        ensures { bracket_of result ≡ nothing }
     {
         Inner {
             signs: 0,
@@ -114,7 +116,8 @@ impl Inner {
 
     /// Behind one more factor.
     fn with_factor(self, alloc: Global, part: Expr) -> Result<Inner, AllocError>
-        ensures { IfOk result (λ inner. opened inner ≡ with_factor (tree_of part) (opened self)) }
+        ensures { IfOk result (λ inner. bracket_of inner ≡ with_factor (tree_of part)
+            (bracket_of self)) }
     {
         let Inner {
             signs,
@@ -133,7 +136,7 @@ impl Inner {
 
     /// Behind a sign.
     fn with_sign(self, alloc: Global, sign: Sign) -> Result<Inner, AllocError>
-        ensures { IfOk result (λ inner. opened inner ≡ with_sign sign (opened self)) }
+        ensures { IfOk result (λ inner. bracket_of inner ≡ with_sign sign (bracket_of self)) }
     {
         let Inner {
             signs: _,
@@ -163,9 +166,9 @@ impl Inner {
         }
     }
 
-    /// The expression in the bracket.
-    fn closed(self) -> Result<Expr, AllocError>
-        ensures { IfOk result (λ expr. tree_of expr ≡ closed (opened self)) }
+    /// The tree of the expression in the bracket.
+    fn tree_in_bracket(self) -> Result<Expr, AllocError>
+        ensures { IfOk result (λ expr. tree_of expr ≡ tree_in_bracket (bracket_of self)) }
     {
         let Inner {
             signs: _,
@@ -180,7 +183,7 @@ impl Inner {
 impl Build {
     /// Before the first token.
     fn new(alloc: Global) -> Build
-        ensures { built result ≡ build_start }
+        ensures { brackets_of result ≡ build_start }
     {
         Build {
             inner: Inner::new(alloc),
@@ -190,8 +193,9 @@ impl Build {
 
     /// Behind one more factor.
     fn with_factor(self, alloc: Global, part: Expr) -> Result<Build, AllocError>
-        ensures { IfOk result (λ build. built build
-            ≡ record (built self) { inner = with_factor (tree_of part) (opened self.inner) }) }
+        ensures { IfOk result (λ build. brackets_of build
+            ≡ record (brackets_of self)
+            { inner = with_factor (tree_of part) (bracket_of self.inner) }) }
     {
         let Build { inner, outer } = self;
         Ok(Build {
@@ -202,8 +206,12 @@ impl Build {
 
     /// Behind an opening bracket.
     fn open(self, alloc: Global) -> Result<Build, AllocError>
-        ensures { IfOk result (λ build. built build
-            ≡ record { inner = nothing; outer = opened self.inner ∷ map opened self.outer.items }) }
+        ensures { IfOk result (λ build. brackets_of build
+            ≡ record {
+              inner = nothing;
+              outer = bracket_of self.inner ∷
+                  map bracket_of self.outer.items;
+            }) }
     {
         let Build { inner, mut outer } = self;
         outer.push_front(inner)?;
@@ -215,15 +223,15 @@ impl Build {
 
     /// Behind a closing bracket.
     fn close(self, alloc: Global) -> Result<Build, AllocError>
-        ensures { IfOk result (λ build. built build
-            ≡ shut (built self) (map opened self.outer.items)) }
+        ensures { IfOk result (λ build. brackets_of build
+            ≡ behind_closing (brackets_of self) (map bracket_of self.outer.items)) }
     {
         let Build { inner, mut outer } = self;
         let Some(around) = outer.pop_front() else {
             return Ok(Build { inner, outer });
         };
         Ok(Build {
-            inner: around.with_factor(alloc, inner.closed()?)?,
+            inner: around.with_factor(alloc, inner.tree_in_bracket()?)?,
             outer,
         })
     }
@@ -231,7 +239,7 @@ impl Build {
     /// Behind one more `!`.
     fn negate(self) -> Build
         requires signs { self.inner.signs < 2 ^ 63 }
-        ensures { built result ≡ turn (λ _. 0) (built self) negation }
+        ensures { brackets_of result ≡ turn (λ _. 0) (brackets_of self) negation }
     {
         let Build { mut inner, outer } = self;
         inner.signs += 1;
@@ -247,8 +255,8 @@ impl Build {
     ) -> Result<Build, ExprFault>
         requires signs { self.inner.signs < 2 ^ 63 }
         requires vars { length variables.now < 2 ^ 32 }
-        ensures ok { IfOk result (λ build. built build
-            ≡ turn (place_by (number_in variables.now)) (built self) (token_of token.entry)) }
+        ensures ok { IfOk result (λ build. brackets_of build
+            ≡ turn (place_by (number_in variables.now)) (brackets_of self) (token_of token.entry)) }
         ensures known { IfOk result (λ _.
             first_unknown (number_in variables.now) (token_of token.entry ∷ []) ≡ None) }
         ensures err { IfErr result (λ fault.
@@ -289,5 +297,5 @@ pub fn expr_of(alloc: Global, text: &[u8], variables: &Variables) -> Result<Expr
         build = build.turn(alloc, variables, token)?;
         rest = more;
     }
-    Ok(build.inner.closed()?)
+    Ok(build.inner.tree_in_bracket()?)
 }

@@ -19,7 +19,7 @@ pub enum ExprFault {
     /// A variable is not declared: the first such in the text.
     #[error("unknown variable")]
     UnknownVar { name: Name },
-    /// Memory is wanting.
+    /// Out of memory.
     #[error("out of memory")]
     OutOfMemory,
 }

@@ -2,7 +2,7 @@
 
 ghost use Rattle.std.specs.Prelude.{◌≡◌, ◌<◌, ◌^◌, ◌∷◌, [], IfOk, IfSome, length};
 ghost use Rattle.bool_expr.specs.Grammar.{Expression};
-ghost use Rattle.bool_expr.specs.Read.{Spells, IsAnswer, HasCause};
+ghost use Rattle.bool_expr.specs.Read.{Spells, IsExprAnswer, HasCause};
 ghost use Rattle.bool_expr.specs.Tokens.{tokens_of};
 ghost use Rattle.bool_expr.specs.private.Held.{token_of};
 ghost use Rattle.bool_expr.specs.Tree.{IsFull, bit, tree_of};
@@ -34,11 +34,12 @@ fn constant(value: bool) -> Expr
     Expr::Const(value)
 }
 
-/// What a text of one token is read as, where this is a constant or a variable. Of a constant it takes no memory.
+/// What a text of one token is read as, where this is a constant or a variable. Of a constant it
+/// takes no memory.
 fn single(alloc: Global, text: &[u8], variables: &Variables) -> Option<Result<Expr, ExprFault>>
     requires { length variables.now < 2 ^ 32 }
     ensures exact { IfSome result (λ answer.
-        (d : Expression) → Spells d text.now → IsAnswer variables.now d answer) }
+        (d : Expression) → Spells d text.now → IsExprAnswer variables.now d answer) }
     ensures cause { IfSome result (λ answer. HasCause variables.now text.now answer) }
 {
     match only_token(text)? {
@@ -50,13 +51,14 @@ fn single(alloc: Global, text: &[u8], variables: &Variables) -> Option<Result<Ex
 
 /// Reads a Boolean expression over variables that are declared.
 ///
-/// `BadExpr` comes exactly where the text is no expression, at any nesting. Otherwise `TooDeep` comes exactly where it is
-/// nested above 100, and otherwise `UnknownVar` exactly where a variable is not declared, with the first such in the
-/// text. `OutOfMemory` may come at any text. No call depth grows with the text. Each list of the expression has two or more
-/// parts. The time is that of the text, however many variables there are.
+/// `BadExpr` comes exactly where the text is no expression, at any nesting. Otherwise `TooDeep`
+/// comes exactly where it is nested above 100, and otherwise `UnknownVar` exactly where a variable
+/// is not declared, with the first such in the text. `OutOfMemory` may come at any text. No call
+/// depth grows with the text. Each list of the expression has two or more parts. The time is that
+/// of the text, however many variables there are.
 pub fn read_expr_over(alloc: Global, text: &[u8], variables: &Variables) -> Result<Expr, ExprFault>
     requires { length variables.now < 2 ^ 32 }
-    ensures exact { (d : Expression) → Spells d text.now → IsAnswer variables.now d result }
+    ensures exact { (d : Expression) → Spells d text.now → IsExprAnswer variables.now d result }
     ensures cause { HasCause variables.now text.now result }
     ensures full { IfOk result (λ expr. IsFull (tree_of expr)) }
 {
@@ -75,7 +77,7 @@ pub fn read_expr_over(alloc: Global, text: &[u8], variables: &Variables) -> Resu
 /// Reads a Boolean expression over the variables of these names, as `read_expr_over` does.
 pub fn read_expr(alloc: Global, text: &[u8], vars: &[Name]) -> Result<Expr, ExprFault>
     requires { length vars.now < 2 ^ 32 }
-    ensures exact { (d : Expression) → Spells d text.now → IsAnswer vars.now d result }
+    ensures exact { (d : Expression) → Spells d text.now → IsExprAnswer vars.now d result }
     ensures cause { HasCause vars.now text.now result }
     ensures full { IfOk result (λ expr. IsFull (tree_of expr)) }
 {

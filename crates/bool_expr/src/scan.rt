@@ -3,7 +3,7 @@
 ghost use Rattle.std.specs.Prelude.{◌≡◌, ◌≤◌, Option, None, Some, IfOk, if◌then◌else◌};
 ghost use Rattle.bool_expr.specs.Tokens.{tokens_of, opening, closing};
 ghost use Rattle.bool_expr.specs.private.Held.{token_of};
-ghost use Rattle.bool_expr.specs.private.Scan.{scanned, step, scan_from, scan_start, deeper, behind_factor, ended};
+ghost use Rattle.bool_expr.specs.Scan.{scan_state, step, scan_from, scan_start, deeper, behind_factor, depth_at_end};
 
 use crate::token::{Token, next_token};
 use std::alloc::{AllocError, Global};
@@ -34,7 +34,7 @@ fn deeper(depth: u8) -> u8
 impl Scan {
     /// Before the first token.
     fn new(alloc: Global) -> Scan
-        ensures { scanned result ≡ scan_start }
+        ensures { scan_state result ≡ scan_start }
     {
         Scan {
             wants_factor: true,
@@ -47,8 +47,8 @@ impl Scan {
 
     /// Behind a constant or a variable; false where none may stand here.
     fn factor(&mut self) -> bool
-        ensures { behind_factor (scanned self.old)
-            ≡ (if result then Some (scanned self.new) else None) }
+        ensures { behind_factor (scan_state self.old)
+            ≡ (if result then Some (scan_state self.new) else None) }
     {
         if !self.wants_factor {
             return false;
@@ -61,8 +61,8 @@ impl Scan {
 
     /// Behind an opening bracket; false where none may stand here.
     fn open(&mut self) -> Result<bool, AllocError>
-        ensures { IfOk result (λ fits. step 101 (scanned self.old) opening
-            ≡ (if fits then Some (scanned self.new) else None)) }
+        ensures { IfOk result (λ fits. step 101 (scan_state self.old) opening
+            ≡ (if fits then Some (scan_state self.new) else None)) }
     {
         if !self.wants_factor {
             return Ok(false);
@@ -75,8 +75,8 @@ impl Scan {
 
     /// Behind a closing bracket; false where none may stand here.
     fn close(&mut self) -> bool
-        ensures { step 101 (scanned self.old) closing
-            ≡ (if result then Some (scanned self.new) else None) }
+        ensures { step 101 (scan_state self.old) closing
+            ≡ (if result then Some (scan_state self.new) else None) }
     {
         if self.wants_factor {
             return false;
@@ -91,8 +91,8 @@ impl Scan {
 
     /// Behind one more token; false where it may not stand here.
     fn step(&mut self, token: Token<'_>) -> Result<bool, AllocError>
-        ensures { IfOk result (λ fits. step 101 (scanned self.old) (token_of token.entry)
-            ≡ (if fits then Some (scanned self.new) else None)) }
+        ensures { IfOk result (λ fits. step 101 (scan_state self.old) (token_of token.entry)
+            ≡ (if fits then Some (scan_state self.new) else None)) }
     {
         match token {
             Token::Sign(_) => {
@@ -113,7 +113,7 @@ impl Scan {
 
     /// At the end of the tokens: the greatest depth; None where they may not end here.
     fn end(&self) -> Option<u8>
-        ensures { result ≡ ended self.now.wants_factor self.now.outer.items self.now.deepest }
+        ensures { result ≡ depth_at_end self.now.wants_factor self.now.outer.items self.now.deepest }
     {
         if self.wants_factor || !self.outer.is_empty() {
             None

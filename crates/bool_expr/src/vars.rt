@@ -14,8 +14,9 @@ use std::collections::HashMap;
 use std::marker::Model;
 use ste_base::{Name, VarId};
 
-/// The declared variables, with the number of each by its name, for many expressions over them. Contracts see the list of
-/// their names, in the order of declaration. A name that stands in it twice has the number of its first place.
+/// The declared variables, with the number of each by its name, for many expressions over them.
+/// Contracts see the list of their names, in the order of declaration. A name that stands in it
+/// twice has the number of its first place.
 #[derive(Drop)]
 pub struct Variables {
     names: Vec<Name>,
@@ -31,7 +32,8 @@ impl Model for Variables {
 
     ghost view = { λ v. v.names.items };
 
-    ghost invariant = { λ v. (word : List ℕ) → numbers v.places word ≡ number_in v.names.items word };
+    ghost invariant = { λ v. (word : List ℕ) →
+        numbers v.places word ≡ number_in v.names.items word };
 }
 
 /// Adds the number of a variable, where its name has none.
@@ -70,7 +72,7 @@ impl Variables {
         Ok(variables)
     }
 
-    /// Declares one more variable. Where memory is wanting the variables stay as they were.
+    /// Declares one more variable. When memory runs out, the variables stay as they were.
     pub fn push(&mut self, name: &Name) -> Result<(), AllocError>
         ensures ok { OnOk result (self.new ≡ self.old ++ name.now ∷ []) }
         ensures err { OnErr result (self.new ≡ self.old) }

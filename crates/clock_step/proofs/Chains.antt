@@ -159,7 +159,7 @@ module _ (net : RawNet) (order : List ℕ) where
           subst (λ (x : ℕ). HasSlot (chains.nets ++ input.0 ∷ []) (old.places.items ++ n ∷ []) x k) (sym net_is)
           (subst (λ (p : ℕ). HasSlot (chains.nets ++ input.0 ∷ []) (old.places.items ++ n ∷ []) input.0 p) (sym here.0) (slot_here chains.nets old.places.items input.0 n chains.places))
 
-  -- all inputs of one gate more have slots
+  -- all inputs of one more gate have slots
   pub gate_added : (n j : ℕ) (readers : Readers) (gate : Gate) → ((d : Gate) → gate_at net order n d ≡ gate) → length gate.inputs ≤ j → AreChains net order n j readers → AreChains net order (n + 1) 0 readers
   gate_added n j readers gate gates all chains = record {
     nets = chains.nets;

@@ -3,7 +3,7 @@ use Rattle.std.proofs.Common.{◌≡◌, ◌<◌, ℕ, zero, suc, List, [], ◌�
 use Rattle.std.specs.Prelude.{◌⊎◌, nat_eq, slice_get, ◌||◌}
 use Rattle.std.specs.List.{list_any}
 use Rattle.std.proofs.lemmas.List.Folds.{list_any-append}
-use Rattle.clock_step.specs.Order.{first_double, is_among, nets_with}
+use Rattle.clock_step.specs.Order.{first_double_net, is_among, nets_with}
 use Rattle.clock_step.specs.Rules.{FirstDoubleIsLeast, IsDouble, net_at}
 
 module _ (net_of : List ℕ → Option ℕ) where
@@ -63,7 +63,7 @@ module _ (net_of : List ℕ → Option ℕ) where
   first_at nets name names None e t = absurd (cc t)
   first_at nets name names (Some net) e t = (net, e, inl t)
 
-  some_with : (nets : List ℕ) (name found : List ℕ) (names : List (List ℕ)) (b : Bool) → is_among nets (net_of name) ≡ b → first_double net_of nets (name ∷ names) ≡ Some found → (first_double net_of (nets_with nets (net_of name)) names ≡ Some found → FirstIn (nets_with nets (net_of name)) names found) → FirstIn nets (name ∷ names) found
+  some_with : (nets : List ℕ) (name found : List ℕ) (names : List (List ℕ)) (b : Bool) → is_among nets (net_of name) ≡ b → first_double_net net_of nets (name ∷ names) ≡ Some found → (first_double_net net_of (nets_with nets (net_of name)) names ≡ Some found → FirstIn (nets_with nets (net_of name)) names found) → FirstIn nets (name ∷ names) found
   some_with nets name found names true t e rest =
       let is : Some name ≡ Some found = rw t at e in record {
         place = 0;
@@ -83,16 +83,16 @@ module _ (net_of : List ℕ → Option ℕ) where
       least later zero less h = absurd (cc (at_first nets name names h, f))
       least later (suc k) less h = later.least k (omega arith) (before nets name names k (net_of name) refl h)
 
-  some_first : (names : List (List ℕ)) (nets : List ℕ) (found : List ℕ) → first_double net_of nets names ≡ Some found → FirstIn nets names found
+  some_first : (names : List (List ℕ)) (nets : List ℕ) (found : List ℕ) → first_double_net net_of nets names ≡ Some found → FirstIn nets names found
   some_first [] nets found e = absurd (cc e)
   some_first (name ∷ names) nets found e = some_with nets name found names (is_among nets (net_of name)) refl e (some_first names (nets_with nets (net_of name)) found)
 
-  none_with : (nets : List ℕ) (name : List ℕ) (names : List (List ℕ)) (b : Bool) → is_among nets (net_of name) ≡ b → first_double net_of nets (name ∷ names) ≡ None → (first_double net_of (nets_with nets (net_of name)) names ≡ None → (k : ℕ) → DoubleIn (nets_with nets (net_of name)) names k → ⊥) → (k : ℕ) → DoubleIn nets (name ∷ names) k → ⊥
+  none_with : (nets : List ℕ) (name : List ℕ) (names : List (List ℕ)) (b : Bool) → is_among nets (net_of name) ≡ b → first_double_net net_of nets (name ∷ names) ≡ None → (first_double_net net_of (nets_with nets (net_of name)) names ≡ None → (k : ℕ) → DoubleIn (nets_with nets (net_of name)) names k → ⊥) → (k : ℕ) → DoubleIn nets (name ∷ names) k → ⊥
   none_with nets name names true t e rest k h = let is : Some name ≡ None = rw t at e in absurd (cc is)
   none_with nets name names false f e rest zero h = absurd (cc (at_first nets name names h, f))
   none_with nets name names false f e rest (suc k) h = rest (rw f at e) k (before nets name names k (net_of name) refl h)
 
-  none_first : (names : List (List ℕ)) (nets : List ℕ) → first_double net_of nets names ≡ None → (k : ℕ) → DoubleIn nets names k → ⊥
+  none_first : (names : List (List ℕ)) (nets : List ℕ) → first_double_net net_of nets names ≡ None → (k : ℕ) → DoubleIn nets names k → ⊥
   none_first [] nets e k h = absurd (cc h.1)
   none_first (name ∷ names) nets e k h = none_with nets name names (is_among nets (net_of name)) refl e (none_first names (nets_with nets (net_of name))) k h
 

@@ -9,8 +9,8 @@ use Rattle.std.proofs.lemmas.Bool.Decides.{Decides-eqb, Decides-like}
 use Rattle.std.proofs.lemmas.Map.Made.{AllPairs-from_IsDistinct}
 use Rattle.ste_base.specs.declared.id.NodeId.{NodeId}
 use Rattle.net_core.specs.declared.raw.RawNet.{RawNet}
-use Rattle.clock_step.specs.Order.{is_undriven, first_double, first_driven, first_unknown}
-use Rattle.clock_step.specs.Faults.{names_fault}
+use Rattle.clock_step.specs.Order.{is_undriven, first_double_net, first_driven, first_unknown_net}
+use Rattle.clock_step.specs.Faults.{order_names_fault}
 use Rattle.clock_step.specs.private.Answers.{AreNodes}
 
 -- a net is there already where it is one of the nets
@@ -33,11 +33,11 @@ no_some : {X : Type 0} (x : X) → Some x ≡ None → ⊥
 no_some x e = absurd (cc e)
 
 -- where each name names a net, the nets are those of the names
-named_with : (net_of : List ℕ → Option ℕ) (name : List ℕ) (names : List (List ℕ)) (net : Option ℕ) → net_of name ≡ net → first_unknown net_of (name ∷ names) ≡ None → (first_unknown net_of names ≡ None → map (λ (n : ℕ). Some n) (filter_map net_of names) ≡ map net_of names) → map (λ (n : ℕ). Some n) (filter_map net_of (name ∷ names)) ≡ map net_of (name ∷ names)
+named_with : (net_of : List ℕ → Option ℕ) (name : List ℕ) (names : List (List ℕ)) (net : Option ℕ) → net_of name ≡ net → first_unknown_net net_of (name ∷ names) ≡ None → (first_unknown_net net_of names ≡ None → map (λ (n : ℕ). Some n) (filter_map net_of names) ≡ map net_of names) → map (λ (n : ℕ). Some n) (filter_map net_of (name ∷ names)) ≡ map net_of (name ∷ names)
 named_with net_of name names None e none rest = absurd (no_some name (rw e at none))
 named_with net_of name names (Some net) e none rest = rw e (ap (λ (nets : List (Option ℕ)). Some net ∷ nets) (rest (rw e at none)))
 
-all_named : (net_of : List ℕ → Option ℕ) (names : List (List ℕ)) → first_unknown net_of names ≡ None → map (λ (net : ℕ). Some net) (filter_map net_of names) ≡ map net_of names
+all_named : (net_of : List ℕ → Option ℕ) (names : List (List ℕ)) → first_unknown_net net_of names ≡ None → map (λ (net : ℕ). Some net) (filter_map net_of names) ≡ map net_of names
 all_named net_of [] none = refl
 all_named net_of (name ∷ names) none = named_with net_of name names (net_of name) refl none (all_named net_of names)
 
@@ -69,10 +69,10 @@ different nodes distinct = λ i j d l m e.
     (by_number (get_or nodes i d) (get_or nodes j d) e)
 
 -- names without a fault, and their nets
-pub no_fault : (net_of : List ℕ → Option ℕ) (net : RawNet) (line : ℕ) (names : List (List ℕ)) → first_double net_of [] names ≡ None → first_unknown net_of names ≡ None → first_driven net_of net names ≡ None → names_fault net_of net line names ≡ None
+pub no_fault : (net_of : List ℕ → Option ℕ) (net : RawNet) (line : ℕ) (names : List (List ℕ)) → first_double_net net_of [] names ≡ None → first_unknown_net net_of names ≡ None → first_driven net_of net names ≡ None → order_names_fault net_of net line names ≡ None
 no_fault net_of net line names double unknown driven = rw (double, unknown, driven) refl
 
-pub are_nodes : (net_of : List ℕ → Option ℕ) (net : RawNet) (names : List (List ℕ)) (nodes : List NodeId) → map (λ node. node.0) nodes ≡ filter_map net_of names → IsDistinct (λ one other. eqb one.0 other.0) nodes → first_unknown net_of names ≡ None → first_driven net_of net names ≡ None → AreNodes net_of net names nodes
+pub are_nodes : (net_of : List ℕ → Option ℕ) (net : RawNet) (names : List (List ℕ)) (nodes : List NodeId) → map (λ node. node.0) nodes ≡ filter_map net_of names → IsDistinct (λ one other. eqb one.0 other.0) nodes → first_unknown_net net_of names ≡ None → first_driven net_of net names ≡ None → AreNodes net_of net names nodes
 are_nodes net_of net names nodes are distinct unknown driven = record {
   spelled = numbers nodes ∙ ap (map (λ (n : ℕ). Some n)) are ∙ all_named net_of names unknown;
   different = different nodes distinct;

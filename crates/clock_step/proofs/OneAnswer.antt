@@ -6,8 +6,8 @@ use Rattle.blif_lines.specs.declared.lines.Line.{Line}
 use Rattle.net_core.specs.declared.raw.RawNet.{RawNet}
 use Rattle.clock_step.specs.declared.fault.InputFault.{InputFault}
 use Rattle.clock_step.specs.declared.fault.InputFault.TheVariants.{BadLine, DoubleName, UnknownNode, NotAnInput, TooMany, OutOfMemory}
-use Rattle.clock_step.specs.Faults.{first_fault}
-use Rattle.clock_step.specs.Answer.{IsAnswer}
+use Rattle.clock_step.specs.Faults.{first_input_fault}
+use Rattle.clock_step.specs.Answer.{IsInputsAnswer}
 use Rattle.clock_step.specs.Laws.{OneAnswer, OneSimulation}
 use Rattle.clock_step.proofs.Named.{by_number}
 
@@ -32,8 +32,8 @@ same_somes {X} (x ∷ xs) (y ∷ ys) e =
     let later = same_somes xs ys rest in
     cc
 
--- a fault besides want of memory is the first
-fault_is : (net_of : List ℕ → Option ℕ) (net : RawNet) (lines : List Line) (fault : InputFault) → fault ≢ OutOfMemory → IsAnswer net_of net lines (Err fault) → first_fault net_of net lines ≡ Some fault
+-- a fault besides out of memory is the first
+fault_is : (net_of : List ℕ → Option ℕ) (net : RawNet) (lines : List Line) (fault : InputFault) → fault ≢ OutOfMemory → IsInputsAnswer net_of net lines (Err fault) → first_input_fault net_of net lines ≡ Some fault
 fault_is net_of net lines (BadLine line) other is = is
 fault_is net_of net lines (DoubleName line name) other is = is
 fault_is net_of net lines (UnknownNode line name) other is = is

@@ -10,8 +10,8 @@ use Rattle.clock_step.specs.declared.fault.InputFault.{InputFault}
 use Rattle.clock_step.specs.declared.fault.InputFault.TheVariants.{BadLine, DoubleName, UnknownNode, NotAnInput, TooMany, OutOfMemory}
 use Rattle.clock_step.specs.declared.inputs.Inputs.{Inputs}
 use Rattle.clock_step.specs.Forms.{order_of, row_of}
-use Rattle.clock_step.specs.Faults.{first_fault, names_of, order_fault, rows_fault}
-use Rattle.clock_step.specs.Answer.{IsAnswer}
+use Rattle.clock_step.specs.Faults.{first_input_fault, names_of, order_fault, rows_fault}
+use Rattle.clock_step.specs.Answer.{IsInputsAnswer}
 use Rattle.clock_step.specs.private.Answers.{AreNodes, AreRows}
 
 -- the lines, from the first on
@@ -27,10 +27,10 @@ module _ (net_of : List ℕ → Option ℕ) (net : RawNet) (first : Line) (later
   width = sym (length-map nodes (λ (node : NodeId). Some node.0)) ∙ ap length are.spelled ∙ length-map (names_of (first ∷ later)) net_of
 
   -- where the first line has no fault, the rows decide
-  rows_decide : (found : Option InputFault) → rows_fault (length nodes) net.nets 0 later ≡ found → first_fault net_of net (first ∷ later) ≡ found
+  rows_decide : (found : Option InputFault) → rows_fault (length nodes) net.nets 0 later ≡ found → first_input_fault net_of net (first ∷ later) ≡ found
   rows_decide found e = rw sound (subst (λ (n : ℕ). rows_fault n net.nets 0 later ≡ found) width e)
 
-  pub rows_refused : (fault : InputFault) → AreRows (length nodes) net.nets later (Err fault) → IsAnswer net_of net (first ∷ later) (Err fault)
+  pub rows_refused : (fault : InputFault) → AreRows (length nodes) net.nets later (Err fault) → IsInputsAnswer net_of net (first ∷ later) (Err fault)
   rows_refused (BadLine line) e = rows_decide (Some (BadLine line)) e
   rows_refused (DoubleName line name) e = rows_decide (Some (DoubleName line name)) e
   rows_refused (UnknownNode line name) e = rows_decide (Some (UnknownNode line name)) e
@@ -38,8 +38,8 @@ module _ (net_of : List ℕ → Option ℕ) (net : RawNet) (first : Line) (later
   rows_refused (TooMany line) e = rows_decide (Some (TooMany line)) e
   rows_refused OutOfMemory e = tt
 
-  pub rows_read : (lines : List Line) (rows : List (List Bool)) (inputs : Inputs) → lines ≡ first ∷ later → inputs.nodes ≡ nodes → inputs.rows ≡ rows → AreRows (length nodes) net.nets later (Ok rows) → IsAnswer net_of net lines (Ok inputs)
-  rows_read lines rows inputs whole same same_rows read = subst (λ (ls : List Line). IsAnswer net_of net ls (Ok inputs)) (sym whole) (
+  pub rows_read : (lines : List Line) (rows : List (List Bool)) (inputs : Inputs) → lines ≡ first ∷ later → inputs.nodes ≡ nodes → inputs.rows ≡ rows → AreRows (length nodes) net.nets later (Ok rows) → IsInputsAnswer net_of net lines (Ok inputs)
+  rows_read lines rows inputs whole same same_rows read = subst (λ (ls : List Line). IsInputsAnswer net_of net ls (Ok inputs)) (sym whole) (
     rows_decide None read.0,
     record {
       nodes = ap (map (λ (node : NodeId). Some node.0)) same ∙ are.spelled;
@@ -48,7 +48,7 @@ module _ (net_of : List ℕ → Option ℕ) (net : RawNet) (first : Line) (later
   )
 
 -- a fault that is handed on
-pub handed_on : (net_of : List ℕ → Option ℕ) (net : RawNet) (lines : List Line) (fault : InputFault) (result : Result Inputs InputFault) → IsErrAnd result (λ f. f ≡ fault) → IsAnswer net_of net lines (Err fault) → IsAnswer net_of net lines result
+pub handed_on : (net_of : List ℕ → Option ℕ) (net : RawNet) (lines : List Line) (fault : InputFault) (result : Result Inputs InputFault) → IsErrAnd result (λ f. f ≡ fault) → IsInputsAnswer net_of net lines (Err fault) → IsInputsAnswer net_of net lines result
 handed_on net_of net lines fault result is a =
     let p = err_from_is_err_and result is in
-    subst (λ (r : Result Inputs InputFault). IsAnswer net_of net lines r) (sym (p.1 ∙ ap Err p.2)) a
+    subst (λ (r : Result Inputs InputFault). IsInputsAnswer net_of net lines r) (sym (p.1 ∙ ap Err p.2)) a

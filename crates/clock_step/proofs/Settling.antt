@@ -32,7 +32,7 @@ row_bits bits [] nets = refl
 row_bits bits (lit ∷ row) [] = refl
 row_bits bits (lit ∷ row) (net ∷ nets) = ap (λ (b : Bool). admits lit (bit_at bits net.0) && b) (row_bits bits row nets)
 
--- one latch more has its bit
+-- one more latch has its bit
 pub latch_done : (net : RawNet) (bit : ℕ → Bool) (held bits : List Bool) (n : ℕ) (latch : Latch) (b : Bool) → length bits ≡ net.nets → n < length net.latches → latch ≡ get_or net.latches n latch → latch.output.0 < net.nets → b ≡ get_or held n b → held ≡ map (λ l. bit l.output.0) net.latches → AreLatched net n bit bits → AreLatched net (n + 1) bit (set bits latch.output.0 b)
 latch_done net bit held bits n latch b long l is inside here held_is before id m no_gate none =
     elim (cases_eq id latch.output.0) [
@@ -61,7 +61,7 @@ gates_begin net order bit bits is latched id l none =
     (λ k d le m. absurd (omega arith))
 
 module _ (net : RawNet) (order : List ℕ) (bit : ℕ → Bool) (range : IsInRange net) (is_order : IsSettledOrder net order) (follow : AreGateBits net bit) where
-  -- one gate more has its bit
+  -- one more gate has its bit
   pub gate_done : (n number : ℕ) (gate : Gate) (cover : Cover) (inputs : List Bool) (b : Bool) (bits : List Bool) → length bits ≡ net.nets → n < length order → number ≡ get_or order n 0 → gate ≡ get_or net.gates number gate → slice_get net.covers gate.cover ≡ Some cover → inputs ≡ map (λ input. bit_at bits input.0) gate.inputs → b ≡ cover_bit cover inputs → AreSettled net order n bit bits → AreSettled net order (n + 1) bit (set bits gate.output.0 b)
   gate_done n number gate cover inputs b bits size l at is covers are gives before id m none =
       let known : number < length net.gates = rw at (is_order.gates n 0 l) in

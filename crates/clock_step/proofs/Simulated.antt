@@ -71,7 +71,7 @@ last : (rows : List (List Bool)) (row : List Bool) → slice_get (rows ++ row �
 last [] row = refl
 last (x ∷ rows) row = last rows row
 
--- one row more
+-- one more row
 pub more_outputs : (net : RawNet) (run : ℕ → ℕ → Bool) (rows : List (List Bool)) (row bits : List Bool) (t : ℕ) → IsInRange net → length rows ≡ t → row ≡ outputs_at net (bit_at bits) → AreBits net (run t) bits → ((s : ℕ) → s < t → slice_get rows s ≡ Some (outputs_at net (run s))) → (s : ℕ) → s < t + 1 → slice_get (rows ++ row ∷ []) s ≡ Some (outputs_at net (run s))
 more_outputs net run rows row bits t range long is known before s l = elim (cases_lt s t) [
   | inl old ↦ early rows row s (omega arith) ∙ before s old

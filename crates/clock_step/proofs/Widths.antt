@@ -5,10 +5,10 @@ use Rattle.std.specs.List.{list_all}
 use Rattle.std.proofs.lemmas.List.{length-map}
 use Rattle.std.proofs.lemmas.List.Elements.{All-cons, All-nil}
 use Rattle.blif_lines.specs.declared.lines.Line.{Line}
-use Rattle.clock_step.specs.Forms.{bits_of, is_bit, is_one, row_of}
+use Rattle.clock_step.specs.Forms.{word_bits, is_zero_or_one, is_one, row_of}
 
-bits_wide : (width : ℕ) (word : List ℕ) (bits : List Bool) → bits_of width word ≡ Some bits → length bits ≡ width
-bits_wide width word bits e = by (nat_eq width 0) (bytes_eq word (codes "-")) (nat_eq (length word) width) (list_all is_bit word) refl refl e
+bits_wide : (width : ℕ) (word : List ℕ) (bits : List Bool) → word_bits width word ≡ Some bits → length bits ≡ width
+bits_wide width word bits e = by (nat_eq width 0) (bytes_eq word (codes "-")) (nat_eq (length word) width) (list_all is_zero_or_one word) refl refl e
   where
     by : (none dash long all : Bool) → nat_eq width 0 ≡ none → nat_eq (length word) width ≡ long → (if none then (if dash then Some [] else None) else if long && all then Some (map is_one word) else None) ≡ Some bits → length bits ≡ width
     by true true long all z l e = let same : [] ≡ bits = (cc e) in ap length (sym same) ∙ sym (eqb-true width 0 z)

@@ -7,13 +7,13 @@ use Rattle.std.proofs.lemmas.List.Folds.{list_any-append}
 use Rattle.ste_base.specs.declared.id.NodeId.{NodeId}
 use Rattle.blif_lines.specs.declared.lines.Line.{Line}
 use Rattle.net_core.specs.declared.raw.RawNet.{RawNet}
-use Rattle.clock_step.specs.Forms.{bits_of, is_bit, is_one, order_of, row_of}
-use Rattle.clock_step.specs.Order.{first_double, first_driven, first_unknown, is_undriven}
+use Rattle.clock_step.specs.Forms.{word_bits, is_zero_or_one, is_one, order_of, row_of}
+use Rattle.clock_step.specs.Order.{first_double_net, first_driven, first_unknown_net, is_undriven}
 use Rattle.clock_step.specs.Faults.{is_too_many, rows_fault}
 use Rattle.clock_step.specs.Laws.{WrittenIsRead, word_of}
 
 -- names of different nodes have no double
-no_double : (net_of : List ℕ → Option ℕ) (nets : List ℕ) (names : List (List ℕ)) (nodes : List NodeId) → map net_of names ≡ map (λ node. Some node.0) nodes → AllPairs (λ one other. one.0 ≢ other.0) nodes → All (λ node. list_any (nat_eq node.0) nets ≡ false) nodes → first_double net_of nets names ≡ None
+no_double : (net_of : List ℕ → Option ℕ) (nets : List ℕ) (names : List (List ℕ)) (nodes : List NodeId) → map net_of names ≡ map (λ node. Some node.0) nodes → AllPairs (λ one other. one.0 ≢ other.0) nodes → All (λ node. list_any (nat_eq node.0) nets ≡ false) nodes → first_double_net net_of nets names ≡ None
 no_double net_of nets [] nodes e apart new = refl
 no_double net_of nets (name ∷ names) [] e apart new = absurd (cc e)
 no_double net_of nets (name ∷ names) (node ∷ nodes) e apart new =
@@ -29,7 +29,7 @@ no_double net_of nets (name ∷ names) (node ∷ nodes) e apart new =
     rw (here, absent) later
 
 -- names of nodes each name a net
-no_unknown : (net_of : List ℕ → Option ℕ) (names : List (List ℕ)) (nodes : List NodeId) → map net_of names ≡ map (λ node. Some node.0) nodes → first_unknown net_of names ≡ None
+no_unknown : (net_of : List ℕ → Option ℕ) (names : List (List ℕ)) (nodes : List NodeId) → map net_of names ≡ map (λ node. Some node.0) nodes → first_unknown_net net_of names ≡ None
 no_unknown net_of [] nodes e = refl
 no_unknown net_of (name ∷ names) [] e = absurd (cc e)
 no_unknown net_of (name ∷ names) (node ∷ nodes) e =
@@ -47,7 +47,7 @@ no_driven net_of net (name ∷ names) (node ∷ nodes) e all =
     let undriven : is_undriven net node.0 ≡ true = all 0 node (omega arith) in
     rw (here, undriven) (no_driven net_of net names nodes rest (λ k d l. all (suc k) d (omega arith)))
 
-are_bits : (row : List Bool) → list_all is_bit (map (λ b. if b then 49 else 48) row) ≡ true
+are_bits : (row : List Bool) → list_all is_zero_or_one (map (λ b. if b then 49 else 48) row) ≡ true
 are_bits [] = refl
 are_bits (true ∷ row) = are_bits row
 are_bits (false ∷ row) = are_bits row
@@ -58,7 +58,7 @@ ones_back (true ∷ row) = ap (λ (bits : List Bool). true ∷ bits) (ones_back 
 ones_back (false ∷ row) = ap (λ (bits : List Bool). false ∷ bits) (ones_back row)
 
 -- a word that a row is written as spells it
-row_back : (width : ℕ) (row : List Bool) → length row ≡ width → bits_of width (word_of row) ≡ Some row
+row_back : (width : ℕ) (row : List Bool) → length row ≡ width → word_bits width (word_of row) ≡ Some row
 row_back width [] long = rw (← long) refl
 row_back width (bit ∷ row) long =
     let word : List ℕ = map (λ b. if b then 49 else 48) (bit ∷ row) in

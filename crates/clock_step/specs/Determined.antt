@@ -14,7 +14,8 @@ abbrev pub AreBits : RawNet → (ℕ → Bool) → List Bool → Type 0
 AreBits net bit bits = (id : ℕ) → id < net.nets → bit_at bits id ≡ bit id
 
 -- the bits of one time, from a row with a bit for each of these nodes and what the latches hold
-pub record AreDetermined (net : RawNet) (nodes : List NodeId) (row held : List Bool) (bit : ℕ → Bool) : Type 0 where
+pub record AreDetermined (net : RawNet) (nodes : List NodeId) (row held : List Bool)
+    (bit : ℕ → Bool) : Type 0 where
   pub gates : AreGateBits net bit
   pub given : (id : ℕ) → id < net.nets → IsUndriven net id → bit id ≡ bit_in nodes row id
   pub latches : held ≡ map (λ latch. bit latch.output.0) net.latches

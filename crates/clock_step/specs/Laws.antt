@@ -1,5 +1,5 @@
--- Laws: there is one answer at most, inputs that are written out are read back, a run has the bits that are given, and there
--- is one list of outputs.
+-- Laws: there is one answer at most, inputs that are written out are read back, a run has the bits
+-- that are given, and there is one list of outputs.
 use Rattle.std.specs.Prelude.{◌≡◌, ◌≢◌, ◌≤◌, ◌*◌, ℕ, ◌∷◌, [], List, length, map, All, Bool, IsTrue, if◌then◌else◌, Option, Some, Result, Ok, Err, codes, slice_get}
 use Rattle.blif_lines.specs.declared.lines.Line.{Line}
 use Rattle.ste_base.specs.declared.id.NodeId.{NodeId}
@@ -9,7 +9,7 @@ use Rattle.clock_step.specs.declared.fault.InputFault.{InputFault}
 use Rattle.clock_step.specs.declared.fault.InputFault.TheVariants.{OutOfMemory}
 use Rattle.clock_step.specs.declared.inputs.Inputs.{Inputs}
 use Rattle.clock_step.specs.Order.{is_undriven}
-use Rattle.clock_step.specs.Answer.{IsAnswer}
+use Rattle.clock_step.specs.Answer.{IsInputsAnswer}
 use Rattle.clock_step.specs.Simulation.{AreOutputs, IsSimulation}
 
 -- the same nodes and rows, or the same fault
@@ -19,12 +19,13 @@ AreSame (Ok one) (Err other) = ⊥
 AreSame (Err one) (Ok other) = ⊥
 AreSame (Err one) (Err other) = one ≡ other
 
--- Law: lines have one answer at most, besides want of memory.
+-- Law: lines have one answer at most, besides out of memory.
 abbrev pub OneAnswer : Type 0
 OneAnswer =
-    (net_of : List ℕ → Option ℕ) (net : RawNet) (lines : List Line) (one other : Result Inputs InputFault) →
+    (net_of : List ℕ → Option ℕ) (net : RawNet) (lines : List Line)
+    (one other : Result Inputs InputFault) →
     one ≢ Err OutOfMemory → other ≢ Err OutOfMemory →
-    IsAnswer net_of net lines one → IsAnswer net_of net lines other → AreSame one other
+    IsInputsAnswer net_of net lines one → IsInputsAnswer net_of net lines other → AreSame one other
 
 -- a row as a word
 abbrev pub word_of : List Bool → List ℕ
@@ -32,19 +33,20 @@ word_of [] = codes "-"
 word_of (bit ∷ row) = map (λ b. if b then 49 else 48) (bit ∷ row)
 
 -- names and rows as lines of words
-abbrev pub written : List (List ℕ) → List (List Bool) → List (List (List ℕ))
-written names rows = (codes ".order" ∷ names) ∷ map (λ row. word_of row ∷ []) rows
+abbrev pub written_inputs : List (List ℕ) → List (List Bool) → List (List (List ℕ))
+written_inputs names rows = (codes ".order" ∷ names) ∷ map (λ row. word_of row ∷ []) rows
 
--- Law: inputs are read back from the lines that they are written out as, with a name for each node, where the nodes are
--- inputs or free nets and the rows are not too many.
+-- Law: inputs are read back from the lines that they are written out as, with a name for each node,
+-- where the nodes are inputs or free nets and the rows are not too many.
 abbrev pub WrittenIsRead : Type 0
 WrittenIsRead =
-    (net_of : List ℕ → Option ℕ) (net : RawNet) (names : List (List ℕ)) (inputs : Inputs) (lines : List Line) →
+    (net_of : List ℕ → Option ℕ) (net : RawNet) (names : List (List ℕ)) (inputs : Inputs)
+    (lines : List Line) →
     map net_of names ≡ map (λ node. Some node.0) inputs.nodes →
     All (λ node. IsTrue (is_undriven net node.0)) inputs.nodes →
     length inputs.rows ≤ 10000 → length inputs.rows * net.nets ≤ 100000000 →
-    map (λ line. line.words) lines ≡ written names inputs.rows →
-    IsAnswer net_of net lines (Ok inputs)
+    map (λ line. line.words) lines ≡ written_inputs names inputs.rows →
+    IsInputsAnswer net_of net lines (Ok inputs)
 
 -- Law: at each time of a run on given inputs each node has the bit at its place in the row.
 abbrev pub NodesAreGiven : Type 0

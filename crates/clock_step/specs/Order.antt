@@ -1,4 +1,5 @@
--- Meaning. Which nets the names of an input file's first line name, and which of them may not stand there.
+-- Meaning. Which nets the names of an input file's first line name, and which of them may not stand
+-- there.
 use Rattle.std.specs.Prelude.{ℕ, ◌∷◌, ◌++◌, [], List, find, Bool, true, false, not, Option, Some, None, if◌then◌else◌, nat_eq, nat_lt, ◌&&◌}
 use Rattle.std.specs.List.{list_any}
 use Rattle.std.specs.Option.{is_none}
@@ -28,15 +29,17 @@ abbrev pub nets_with : List ℕ → Option ℕ → List ℕ
 nets_with nets None = nets
 nets_with nets (Some net) = nets ++ net ∷ []
 
--- the first of these names whose net is one of these nets, or the net of a name before it; `net_of` says which net a text names
-abbrev pub first_double : (List ℕ → Option ℕ) → List ℕ → List (List ℕ) → Option (List ℕ)
-first_double net_of nets [] = None
-first_double net_of nets (name ∷ names) =
-    if is_among nets (net_of name) then Some name else first_double net_of (nets_with nets (net_of name)) names
+-- the first of these names whose net is one of these nets, or the net of a name before it; `net_of`
+-- says which net a text names
+abbrev pub first_double_net : (List ℕ → Option ℕ) → List ℕ → List (List ℕ) → Option (List ℕ)
+first_double_net net_of nets [] = None
+first_double_net net_of nets (name ∷ names) =
+    if is_among nets (net_of name) then Some name else first_double_net net_of
+    (nets_with nets (net_of name)) names
 
 -- the first of these names that names no net
-abbrev pub first_unknown : (List ℕ → Option ℕ) → List (List ℕ) → Option (List ℕ)
-first_unknown net_of names = find (λ name. is_none (net_of name)) names
+abbrev pub first_unknown_net : (List ℕ → Option ℕ) → List (List ℕ) → Option (List ℕ)
+first_unknown_net net_of names = find (λ name. is_none (net_of name)) names
 
 -- a net, but neither an input nor free
 abbrev pub is_driven : RawNet → Option ℕ → Bool

@@ -1,4 +1,5 @@
--- Meaning. The run of a net on given inputs. What is not given is 0: this is this project's own choice.
+-- Meaning. The run of a net on given inputs. What is not given is 0: this is this project's own
+-- choice.
 use Rattle.std.specs.Prelude.{◌≡◌, ◌<◌, ℕ, ◌∷◌, [], List, length, map, Bool, true, false, if◌then◌else◌, nat_eq, Some, slice_get, slice_index_or}
 use Rattle.ste_base.specs.declared.id.NodeId.{NodeId}
 use Rattle.net_core.specs.declared.raw.Init.{Init}
@@ -29,13 +30,15 @@ first_bits net = map (λ latch. first_bit latch.init) net.latches
 
 -- a run on these inputs: one time for each row
 abbrev pub IsSimulation : RawNet → Inputs → (ℕ → ℕ → Bool) → Type 0
-IsSimulation net inputs run = IsGivenRun net (given_bit inputs) (first_bits net) (length inputs.rows) run
+IsSimulation net inputs run =
+    IsGivenRun net (given_bit inputs) (first_bits net) (length inputs.rows) run
 
 -- the bits of the outputs at one time
 abbrev pub outputs_at : RawNet → (ℕ → Bool) → List Bool
 outputs_at net bit = map (λ output. bit output.0) net.outputs
 
--- there is a run on these inputs, and these are the bits of the outputs, time by time, in each such run
+-- there is a run on these inputs, and these are the bits of the outputs, time by time, in each such
+-- run
 pub record AreOutputs (net : RawNet) (inputs : Inputs) (outputs : List (List Bool)) : Type 0 where
   pub some : (run : ℕ → ℕ → Bool) × IsSimulation net inputs run
   pub long : length outputs ≡ length inputs.rows

@@ -26,7 +26,7 @@ pub enum InputFault {
     /// The row is the 10,001st, or with it the rows times the nets are above 100,000,000.
     #[error("too many")]
     TooMany { line: u32 },
-    /// Memory is wanting.
+    /// Out of memory.
     #[error("out of memory")]
     OutOfMemory,
 }

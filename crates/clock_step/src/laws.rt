@@ -3,12 +3,12 @@
 ghost use Rattle.clock_step.specs.Rules.{FirstDoubleIsLeast};
 ghost use Rattle.clock_step.specs.Laws.{NodesAreGiven, OneAnswer, OneSimulation, WrittenIsRead};
 
-/// Law: lines have one answer at most, besides want of memory.
+/// Law: lines have one answer at most, besides out of memory.
 pub fn one_answer()
     ensures { OneAnswer }
 {}
 
-/// Law: the double name that is told is the first whose net an earlier name names too.
+/// Law: the double name that is reported is the first whose net an earlier name names too.
 pub fn first_double_is_least()
     ensures { FirstDoubleIsLeast }
 {}

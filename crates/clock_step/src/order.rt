@@ -2,7 +2,7 @@
 
 ghost use Rattle.std.specs.Prelude.{◌≡◌, [], None, IfOk, false, map, option_map};
 ghost use Rattle.std.specs.List.{filter_map};
-ghost use Rattle.clock_step.specs.Order.{first_double, first_driven, first_unknown, is_among, is_undriven, is_undriven_source, nets_with};
+ghost use Rattle.clock_step.specs.Order.{first_double_net, first_driven, first_unknown_net, is_among, is_undriven, is_undriven_source, nets_with};
 ghost use Rattle.clock_step.specs.private.Answers.{IsOrder, IsOrderOf};
 
 use crate::fault::InputFault;
@@ -33,7 +33,7 @@ fn add_up_to_double<N: Resolve>(
 ) -> Result<Option<Name>, AllocError>
     requires { nodes.old.keys ≡ [] }
     ensures double { IfOk result (λ found.
-        found ≡ first_double (N.net_of names.now) [] words.now) }
+        found ≡ first_double_net (N.net_of names.now) [] words.now) }
     ensures nodes { IfOk result (λ found. found ≡ None →
         map (λ node. node.0) nodes.new.keys ≡ filter_map (N.net_of names.now) words.now) }
 {
@@ -47,7 +47,7 @@ fn add_up_to_double<N: Resolve>(
 
 /// The first of these names that names no net.
 fn first_unknown<N: Resolve>(names: &N, words: &[Name]) -> Result<Option<Name>, AllocError>
-    ensures { IfOk result (λ found. found ≡ first_unknown (N.net_of names.now) words.now) }
+    ensures { IfOk result (λ found. found ≡ first_unknown_net (N.net_of names.now) words.now) }
 {
     for word in words {
         if names.resolve(word.bytes()).is_none() {

@@ -1,7 +1,7 @@
 //! From the lines of an input file to the bits that it gives; begin with `read_inputs`.
 
 ghost use Rattle.std.specs.Prelude.{◌≡◌, All, IfOk, IsTrue};
-ghost use Rattle.clock_step.specs.Answer.{IsAnswer};
+ghost use Rattle.clock_step.specs.Answer.{IsInputsAnswer};
 ghost use Rattle.clock_step.specs.Order.{is_undriven};
 
 use crate::fault::InputFault;
@@ -31,7 +31,7 @@ pub fn read_inputs<N: Resolve>(
     net: &Net,
     names: &N,
 ) -> Result<Inputs, InputFault>
-    ensures exact { IsAnswer (N.net_of names.now) net.now.raw lines.now result }
+    ensures exact { IsInputsAnswer (N.net_of names.now) net.now.raw lines.now result }
     ensures undriven { IfOk result (λ inputs.
         All (λ node. IsTrue (is_undriven net.now.raw node.0)) inputs.nodes) }
 {

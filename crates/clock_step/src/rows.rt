@@ -3,7 +3,7 @@
 ghost use Rattle.std.specs.Prelude.{◌≡◌, IfOk, map};
 ghost use Rattle.std.specs.List.{list_all};
 ghost use Rattle.clock_step.specs.Faults.{is_too_many};
-ghost use Rattle.clock_step.specs.Forms.{bits_of, is_bit, is_one, row_of};
+ghost use Rattle.clock_step.specs.Forms.{word_bits, is_zero_or_one, is_one, row_of};
 ghost use Rattle.clock_step.specs.private.Answers.{AreRows};
 
 use crate::fault::InputFault;
@@ -13,14 +13,14 @@ use ste_base::{Items, Name};
 
 /// Whether the character is 0 or 1.
 fn is_bit(byte: u8) -> bool
-    ensures { result ≡ is_bit byte }
+    ensures { result ≡ is_zero_or_one byte }
 {
     byte == b'0' || byte == b'1'
 }
 
 /// Whether each of these characters is 0 or 1.
 fn are_bits(characters: &[u8]) -> bool
-    ensures { result ≡ list_all is_bit characters.now }
+    ensures { result ≡ list_all is_zero_or_one characters.now }
 {
     characters.iter().all(|byte| is_bit(*byte))
 }
@@ -34,7 +34,7 @@ fn ones_of(alloc: Global, characters: &[u8]) -> Result<Vec<bool>, AllocError>
 
 /// The bits of a word, where it has one for each of so many names.
 fn bits_of(alloc: Global, width: usize, word: &[u8]) -> Result<Option<Items<bool>>, AllocError>
-    ensures { IfOk result (λ bits. bits ≡ bits_of width word.now) }
+    ensures { IfOk result (λ bits. bits ≡ word_bits width word.now) }
 {
     if width == 0 {
         if word == "-".as_bytes() {

@@ -10,7 +10,7 @@ use Rattle.command_line.specs.App.{command_app}
 use Rattle.clap.specs.Kinds.{Kinds}
 use Rattle.command_line.specs.Bounds.{CommandsAreBounded, IsActionBounded, IsBounded}
 use Rattle.ste_base.specs.Bytes.{is_digit}
-use Rattle.command_line.specs.Command.{Action, Command, action_in, action_of, bench, check, command_in, info, is_number, number_given, number_or, sim, steps_given, where_sound, with_one, with_two}
+use Rattle.command_line.specs.Command.{Action, Command, action_in, action_of, bench, check, command_in, info, is_positive_number, number_given, number_or, sim, steps_given, where_sound, with_one, with_two}
 
 -- ---- numbers
 
@@ -18,7 +18,7 @@ from_least : (n : ℕ) (digits : List ℕ) → n ≤ number_from n digits
 from_least n [] = omega arith
 from_least n (digit ∷ digits) = let rest = from_least (n * 10 + (digit - 48)) digits in omega (arith, rest)
 
-number_least : (text : List ℕ) → is_number text ≡ true → 1 ≤ number_of text
+number_least : (text : List ℕ) → is_positive_number text ≡ true → 1 ≤ number_of text
 number_least [] e = absurd (cc e)
 number_least (digit ∷ digits) e =
     let both = and_parts (not (nat_eq digit 48)) (list_all is_digit (digit ∷ digits)) e in
@@ -30,12 +30,12 @@ number_least (digit ∷ digits) e =
     omega (arith, first, rest)
 
 pub number_ranges : (greatest : ℕ) (text : List ℕ) (n : ℕ) → number_given greatest text ≡ Some n → (1 ≤ n) × (n ≤ greatest)
-number_ranges greatest text n e = by (is_number text && nat_le (number_of text) greatest) refl e
+number_ranges greatest text n e = by (is_positive_number text && nat_le (number_of text) greatest) refl e
   where
-    by : (b : Bool) → (is_number text && nat_le (number_of text) greatest) ≡ b → cond b (Some (number_of text)) None ≡ Some n → (1 ≤ n) × (n ≤ greatest)
+    by : (b : Bool) → (is_positive_number text && nat_le (number_of text) greatest) ≡ b → cond b (Some (number_of text)) None ≡ Some n → (1 ≤ n) × (n ≤ greatest)
     by true is h =
         let same : number_of text ≡ n = cc h in
-        let both = and_parts (is_number text) (nat_le (number_of text) greatest) is in
+        let both = and_parts (is_positive_number text) (nat_le (number_of text) greatest) is in
         let small = both.1 in
         let high : number_of text ≤ greatest = grind (arith, small) in
         (subst (λ (k : ℕ). 1 ≤ k) same (number_least text both.0), subst (λ (k : ℕ). k ≤ greatest) same high)

@@ -21,7 +21,7 @@ none_of [] error found (inl memory) other = absurd (other memory)
 none_of [] error found (inr among) other = absurd among
 none_of (kind ∷ kinds) error found has other = refl
 
--- an error of another kind than want of memory is a refusal of the words
+-- an error of another kind than out of memory is a refusal of the words
 pub refused_as_asked : (a : App) (texts : List Text) (error : Error) → a ≡ command_app
     → (is_simple_and_free a ≡ true → HasKind (fault_of a texts) error) → (kind_of error ≡ OutOfMemory → ⊥)
     → None ≡ where_sound (fault_of command_app texts) (command_in (matches_of command_app texts))

@@ -1,4 +1,5 @@
--- Meaning. The command line as `clap` cuts it: which arguments there are. Source: this project's own choice.
+-- Meaning. The command line as `clap` cuts it: which arguments there are. Source: this project's
+-- own choice.
 use Rattle.std.specs.Prelude.{List, ℕ, Some, codes}
 use Rattle.clap.specs.Words.{App, Rule, new_app, new_rule, with_rule}
 use Rattle.clap.specs.declared.builder.action.ArgAction.TheVariants.{Append, Set, SetTrue}

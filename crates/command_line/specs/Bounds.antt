@@ -17,4 +17,5 @@ pub record IsBounded (command : Command) : Type 0 where
 
 -- Law: a command that words ask for is so.
 abbrev pub CommandsAreBounded : Type 0
-CommandsAreBounded = (words : List (String Global)) (command : Command) → command_of words ≡ Some command → IsBounded command
+CommandsAreBounded = (words : List (String Global)) (command : Command) →
+    command_of words ≡ Some command → IsBounded command

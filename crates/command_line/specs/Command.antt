@@ -1,4 +1,5 @@
--- Meaning. What the words of the command line ask for. Source: this project's own choice; how words are cut is `clap`'s.
+-- Meaning. What the words of the command line ask for. Source: this project's own choice; how words
+-- are cut is `clap`'s.
 use Rattle.std.specs.Prelude.{ℕ, Bool, false, not, List, [], ◌∷◌, Option, Some, None, codes, cond}
 use Rattle.std.specs.Prelude.{String, string_bytes, map, nat_eq, nat_le, ◌&&◌, option_map}
 use Rattle.std.specs.Prelude.{option_and_then}
@@ -12,7 +13,8 @@ use Rattle.clap.specs.Words.{Row, all_of, fault_of, first_of, matches_of}
 use Rattle.clap.specs.Kinds.{Kinds}
 use Rattle.command_line.specs.App.{command_app}
 
--- what a command does: checks the tasks of a file on a netlist, counts a netlist's parts, runs a netlist on the inputs of a file, or makes and checks a pipeline of so many stages
+-- what a command does: checks the tasks of a file on a netlist, counts a netlist's parts, runs a
+-- netlist on the inputs of a file, or makes and checks a pipeline of so many stages
 pub data Action : Type 0 where
   check : List ℕ → List ℕ → Action
   info : List ℕ → Action
@@ -29,14 +31,14 @@ pub record Command : Type 0 where
   pub nodes : Bool
 
 -- the text is decimal digits, without a sign, the first of which is not 0: a number from 1 on
-abbrev pub is_number : List ℕ → Bool
-is_number [] = false
-is_number (digit ∷ digits) = not (nat_eq digit 48) && list_all is_digit (digit ∷ digits)
+abbrev pub is_positive_number : List ℕ → Bool
+is_positive_number [] = false
+is_positive_number (digit ∷ digits) = not (nat_eq digit 48) && list_all is_digit (digit ∷ digits)
 
 -- the number from 1 to the greatest that a text gives
 abbrev pub number_given : ℕ → List ℕ → Option ℕ
 number_given greatest text =
-    cond (is_number text && nat_le (number_of text) greatest) (Some (number_of text)) None
+    cond (is_positive_number text && nat_le (number_of text) greatest) (Some (number_of text)) None
 
 -- the number of an option, from 1 to the greatest; the usual one where the option is not given
 abbrev pub number_or : ℕ → ℕ → Option (List ℕ) → Option ℕ
@@ -102,7 +104,8 @@ abbrev pub where_sound : {A : Type 0} → Kinds → Option A → Option A
 where_sound [] found = found
 where_sound (kind ∷ kinds) found = None
 
--- the command that the words ask for, the program's name first; none where `clap`'s reading refuses the words (a request for help is one of its refusals), or what they say is no command
+-- the command that the words ask for, the program's name first; none where `clap`'s reading refuses
+-- the words (a request for help is one of its refusals), or what they say is no command
 abbrev pub command_of : List (String Global) → Option Command
 command_of words =
     let texts = map string_bytes words in

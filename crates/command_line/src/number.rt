@@ -3,7 +3,7 @@
 ghost use Rattle.std.specs.Prelude.{◌≡◌, ◌≤◌, IfSome};
 ghost use Rattle.std.specs.List.{list_all};
 ghost use Rattle.ste_base.specs.Bytes.{is_digit};
-ghost use Rattle.command_line.specs.Command.{is_number, number_given};
+ghost use Rattle.command_line.specs.Command.{is_positive_number, number_given};
 
 use ste_base::read_number;
 
@@ -16,7 +16,7 @@ fn are_digits(text: &[u8]) -> bool
 
 /// Whether a text is decimal digits, the first of which is not 0.
 fn is_number(text: &[u8]) -> bool
-    ensures { result ≡ is_number text.now }
+    ensures { result ≡ is_positive_number text.now }
 {
     match text {
         [] => false,

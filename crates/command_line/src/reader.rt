@@ -181,7 +181,7 @@ fn command_in<'a>(matches: &ArgMatches<'a>) -> Option<Command<'a>>
 /// The command that the words ask for, the program's name first; none where they ask for none,
 /// which is the usage refusal: where `clap`'s reading refuses the words (a request for help is one
 /// of its refusals), the action is none of the four, its files are not as many as it takes, or a
-/// number is out of its range. The one error is want of memory.
+/// number is out of its range. The only error is out of memory.
 pub fn command_of<'a>(alloc: Global, words: &'a [String]) -> Result<Option<Command<'a>>, AllocError>
     ensures { IfOk result (λ found. found ≡ command_of words.now) }
 {

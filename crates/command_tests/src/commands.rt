@@ -1,4 +1,5 @@
-//! What `run` writes and answers for words of every kind: the counts of a net, simulations, options, refusals of words.
+//! What `run` writes and answers for words of every kind: the counts of a net, simulations,
+//! options, refusals of words.
 
 use program_fixture::texts::{INVERTER, INVERTS, TWICE};
 use program_fixture::{Failing, Fixture, NONE, NOTHING, run_on};
@@ -363,8 +364,8 @@ fn a_long_simulation(rt: HostRuntime) -> Result<(), Fail> {
     Ok(())
 }
 
-/// Runs the program where something fails, and compares what the error sink has taken; the output has taken nothing, and the status is
-/// 3.
+/// Runs the program where something fails, and compares what the error sink has taken; the output
+/// has taken nothing, and the status is 3.
 fn expect_fault(
     rt: &(impl Abort + Threads + Sync),
     alloc: Global,

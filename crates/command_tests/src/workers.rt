@@ -1,4 +1,5 @@
-//! Tasks shared out to workers: the same reports for any number of them, the number of shared nodes, and that two workers meet.
+//! Tasks shared out to workers: the same reports for any number of them, the number of shared
+//! nodes, and that two workers meet.
 
 use program_fixture::texts::{INVERTER, INVERTS};
 use program_fixture::{Fixture, NOTHING, run_on};
@@ -104,8 +105,8 @@ fn two_workers_meet(rt: HostRuntime) -> Result<(), Fail> {
     Ok(())
 }
 
-/// So many assertions over the chain of three latches, of different lengths, of which most fail; each fifth has a graph
-/// behind it.
+/// So many assertions over the chain of three latches, of different lengths, of which most fail;
+/// each fifth has a graph behind it.
 fn many_tasks(alloc: Global, count: u32) -> Result<String, AllocError> {
     let mut text = String::from_str(alloc, ".vars p q r\n")?;
     for i in 0..count {
@@ -199,7 +200,8 @@ fn small_task(alloc: Global, name: &str) -> Result<String, AllocError> {
     format!(in alloc; ".ste {name}\n.ant a = p0 from 0 to 1\n.con y = !p0 from 0 to 1\n.end\n")
 }
 
-/// A task over the inverter that takes some 80,000 nodes: sums of products of variables that stand far apart in the order.
+/// A task over the inverter that takes some 80,000 nodes: sums of products of variables that stand
+/// far apart in the order.
 fn large_task(alloc: Global, name: &str) -> Result<String, AllocError> {
     let mut sum = String::from_str(alloc, "p0 & q0")?;
     for i in 1..14 {
@@ -236,7 +238,8 @@ fn three_large_tasks(alloc: Global) -> Result<String, AllocError> {
     Ok(text)
 }
 
-/// The steps of a task that are tried first do not suffice for the large one; all of them do, and 5,000 do not.
+/// The steps of a task that are tried first do not suffice for the large one; all of them do, and
+/// 5,000 do not.
 #[test]
 fn few_steps_first(rt: HostRuntime) -> Result<(), Fail> {
     let alloc = rt.alloc();
@@ -278,8 +281,8 @@ impl Gate for Begun {
     }
 }
 
-/// Only the large tasks are begun twice, and what is told stands in order; where the shared nodes are counted, all tasks
-/// are begun twice, and the same is told of them.
+/// Only the large tasks are begun twice, and the reports are in order; where the shared nodes are
+/// counted, all tasks are begun twice, and their reports are the same.
 #[test]
 fn large_tasks_alone_are_tried_again(rt: HostRuntime) -> Result<(), Fail> {
     let alloc = rt.alloc();

@@ -11,7 +11,7 @@ use Rattle.ste_model.specs.Shown.{IsOpen}
 use Rattle.counter_run.specs.Along.{DoAgree}
 use Rattle.counter_run.specs.private.Asking.{IsAskedFor, IsAskedOr, after_cut}
 
--- ---- one cut more
+-- ---- one more cut
 
 asked_longer : (cuts : List Cut) (cut : Cut) (id : ℕ) (bit : Bool) → IsAskedFor cuts id bit → IsAskedFor (cuts ++ cut ∷ []) id bit
 asked_longer cuts cut id bit asked =

@@ -27,7 +27,7 @@ over_none given block s id e = over_outside given block s id (elim (cases_lt s b
   | inr l ↦ inr (omega arith)
 ])
 
--- ---- a row more has its bits
+-- ---- one more row has its bits
 
 pub rows_turn : (old rows : List (List Bool)) (x row : List Bool) (block : Block) (n : ℕ) → n < length rows → length row ≡ length (get_or rows n x)
     → ((t : ℕ) → block.from ≤ t → t < block.to → get_or row t false ≡ block_bit block t n) → ((t : ℕ) → (t < block.from) ⊎ (block.to ≤ t) → get_or row t false ≡ get_or (get_or rows n x) t false)

@@ -101,7 +101,7 @@ row_long old new id t x shape l m =
     let e : length (get_or new id x) ≡ length (get_or old id []) = ap length (get_or_default new id x [] l) ∙ shape.wide id in
     omega arith
 
--- one net more has its bit at a time
+-- one more net has its bit at a time
 pub column_turn : (old rows new : List (List Bool)) (bits : List Bool) (t n : ℕ) → SetCell rows new t n (bit_at bits n) → SameShape old rows
     → ((id : ℕ) → id < n → cell rows t id ≡ bit_at bits id) → ((s id : ℕ) → s ≢ t → cell rows s id ≡ cell old s id)
     → (SameShape old new) × ((id : ℕ) → id < n + 1 → cell new t id ≡ bit_at bits id) × ((s id : ℕ) → s ≢ t → cell new s id ≡ cell old s id)
@@ -114,7 +114,7 @@ column_turn old rows new bits t n is shape placed others = (
   λ s id other. is.others s id (inl other) ∙ others s id other,
 )
 
--- one latch more has its first bit
+-- one more latch has its first bit
 pub starts_turn : (reset : Bool) (latches : List Latch) (old rows new : List (List Bool)) (n : ℕ) (latch : Latch) → AllPairs (λ one other. one.output.0 ≢ other.output.0) latches → n < length latches → latch ≡ get_or latches n latch
     → SetCell rows new 0 latch.output.0 (start_bit reset latch.init) → SameShape old rows
     → ((k : ℕ) (d : Latch) → k < n → cell rows 0 (get_or latches k d).output.0 ≡ start_bit reset (get_or latches k d).init)

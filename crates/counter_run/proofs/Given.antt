@@ -107,7 +107,7 @@ none_completed net times first held given now is size same = record {
   holds = λ run h l. is ∙ starts_are (run 0) net.latches first (h.starts l);
 }
 
--- one time more, with the bits of all nets at it; `seen` are the bits that the row was gathered from
+-- one more time, with the bits of all nets at it; `seen` are the bits that the row was gathered from
 pub one_completed : (net : RawNet) (nodes : List NodeId) (times t : ℕ) (first row held shown bits next : List Bool) (given now later : ℕ → ℕ → Bool) (seen : ℕ → Bool) → IsInRange net → AreSourceNodes net nodes → t < times → row ≡ map (λ node. seen node.0) nodes → ((id : ℕ) → seen id ≡ now t id) → shown ≡ held
     → ((bit : ℕ → Bool) → AreDetermined net nodes row shown bit → AreBits net bit bits) → ((id : ℕ) → id < net.nets → later t id ≡ bit_at bits id) → ((s id : ℕ) → id < net.nets → s ≢ t → later s id ≡ now s id)
     → next ≡ map (λ latch. bit_at bits latch.input.0) net.latches → AreCompleted net times first given now held t → AreCompleted net times first given later next (t + 1)

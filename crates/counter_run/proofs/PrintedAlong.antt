@@ -68,7 +68,7 @@ first_edge (edge ∷ path) l = (edge, refl)
 
 -- ---- the turns of a loop
 
--- one edge more
+-- one more edge
 pub edge_turn : (edges : List Edge) (bits : List Bool) (numbers : List ℕ) (old rows new : List (List Bool)) (n : ℕ) (x : Edge) (ant : List Bind) → x ≡ get_or edges (get_or numbers n 0) x → ant ≡ x.ant
     → ((id : ℕ) → IsAskedOr (bind_cuts ant bits) id (cell rows n id) (cell new n id)) → ((s id : ℕ) → s ≢ n → cell new s id ≡ cell rows s id)
     → ((i : ℕ) (edge : Edge) (id : ℕ) → i < n → slice_get edges (get_or numbers i 0) ≡ Some edge → IsAskedOr (bind_cuts edge.ant bits) id (cell old i id) (cell rows i id))

@@ -14,6 +14,7 @@ use Rattle.net_core.specs.Possible.{IsLeft, MayHave, is_weakened}
 use Rattle.net_core.specs.Sets.{IsIn, first_set, neither}
 use Rattle.net_core.proofs.Possible.{same_fields}
 use Rattle.net_core.proofs.Starts.{first_values}
+use Rattle.ste_model.proofs.Due.{weak_open}
 use Rattle.ste_model.specs.declared.task.Assertion.{Assertion}
 use Rattle.ste_model.specs.declared.task.Quint.{Quint}
 use Rattle.ste_model.specs.declared.task.Weakening.{Weakening}
@@ -66,23 +67,6 @@ pub starts_at : (bit : ℕ → Bool) (first : ℕ → Bool) (latches : List Latc
 starts_at bit first [] h k d l = absurd (omega arith)
 starts_at bit first (latch ∷ latches) h zero d l = h.0
 starts_at bit first (latch ∷ latches) h (suc k) d l = starts_at bit first latches h.1 k d (omega arith)
-
--- a bindable antecedent asks nothing, at time 0, of a latch output that is weakened then
-weak_open : (net : RawNet) (bits : List Bool) (weak : List Weakening) (id : ℕ) (quints : List Quint)
-    → ¬ IsUndriven net id → is_weakened (weakened_at weak 0) id ≡ true
-    → All (IsQuintBindable net weak) quints → IsOpen (cuts_at quints bits 0) id
-weak_open net bits weak id [] driven e all k d l = absurd (omega arith)
-weak_open net bits weak id (quint ∷ quints) driven e all zero d l = λ on at.
-    elim (all 0 quint (omega arith)) [
-      | inl free ↦ driven (subst (IsUndriven net) at free)
-      | inr latch ↦
-          let off : is_weakened (weakened_at weak 0) id ≡ false =
-          subst (λ (i : ℕ). is_weakened (weakened_at weak 0) i ≡ false) at latch.2 in
-          cc (e, off)
-    ]
-weak_open net bits weak id (quint ∷ quints) driven e all (suc k) d l =
-    weak_open net bits weak id quints driven e (λ i a m. all (suc i) a (omega arith))
-    k d (omega arith)
 
 pub asks_no_weak_start : (net : RawNet) (task : Assertion) (bits : List Bool)
     → All (IsQuintBindable net task.weak) task.ant → AsksNoWeakStart net task bits

@@ -8,9 +8,11 @@ use Rattle.ste_model.specs.Edges.{AreNumbers, IsPathFrom, bind_cuts}
 -- no net is asked for both bits
 abbrev pub DoAgree : List Cut → Type 0
 DoAgree cuts =
-    All (λ one. All (λ other. IsTrue one.on → IsTrue other.on → one.node ≡ other.node → one.value ≡ other.value) cuts) cuts
+    All (λ one. All (λ other. IsTrue one.on → IsTrue other.on → one.node ≡ other.node →
+    one.value ≡ other.value) cuts) cuts
 
--- these are the numbers of a path from vertex 0, and under the assignment no edge of it binds a net to both bits
+-- these are the numbers of a path from vertex 0, and under the assignment no edge of it binds a net
+-- to both bits
 pub record IsNumberedPath (graph : Graph) (bits : List Bool) (numbers : List ℕ) : Type 0 where
   pub path : List Edge
   pub are : AreNumbers graph numbers path

@@ -8,7 +8,8 @@ use Rattle.clock_step.specs.Order.{is_undriven}
 abbrev pub undriven_below : RawNet → ℕ → List NodeId
 undriven_below net zero = []
 undriven_below net (suc n) =
-    if is_undriven net n then undriven_below net n ++ (record { 0 = n }) ∷ [] else undriven_below net n
+    if is_undriven net n then undriven_below net n ++ (record { 0 = n }) ∷ []
+    else undriven_below net n
 
 -- the inputs and free nets
 abbrev pub undriven_nets : RawNet → List NodeId

@@ -68,8 +68,9 @@ fn put_path(rows: &mut [Row], bits: &[bool], edges: &[Edge], path: &[u32])
     }
 }
 
-/// The run in which what the edges of a path ask is there, each at its time, and 0 where they ask nothing: the printed run
-/// where the antecedent is bindable, and no edge of the path binds a net to both bits.
+/// The run in which what the edges of a path ask is there, each at its time, and 0 where they ask
+/// nothing: the printed run where the antecedent is bindable, and no edge of the path binds a net
+/// to both bits.
 pub fn run_along(
     alloc: Global,
     net: &Net,
@@ -93,13 +94,14 @@ pub fn run_along(
     Ok(made)
 }
 
-/// The printed run of a graph along a path from vertex 0, by the numbers of its edges, under an assignment, which has a bit
-/// for each variable, and under which no edge of the path binds a net to both bits: at each time it has the bits of the
-/// antecedent of the edge at that place, and 0 at every other input and free net and first value of a latch that nothing
-/// fixes. Its length is that of the path. It meets the antecedents, which have to be bindable, over nets of the net.
+/// The printed run of a graph along a path from vertex 0, by the numbers of its edges, under an
+/// assignment, which has a bit for each variable, and under which no edge of the path binds a net
+/// to both bits: at each time it has the bits of the antecedent of the edge at that place, and 0 at
+/// every other input and free net and first value of a latch that nothing fixes. Its length is that
+/// of the path. It meets the antecedents, which have to be bindable, over nets of the net.
 ///
-/// The time is linear in the size of the net times the length of the path, and in the bindings along it; it takes a vector
-/// for each net.
+/// The time is linear in the size of the net times the length of the path, and in the bindings
+/// along it; it takes a vector for each net.
 pub fn graph_run(
     alloc: Global,
     net: &Net,

@@ -40,7 +40,8 @@ fn put_starts(net: &Net, reset: bool, rows: &mut [Row])
     }
 }
 
-/// Rows of zeros for each net, with the first bit of each latch of which nothing is asked at time 0.
+/// Rows of zeros for each net, with the first bit of each latch of which nothing is asked at time
+/// 0.
 pub fn start_rows(
     alloc: Global,
     net: &Net,

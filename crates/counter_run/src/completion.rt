@@ -162,7 +162,8 @@ pub fn complete(
     )
 }
 
-/// The run from these rows, which give the bits at inputs and free nets, and those at time 0 of the latches.
+/// The run from these rows, which give the bits at inputs and free nets, and those at time 0 of the
+/// latches.
 pub fn run_from(alloc: Global, net: &Net, times: Time, rows: Vec<Row>) -> Result<Run, AllocError>
     requires { IsMatrix net.now.raw.nets times rows.items }
     ensures rows { IfOk result (λ run. HasRows net.now.raw.nets times run) }

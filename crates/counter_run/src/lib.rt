@@ -1,5 +1,5 @@
-//! Two-valued runs of nets: the one run with given bits, and the run that is printed for a failure of an assertion or of an
-//! assertion graph. Begin with `two_valued`, `ste_run` and `graph_run`.
+//! Two-valued runs of nets: the one run with given bits, and the run that is printed for a failure
+//! of an assertion or of an assertion graph. Begin with `two_valued`, `ste_run` and `graph_run`.
 #![tactic(auto)]
 
 // `along`, `printed` and `undriven` are public for the tests, which stand in another crate.

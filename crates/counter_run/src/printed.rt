@@ -15,9 +15,9 @@ use net_core::Net;
 use std::alloc::{AllocError, Global};
 use ste_model::{Assertion, Run, depth};
 
-/// The run in which what the antecedent asks is there, and 0 where it asks nothing: the printed run where the assignment is
-/// not contradictory, and no latch output of which the antecedent asks something at time 0 is
-/// weakened then.
+/// The run in which what the antecedent asks is there, and 0 where it asks nothing: the printed run
+/// where the assignment is not contradictory, and no latch output of which the antecedent asks
+/// something at time 0 is weakened then.
 pub fn run_as_asked(
     alloc: Global,
     net: &Net,
@@ -37,12 +37,13 @@ pub fn run_as_asked(
     Ok(made)
 }
 
-/// The printed run of an assertion under an assignment, which has a bit for each variable and is not contradictory: it has
-/// the antecedent's bits, and 0 at every other input and free net and first value of a latch that nothing fixes. Its
-/// length is the depth of the assertion. It meets the antecedent, which has to be bindable, over nets of the net.
+/// The printed run of an assertion under an assignment, which has a bit for each variable and is
+/// not contradictory: it has the antecedent's bits, and 0 at every other input and free net and
+/// first value of a latch that nothing fixes. Its length is the depth of the assertion. It meets
+/// the antecedent, which has to be bindable, over nets of the net.
 ///
-/// The time is linear in the size of the net times the depth, and in the times of the antecedent's quintuples; it takes a
-/// vector for each net.
+/// The time is linear in the size of the net times the depth, and in the times of the antecedent's
+/// quintuples; it takes a vector for each net.
 pub fn ste_run(alloc: Global, net: &Net, task: &Assertion, bits: &[bool]) -> Result<Run, AllocError>
     requires nets { AsksOfNets net.now.raw (Ste task.now) }
     requires bindable { IsBindable net.now.raw (Ste task.now) }

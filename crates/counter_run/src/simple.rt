@@ -31,11 +31,12 @@ fn put_inputs(rows: &mut [Row], nodes: &[NodeId], inputs: &[Items<bool>])
     }
 }
 
-/// The one run of so many times with these bits at inputs and free nets, a row for each in the order of their numbers with
-/// a bit for each time, and these first bits of the latches, one for each.
+/// The one run of so many times with these bits at inputs and free nets, a row for each in the
+/// order of their numbers with a bit for each time, and these first bits of the latches, one for
+/// each.
 ///
-/// The time is linear in the size of the net times the number of times; it takes a vector for each net, and one more byte
-/// for each net, input and latch.
+/// The time is linear in the size of the net times the number of times; it takes a vector for each
+/// net, and one more byte for each net, input and latch.
 pub fn two_valued(
     alloc: Global,
     net: &Net,

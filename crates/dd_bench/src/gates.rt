@@ -21,7 +21,7 @@ struct Rails {
     one: u32,
 }
 
-/// A row of numbers that looks like chance, the same at each run.
+/// Pseudo-random numbers, the same at each run.
 #[derive(Drop)]
 struct Dice {
     state: u64,
@@ -59,7 +59,8 @@ fn cover(kind: usize) -> (&'static str, &'static str) {
     }
 }
 
-/// So many gates in blocks of forty. Each gate reads late nets of its block, and gets the exact set of its outputs.
+/// So many gates in blocks of forty. Each gate reads late nets of its block, and gets the exact set
+/// of its outputs.
 pub fn gates(alloc: Global, count: u32, mix: Mix) -> Result<Trace, AllocError> {
     let mut trace = Trace::new(alloc, 64)?;
     let mut dice = Dice {

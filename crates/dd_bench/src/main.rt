@@ -1,6 +1,7 @@
-//! The program `dd_bench`: runs a workload of diagram operations over the store that grows, and measures it. `dd_bench WORKLOAD
-//! SIZE RUNS` prints the operations and the nodes made, and to the error output the least time of so many runs, with nodes
-//! and operations a second. `dd_bench print WORKLOAD SIZE` prints the operations, for another package to run.
+//! The program `dd_bench`: runs a workload of diagram operations over the store that grows, and
+//! measures it. `dd_bench WORKLOAD SIZE RUNS` prints the operations and the nodes made, and to the
+//! error output the least time of so many runs, with nodes and operations a second. `dd_bench print
+//! WORKLOAD SIZE` prints the operations, for another package to run.
 #![tactic(auto)]
 
 mod gates;
@@ -54,7 +55,8 @@ fn run_all(shelf: &mut Shelf<GrowingNodes>, acts: &[Act]) -> bool {
     true
 }
 
-/// The nodes made and the nanoseconds of the operations on a shelf; none where they could not be done.
+/// The nodes made and the nanoseconds of the operations on a shelf; none where they could not be
+/// done.
 fn timed(
     rt: &HostRuntime,
     shelf: &mut Shelf<GrowingNodes>,
@@ -102,7 +104,7 @@ fn best_of(rt: &HostRuntime, trace: &Trace, runs: u32) -> io::Result<Option<(u32
 }
 
 /// Prints what was measured.
-fn tell(rt: &HostRuntime, name: &str, acts: u64, used: u32, least: u64) -> io::Result<()> {
+fn report(rt: &HostRuntime, name: &str, acts: u64, used: u32, least: u64) -> io::Result<()> {
     println!(rt; "{name}: {acts} operations, {used} nodes")?;
     let nodes = rate(used as u64, least);
     let operations = rate(acts, least);
@@ -112,7 +114,7 @@ fn tell(rt: &HostRuntime, name: &str, acts: u64, used: u32, least: u64) -> io::R
 /// Runs a workload so often, and prints what was found.
 fn measure(rt: &HostRuntime, name: &str, trace: &Trace, runs: u32) -> io::Result<()> {
     match best_of(rt, trace, runs)? {
-        Some((used, least)) => tell(rt, name, trace.acts.len() as u64, used, least),
+        Some((used, least)) => report(rt, name, trace.acts.len() as u64, used, least),
         None => Ok(()),
     }
 }

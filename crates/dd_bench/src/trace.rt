@@ -2,7 +2,8 @@
 
 use std::alloc::{AllocError, Global};
 
-/// One operation. Operands are places: 0 and 1 are the constants, and k + 2 is the result of the operation k.
+/// One operation. Operands are places: 0 and 1 are the constants, and k + 2 is the result of the
+/// operation k.
 #[derive(Clone, Copy, Drop)]
 pub enum Act {
     Var(u32),

@@ -11,14 +11,14 @@ use Rattle.dd_nodes.specs.declared.node.Node.{Node}
 use Rattle.dd_nodes.specs.Diagram.{IsFrom}
 use Rattle.dd_nodes.specs.Stores.{IsRefused, Keeps, StandsFor, empty_store, node_of}
 use Rattle.dd_nodes.specs.Plain.{IsOrdered, Pushes, plain_held, ref_at}
-use Rattle.dd_nodes.specs.private.PlainLaws.{held-constant, held-place, place_of}
+use Rattle.dd_nodes.specs.PlainLaws.{held-constant, held-place, place_of}
 use Rattle.dd_nodes.proofs.PlainSteps.{IsOrdered-push, from-deep, held-push}
-use Rattle.dd_recent.specs.declared.recent.Recent.{Recent}
+use Rattle.dd_recent.specs.declared.recent.RecentMemo.{RecentMemo}
 use Rattle.dd_recent.specs.Recent.{AreRight}
 use Rattle.dd_recent.proofs.Remembering.{AreRight-keeps}
 use Rattle.dd_growing.specs.Growing.{grown_store, refs_from}
-use Rattle.dd_growing.specs.private.Slots.{AreInside, HasFirst, IsFindable, IsIndexed, IsOnWalk, IsPlaced, is_used, mark_of, ref_in, slot_at, slot_of, taken, walk}
-use Rattle.dd_growing.specs.private.GrowingLaws.{growing_diagram, length-refs_from}
+use Rattle.dd_growing.specs.private.Slots.{AreInside, HasFirst, IsFindable, IsIndexed, IsOnWalk, IsPlaced, is_used, hash_of, ref_in, slot_at, slot_of, taken, walk}
+use Rattle.dd_growing.specs.GrowingLaws.{growing_diagram, length-refs_from}
 use Rattle.dd_growing.proofs.Parts.{place_inside, slot_parts, used_slot}
 use Rattle.dd_growing.proofs.Walks.{at_place, elsewhere, on_walk_now, on_walk_still, taken_placed}
 
@@ -56,20 +56,20 @@ empty_grown limit vars = λ i. record { held = λ r. held-none r i; made = []; l
 
 -- what could be found can be found still
 still : (slots new : List ℕ) (other : Node) (x : ℕ) → IsPlaced slots other x new → (k : ℕ) (n : Node) → IsFindable slots k n → IsFindable new k n
-still slots new other x p k n on = on_walk_still slots new other x p n (slot_of (mark_of n) (ref_at k)) (used_slot (mark_of n) k) on
+still slots new other x p k n on = on_walk_still slots new other x p n (slot_of (hash_of n) (ref_at k)) (used_slot (hash_of n) k) on
 
 -- and so can the node of the new slot
-now_found : (slots new : List ℕ) (node : Node) (n : ℕ) → IsPlaced slots node (slot_of (mark_of node) (ref_at n)) new → IsFindable new n node
-now_found slots new node n p = on_walk_now slots new node (slot_of (mark_of node) (ref_at n)) p
+now_found : (slots new : List ℕ) (node : Node) (n : ℕ) → IsPlaced slots node (slot_of (hash_of node) (ref_at n)) new → IsFindable new n node
+now_found slots new node n p = on_walk_now slots new node (slot_of (hash_of node) (ref_at n)) p
 
 -- used slots have references of one node more
-inside_placed : (slots new : List ℕ) (node : Node) (mark n : ℕ) → n < 16777214 → (p : IsPlaced slots node (slot_of mark (ref_at n)) new) → AreInside n slots → AreInside (n + 1) new
-inside_placed slots new node mark n few p inside i used =
-    let x : ℕ = slot_of mark (ref_at n) in
+inside_placed : (slots new : List ℕ) (node : Node) (hash n : ℕ) → n < 16777214 → (p : IsPlaced slots node (slot_of hash (ref_at n)) new) → AreInside n slots → AreInside (n + 1) new
+inside_placed slots new node hash n few p inside i used =
+    let x : ℕ = slot_of hash (ref_at n) in
     dite (ℕ_discrete i (walk (length slots) node p.steps))
     (λ here.
     let is : slot_at new i ≡ x = ap (λ (j : ℕ). slot_at new j) here ∙ at_place slots new node x 0 p in
-    let r : (ref_in (slot_at new i)).0 ≡ n + 2 = ap (λ (y : ℕ). (ref_in y).0) is ∙ (slot_parts mark (ref_at n) (omega (arith, few))).0 in
+    let r : (ref_in (slot_at new i)).0 ≡ n + 2 = ap (λ (y : ℕ). (ref_in y).0) is ∙ (slot_parts hash (ref_at n) (omega (arith, few))).0 in
     (omega (arith, r), omega (arith, r)))
     (λ apart.
     let is : slot_at new i ≡ slot_at slots i = elsewhere slots new node x 0 p i apart in
@@ -88,13 +88,13 @@ IsIndexed-wider nodes slots table has t = record {
 
 -- a node more has a slot
 pub has_more : (nodes : List Node) (n : ℕ) (table new : List ℕ) (node : Node) → n < 16777214 → slice_get nodes n ≡ Some node → HasFirst nodes n table
-    → IsPlaced table node (slot_of (mark_of node) (ref_at n)) new → HasFirst nodes (n + 1) new
+    → IsPlaced table node (slot_of (hash_of node) (ref_at n)) new → HasFirst nodes (n + 1) new
 has_more nodes n table new node low is has p =
-    let x : ℕ = slot_of (mark_of node) (ref_at n) in
-    let one : taken new ≡ taken table + 1 = taken_placed table new node x (used_slot (mark_of node) n) p in
+    let x : ℕ = slot_of (hash_of node) (ref_at n) in
+    let one : taken new ≡ taken table + 1 = taken_placed table new node x (used_slot (hash_of node) n) p in
     record {
       few = let few = has.few in omega (arith, one, few);
-      inside = inside_placed table new node (mark_of node) n low p has.inside;
+      inside = inside_placed table new node (hash_of node) n low p has.inside;
       all = λ k other lt at. ⊎_elim
           (λ (old : k < n). still table new node x p k other (has.all k other old at))
           (λ (last : n ≤ k).
@@ -118,15 +118,15 @@ held-at nodes n k at = held-place nodes (ref_at k) (omega arith) ∙ ap (slice_g
 
 -- what a search does not find is not there
 pub absent_of : (nodes : List Node) (slots : List ℕ) (node : Node) → IsIndexed nodes slots
-    → ((r : Ref) → IsOnWalk slots node (slot_of (mark_of node) r) → plain_held nodes r ≡ Some node → ⊥) → (r : Ref) → plain_held nodes r ≢ Some node
+    → ((r : Ref) → IsOnWalk slots node (slot_of (hash_of node) r) → plain_held nodes r ≡ Some node → ⊥) → (r : Ref) → plain_held nodes r ≢ Some node
 absent_of nodes slots node t none r held =
     let at = (place_of nodes r node held).1 in
     t.placed (r.0 - 2) node at (λ on. none (ref_at (r.0 - 2)) on (held-at nodes node (r.0 - 2) at))
 
 pub IsIndexed-push : (nodes : List Node) (slots new : List ℕ) (node : Node) → length nodes < 16777214 → IsIndexed nodes slots
-    → IsPlaced slots node (slot_of (mark_of node) (ref_at (length nodes))) new → ((r : Ref) → plain_held nodes r ≢ Some node) → IsIndexed (nodes ++ node ∷ []) new
+    → IsPlaced slots node (slot_of (hash_of node) (ref_at (length nodes))) new → ((r : Ref) → plain_held nodes r ≢ Some node) → IsIndexed (nodes ++ node ∷ []) new
 IsIndexed-push nodes slots new node few t p absent =
-    let x : ℕ = slot_of (mark_of node) (ref_at (length nodes)) in
+    let x : ℕ = slot_of (hash_of node) (ref_at (length nodes)) in
     let long : length (nodes ++ node ∷ []) ≡ length nodes + 1 = length-append nodes (node ∷ []) in
     record {
       placed = λ k n at no. ⊎_elim
@@ -134,7 +134,7 @@ IsIndexed-push nodes slots new node few t p absent =
           (λ (last : (k ≡ length nodes) × (node ≡ n)).
           no (subst (λ (m : ℕ). IsFindable new m n) (sym last.0) (subst (IsFindable new (length nodes)) last.1 (now_found slots new node (length nodes) p))))
           (get-cases nodes node n k at);
-      inside = subst (λ (m : ℕ). AreInside m new) (sym long) (inside_placed slots new node (mark_of node) (length nodes) few p t.inside);
+      inside = subst (λ (m : ℕ). AreInside m new) (sym long) (inside_placed slots new node (hash_of node) (length nodes) few p t.inside);
       distinct = λ i k n at at'. ⊎_elim
           (λ (old : slice_get nodes i ≡ Some n). ⊎_elim
           (λ (old' : slice_get nodes k ≡ Some n). t.distinct i k n old old')
@@ -148,29 +148,29 @@ IsIndexed-push nodes slots new node few t p absent =
     }
 
 -- what is remembered is right still
-pub AreRight-push : (nodes : List Node) (slots new : List ℕ) (node : Node) (base limit vars : ℕ) (recent : Recent) → IsOrdered vars nodes → IsIndexed nodes slots
+pub AreRight-push : (nodes : List Node) (slots new : List ℕ) (node : Node) (base limit vars : ℕ) (recent : RecentMemo) → IsOrdered vars nodes → IsIndexed nodes slots
     → IsOrdered vars (nodes ++ node ∷ []) → IsIndexed (nodes ++ node ∷ []) new → AreRight (grown_store nodes base limit vars) recent → AreRight (grown_store (nodes ++ node ∷ []) base limit vars) recent
 AreRight-push nodes slots new node base limit vars recent o t o' t' right =
     AreRight-keeps (grown_store nodes base limit vars) (grown_store (nodes ++ node ∷ []) base limit vars) recent (growing_diagram vars nodes slots o t) (growing_diagram vars (nodes ++ node ∷ []) new o' t')
     (λ r n at. held-push nodes node r n at) refl right
 
 -- all that holds of a node more and its slot, where the list and the table were these
-pub record IsAdded (nodes more : List Node) (new : List ℕ) (base limit vars : ℕ) (recent : Recent) : Type 0 where
+pub record IsAdded (nodes more : List Node) (new : List ℕ) (base limit vars : ℕ) (recent : RecentMemo) : Type 0 where
   pub ordered : IsOrdered vars more
   pub indexed : IsIndexed more new
   pub counted : taken new ≤ length more
   pub right : AreRight (grown_store more base limit vars) recent
 
-pub added : (nodes more : List Node) (slots new : List ℕ) (node : Node) (count base limit vars : ℕ) (recent : Recent) → more ≡ nodes ++ node ∷ [] → count ≡ length nodes → count < 16777214
-    → IsPlaced slots node (slot_of (mark_of node) (ref_at count)) new → IsOrdered vars nodes → IsIndexed nodes slots → taken slots ≤ length nodes
+pub added : (nodes more : List Node) (slots new : List ℕ) (node : Node) (count base limit vars : ℕ) (recent : RecentMemo) → more ≡ nodes ++ node ∷ [] → count ≡ length nodes → count < 16777214
+    → IsPlaced slots node (slot_of (hash_of node) (ref_at count)) new → IsOrdered vars nodes → IsIndexed nodes slots → taken slots ≤ length nodes
     → AreRight (grown_store nodes base limit vars) recent → ((r : Ref) → plain_held nodes r ≢ Some node) → node.var < vars → node.lo.0 ≢ node.hi.0
     → IsFrom (plain_held nodes) (node.var + 1) node.lo → IsFrom (plain_held nodes) (node.var + 1) node.hi → IsAdded nodes more new base limit vars recent
 added nodes more slots new node count base limit vars recent list long low' placed o t few right absent low differ from from' =
-    let x : ℕ = slot_of (mark_of node) (ref_at (length nodes)) in
-    let p : IsPlaced slots node x new = subst (λ (m : ℕ). IsPlaced slots node (slot_of (mark_of node) (ref_at m)) new) long placed in
+    let x : ℕ = slot_of (hash_of node) (ref_at (length nodes)) in
+    let p : IsPlaced slots node x new = subst (λ (m : ℕ). IsPlaced slots node (slot_of (hash_of node) (ref_at m)) new) long placed in
     let o' = IsOrdered-push vars nodes node o low differ (from-deep vars nodes node.var node.lo low from) (from-deep vars nodes node.var node.hi low from') in
     let t' = IsIndexed-push nodes slots new node (omega (arith, long, low')) t p absent in
-    let one : taken new ≡ taken slots + 1 = taken_placed slots new node x (used_slot (mark_of node) (length nodes)) p in
+    let one : taken new ≡ taken slots + 1 = taken_placed slots new node x (used_slot (hash_of node) (length nodes)) p in
     let more' : length (nodes ++ node ∷ []) ≡ length nodes + 1 = length-append nodes (node ∷ []) in
     let all : IsAdded nodes (nodes ++ node ∷ []) new base limit vars recent = record {
       ordered = o';

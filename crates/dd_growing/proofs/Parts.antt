@@ -7,18 +7,18 @@ use Rattle.std.proofs.lemmas.Bool.Decides.{leb_tells}
 use Rattle.dd_nodes.specs.declared.node.Ref.{Ref}
 use Rattle.dd_nodes.specs.declared.node.Node.{Node}
 use Rattle.dd_nodes.specs.Plain.{plain_held, ref_at}
-use Rattle.dd_nodes.specs.private.PlainLaws.{place_of}
+use Rattle.dd_nodes.specs.PlainLaws.{place_of}
 use Rattle.dd_growing.specs.private.Slots.{is_used, ref_in, slot_of}
 
-pub slot_parts : (mark : ℕ) (r : Ref) → r.0 < 16777216 → (slot_of mark r % 16777216 ≡ r.0) × (slot_of mark r / 16777216 ≡ mark % 256)
-slot_parts mark r low = (omega arith, omega arith)
+pub slot_parts : (hash : ℕ) (r : Ref) → r.0 < 16777216 → (slot_of hash r % 16777216 ≡ r.0) × (slot_of hash r / 16777216 ≡ hash % 256)
+slot_parts hash r low = (omega arith, omega arith)
 
-pub ref_in-slot_of : (mark : ℕ) (r : Ref) → r.0 < 16777216 → ref_in (slot_of mark r) ≡ r
-ref_in-slot_of mark r low = let make : ℕ → Ref = λ n. record { 0 = n } in ap make (slot_parts mark r low).0
+pub ref_in-slot_of : (hash : ℕ) (r : Ref) → r.0 < 16777216 → ref_in (slot_of hash r) ≡ r
+ref_in-slot_of hash r low = let make : ℕ → Ref = λ n. record { 0 = n } in ap make (slot_parts hash r low).0
 
 -- the slot of a node is used
-pub used_slot : (mark k : ℕ) → is_used (slot_of mark (ref_at k)) ≡ true
-used_slot mark k = let some : 1 ≤ mark % 256 * 16777216 + (k + 2) = omega arith in grind (arith, common_steps, leb_tells)
+pub used_slot : (hash k : ℕ) → is_used (slot_of hash (ref_at k)) ≡ true
+used_slot hash k = let some : 1 ≤ hash % 256 * 16777216 + (k + 2) = omega arith in grind (arith, common_steps, leb_tells)
 
 pub place_inside : (xs : List Node) (k : ℕ) (n : Node) → slice_get xs k ≡ Some n → k < length xs
 place_inside [] k n at = absurd (none-some n at)

@@ -1,4 +1,4 @@
--- Walks through a table of slots, and what stands on them.
+-- Walks through a table of slots, and what lies on them.
 use Rattle.std.proofs.Common.{◌≡◌, ◌≢◌, ℕ, suc, ◌+◌, ◌-◌, ◌*◌, ◌/◌, ◌%◌, ◌<◌, ◌≤◌, Bool, true, false, List, [], ◌∷◌, length, get_or, set, cond, refl, sym, ap, ◌∙◌, subst, arith, lt_of_not-le}
 use Rattle.std.specs.Prelude.{Some, nat_lt}
 use Rattle.std.specs.List.{sum_by}
@@ -11,22 +11,22 @@ use native.Mathlib.Decide.{ℕ_discrete, dec_le}
 use Rattle.dd_nodes.specs.declared.node.Ref.{Ref}
 use Rattle.dd_nodes.specs.declared.node.Node.{Node}
 use Rattle.dd_nodes.specs.Plain.{plain_held}
-use Rattle.dd_growing.specs.private.Slots.{AreUsed, IsAt, IsOnWalk, IsPassed, IsPlaced, far_of, is_used, mark_of, near_of, newer, slot_at, slot_of, slot_on, taken, walk}
+use Rattle.dd_growing.specs.private.Slots.{AreUsed, IsAt, IsOnWalk, IsPassed, IsPlaced, far_of, is_used, hash_of, near_of, newer, slot_at, slot_of, slot_on, taken, walk}
 
-mark_lt : (n : Node) → mark_of n < 4294967296
-unfolding mark_of
-mark_lt n = omega arith
+hash_lt : (n : Node) → hash_of n < 4294967296
+unfolding hash_of
+hash_lt n = omega arith
 
 below : (m size : ℕ) → m < 4294967296 → 0 < size → m * size / 4294967296 < size
 below m size low h = let times : m * size < 4294967296 * size = mul-lt-mul_of_pos_right low h in omega (arith, times)
 
 pub far_lt : (size : ℕ) (n : Node) → 0 < size → far_of size n < size
 unfolding far_of
-far_lt size n h = below (mark_of n) size (mark_lt n) h
+far_lt size n h = below (hash_of n) size (hash_lt n) h
 
-pub far_is : (size mark : ℕ) (n : Node) → mark ≡ mark_of n → 0 < size → (mark * size / 4294967296 ≡ far_of size n) × (mark * size / 4294967296 < size)
+pub far_is : (size hash : ℕ) (n : Node) → hash ≡ hash_of n → 0 < size → (hash * size / 4294967296 ≡ far_of size n) × (hash * size / 4294967296 < size)
 unfolding far_of
-far_is size mark n is h = (ap (λ (m : ℕ). m * size / 4294967296) is, below mark size (subst (λ (m : ℕ). m < 4294967296) (sym is) (mark_lt n)) h)
+far_is size hash n is h = (ap (λ (m : ℕ). m * size / 4294967296) is, below hash size (subst (λ (m : ℕ). m < 4294967296) (sym is) (hash_lt n)) h)
 
 lt_of_le : (a b : ℕ) → a ≤ b → a ≢ b → a < b
 lt_of_le a b le ne = dite (dec_le (suc a) b) (λ x. x) (λ x. let lt : b < suc a = lt_of_not-le x in absurd (ne (omega arith)))
@@ -206,14 +206,14 @@ placed xs node x d n at here lt free = record {
 
 -- one more slot is not that of the node
 pub passes_on : (nodes : List Node) (xs : List ℕ) (node : Node) (n at d : ℕ) → IsAt xs node n at → IsPassed nodes xs node n
-    → ((r : Ref) → get_or xs at d ≡ slot_of (mark_of node) r → plain_held nodes r ≡ Some node → ⊥) → IsPassed nodes xs node (n + 1)
+    → ((r : Ref) → get_or xs at d ≡ slot_of (hash_of node) r → plain_held nodes r ≡ Some node → ⊥) → IsPassed nodes xs node (n + 1)
 passes_on nodes xs node n at d here before apart i lt r is held = dite (ℕ_discrete i n)
     (λ same. apart r (sym (ap (λ (j : ℕ). slot_on xs node j) same ∙ slot_here xs node n at d here) ∙ is) held)
     (λ other. before i (lt_of_le i n (omega arith) other) r is held)
 
 -- an unused place ends the search
 pub not_behind : (nodes : List Node) (xs : List ℕ) (node : Node) (n at d : ℕ) → IsAt xs node n at → IsPassed nodes xs node n
-    → is_used (get_or xs at d) ≡ false → (r : Ref) → is_used (slot_of (mark_of node) r) ≡ true → IsOnWalk xs node (slot_of (mark_of node) r) → plain_held nodes r ≡ Some node → ⊥
+    → is_used (get_or xs at d) ≡ false → (r : Ref) → is_used (slot_of (hash_of node) r) ≡ true → IsOnWalk xs node (slot_of (hash_of node) r) → plain_held nodes r ≡ Some node → ⊥
 not_behind nodes xs node n at d here before free r used (k, lt, is, are) held =
     let unused : is_used (slot_on xs node n) ≡ false = ap is_used (slot_here xs node n at d here) ∙ free in
     dite (dec_le (suc n) k)
@@ -224,5 +224,5 @@ not_behind nodes xs node n at d here before free r used (k, lt, is, are) held =
 
 -- and so does the end of the walk
 pub not_on : (nodes : List Node) (xs : List ℕ) (node : Node) (n : ℕ) → length xs + 8 ≤ n → IsPassed nodes xs node n
-    → (r : Ref) → IsOnWalk xs node (slot_of (mark_of node) r) → plain_held nodes r ≡ Some node → ⊥
+    → (r : Ref) → IsOnWalk xs node (slot_of (hash_of node) r) → plain_held nodes r ≡ Some node → ⊥
 not_on nodes xs node n all before r (k, lt, is, are) held = before k (omega (arith, lt)) r is held

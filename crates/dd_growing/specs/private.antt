@@ -1,3 +1,2 @@
 -- Definitions that serve private functions.
 pub mod Slots
-pub mod GrowingLaws

@@ -1,5 +1,5 @@
-//! A store of diagram nodes for one thread, which grows as nodes are made: begin with `GrowingNodes`. What each task of
-//! several makes is counted apart (`begin`).
+//! A store of diagram nodes for one thread, which grows as nodes are made: begin with
+//! `GrowingNodes`. What each task of several makes is counted apart (`begin`).
 #![tactic(auto)]
 
 pub mod nodes;

@@ -5,22 +5,22 @@ ghost use Rattle.std.proofs.Props.{props};
 ghost use Rattle.dd_nodes.specs.Plain.{IsOrdered};
 ghost use Rattle.dd_recent.specs.Recent.{AreRight};
 ghost use Rattle.dd_growing.specs.Growing.{grown_store};
-ghost use Rattle.dd_growing.specs.private.Slots.{IsIndexed, mark_of, taken};
+ghost use Rattle.dd_growing.specs.private.Slots.{IsIndexed, hash_of, taken};
 
-use crate::slots::{find, mark_of, put_into, table_of};
+use crate::slots::{find, hash_of, put_into, table_of};
 use dd_nodes::{MkFault, Node, Nodes, Operator, Ref};
-use dd_recent::{Joined, Recent};
+use dd_recent::{Joined, RecentMemo};
 use std::alloc::{AllocError, Global};
 
-/// A store for one thread: a list of nodes, a table that says where each stands, and results of operations that it
-/// remembers. What was made is counted from the last `begin` on. A node takes 12 bytes in the list, and 8 to 16 in the
-/// table.
+/// A store for one thread: a list of nodes, a table that says where each stands, and results of
+/// operations that it remembers. What was made is counted from the last `begin` on. A node takes 12
+/// bytes in the list, and 8 to 16 in the table.
 #[derive(Drop)]
 pub struct GrowingNodes {
     alloc: Global,
     nodes: Vec<Node>,
     slots: Vec<u32>,
-    recent: Recent,
+    recent: RecentMemo,
     base: usize,
     limit: u32,
     vars: u32,
@@ -77,7 +77,7 @@ impl GrowingNodes {
             alloc,
             nodes: Vec::new(alloc),
             slots: table_of(alloc, &[], LEAST)?,
-            recent: Recent::none(),
+            recent: RecentMemo::none(),
             base: 0,
             limit,
             vars,
@@ -119,9 +119,9 @@ impl GrowingNodes {
     }
 
     /// Puts a new node behind the others. After an error the list is as before.
-    fn add(&mut self, node: Node, mark: u32) -> Result<Ref, AllocError>
+    fn add(&mut self, node: Node, hash: u32) -> Result<Ref, AllocError>
         requires room { length self.old.nodes.items < self.old.base + self.old.limit }
-        requires mark { mark ≡ mark_of node }
+        requires hash { hash ≡ hash_of node }
         requires absent { (r : Ref) → plain_held self.old.nodes.items r ≢ Some node }
         requires below { node.var < self.old.vars }
         requires differ { node.lo.0 ≢ node.hi.0 }
@@ -139,7 +139,7 @@ impl GrowingNodes {
         self.make_room()?;
         let r = Ref(self.nodes.len() as u32 + 2);
         self.nodes.push(node)?;
-        put_into(&mut self.slots, node, mark, r);
+        put_into(&mut self.slots, node, hash, r);
         Ok(r)
     }
 }
@@ -149,12 +149,12 @@ impl Nodes for GrowingNodes {
     ghost use Rattle.dd_nodes.specs.declared.node.MkFault.TheVariants as MkFault;
     ghost use Rattle.dd_nodes.specs.Diagram.{IsFrom};
     ghost use Rattle.dd_nodes.specs.Stores.{Keeps, StandsFor, AddsOnly, IsThere, IsRefused};
-    ghost use Rattle.dd_growing.specs.private.GrowingLaws.{growing_diagram, made_held_of, refs_from-distinct, within_of};
+    ghost use Rattle.dd_growing.specs.GrowingLaws.{growing_diagram, made_held_of, refs_from-distinct, within_of};
 
     ghost store = { λ s. grown_store s.nodes.items s.base s.limit s.vars };
 
-    /// A node that is not held is made at every Ok, and counted. `StepsOut` comes exactly where the node would have to be
-    /// made and `limit` nodes are made. After an error all is unchanged.
+    /// A node that is not held is made at every Ok, and counted. `StepsOut` comes exactly where the
+    /// node would have to be made and `limit` nodes are made. After an error all is unchanged.
     fn mk(&mut self, var: u32, lo: Ref, hi: Ref) -> Result<Ref, MkFault>
         requires var { var < (⟦<GrowingNodes as Nodes>⟧.store self.old).vars }
         requires lo { IsFrom (⟦<GrowingNodes as Nodes>⟧.store self.old).held (var + 1) lo }
@@ -166,7 +166,8 @@ impl Nodes for GrowingNodes {
         ensures ok { IfOk result (λ r. StandsFor (⟦<GrowingNodes as Nodes>⟧.store self.new)
             var lo hi r) }
         ensures adds { IfOk result (λ r. AddsOnly
-            (⟦<GrowingNodes as Nodes>⟧.store self.old) (⟦<GrowingNodes as Nodes>⟧.store self.new) r) }
+            (⟦<GrowingNodes as Nodes>⟧.store self.old)
+            (⟦<GrowingNodes as Nodes>⟧.store self.new) r) }
         ensures there { IsThere (⟦<GrowingNodes as Nodes>⟧.store self.old) var lo hi
             → IsOk result × (⟦<GrowingNodes as Nodes>⟧.store self.new
             ≡ ⟦<GrowingNodes as Nodes>⟧.store self.old) }
@@ -182,14 +183,14 @@ impl Nodes for GrowingNodes {
             return Ok(lo);
         }
         let node = Node { var, lo, hi };
-        let mark = mark_of(node);
-        if let Some(r) = find(&self.nodes, &self.slots, node, mark) {
+        let hash = hash_of(node);
+        if let Some(r) = find(&self.nodes, &self.slots, node, hash) {
             return Ok(r);
         }
         if self.nodes.len() - self.base == self.limit as usize {
             return Err(MkFault::StepsOut);
         }
-        match self.add(node, mark) {
+        match self.add(node, hash) {
             Ok(r) => Ok(r),
             Err(_) => Err(MkFault::OutOfMemory),
         }

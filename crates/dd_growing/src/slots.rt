@@ -1,34 +1,36 @@
-//! Where a node stands in a list of nodes: a table of slots that is searched by walks; begin with `find`.
+//! Where a node stands in a list of nodes: a table of slots that is searched by walks; begin with
+//! `find`.
 
 ghost use Rattle.std.specs.Prelude.{◌≡◌, ◌<◌, ◌≤◌, ◌+◌, ◌%◌, ◌^◌, IfSome, IfNone, IfOk, Some, length, true};
 ghost use Rattle.dd_nodes.specs.Plain.{plain_held};
-ghost use Rattle.dd_growing.specs.private.Slots.{AreInside, HasFirst, IsOnWalk, IsPlaced, far_of, is_used, mark_of, near_of, newer, slot_of, taken, walk};
+ghost use Rattle.dd_growing.specs.private.Slots.{AreInside, HasFirst, IsOnWalk, IsPlaced, far_of, is_used, hash_of, near_of, newer, slot_of, taken, walk};
 
 use dd_nodes::{Node, Ref};
 use std::alloc::{AllocError, Global};
 
-/// The number of places near the newer child with which a walk begins: half of what a cache fetches at once.
+/// The number of places near the newer child with which a walk begins: half of what a cache fetches
+/// at once.
 const NEAR: usize = 8;
 
-/// Whether a slot has a node; one that has none is 0. A used one has the lower 8 bits of the mark of its node, and the
-/// node's reference in 24 bits.
+/// Whether a slot has a node; one that has none is 0. A used one has the lower 8 bits of the hash
+/// of its node, and the node's reference in 24 bits.
 fn is_used(slot: u32) -> bool
     ensures { result ≡ is_used slot }
 {
     0 < slot
 }
 
-/// The slot of a node with this mark.
-fn slot_of(mark: u32, r: Ref) -> u32
+/// The slot of a node with this hash.
+fn slot_of(hash: u32, r: Ref) -> u32
     requires { r.0 < 16777216 }
-    ensures { result ≡ slot_of mark r }
+    ensures { result ≡ slot_of hash r }
 {
-    mark % 256 * 16777216 + r.0
+    hash % 256 * 16777216 + r.0
 }
 
-/// The mark of a node: a number that looks like chance (multiplicative hashing).
-pub(crate) fn mark_of(node: Node) -> u32
-    ensures { result ≡ mark_of node }
+/// The hash of a node (multiplicative hashing).
+pub(crate) fn hash_of(node: Node) -> u32
+    ensures { result ≡ hash_of node }
 {
     let var = (node.var as u64).wrapping_mul(11400714819323198485);
     let lo = (node.lo.0 as u64).wrapping_mul(14029467366897019727);
@@ -47,8 +49,8 @@ fn newer(node: Node) -> u32
     }
 }
 
-/// The place where the walk of a node begins, of so many places: near its newer child. Nodes that are made one after
-/// another have such children too, and so slots near each other.
+/// The place where the walk of a node begins, of so many places: near its newer child. Nodes that
+/// are made one after another have such children too, and so slots near each other.
 fn near_of(node: Node, size: usize) -> usize
     requires { 0 < size }
     ensures { (result ≡ near_of size node) × (result < size) }
@@ -57,14 +59,15 @@ fn near_of(node: Node, size: usize) -> usize
     if twice < size { twice } else { 0 }
 }
 
-/// The place where the walk of a node with this mark goes on behind those near its newer child, of so many places.
-fn far_of(node: Node, mark: u32, size: usize) -> usize
-    requires mark { mark ≡ mark_of node }
+/// The place where the walk of a node with this hash goes on behind those near its newer child, of
+/// so many places.
+fn far_of(node: Node, hash: u32, size: usize) -> usize
+    requires hash { hash ≡ hash_of node }
     requires some { 0 < size }
     ensures { (result ≡ far_of size node) × (result < size) }
 {
     let _ = node;
-    ((mark as u128 * size as u128) >> 32) as usize
+    ((hash as u128 * size as u128) >> 32) as usize
 }
 
 /// The place behind a place, and the first one behind the last.
@@ -75,15 +78,15 @@ fn next(at: usize, size: usize) -> usize
     if at + 1 == size { 0 } else { at + 1 }
 }
 
-/// The place that the walk of a node with this mark comes to from this one, its n-th.
-fn further(at: usize, n: usize, node: Node, mark: u32, size: usize) -> usize
+/// The place that the walk of a node with this hash comes to from this one, its n-th.
+fn further(at: usize, n: usize, node: Node, hash: u32, size: usize) -> usize
     requires at { at ≡ walk size node n }
     requires inside { at < size }
-    requires mark { mark ≡ mark_of node }
+    requires hash { hash ≡ hash_of node }
     ensures { (result ≡ walk size node (n + 1)) × (result < size) }
 {
     if n == NEAR - 1 {
-        return far_of(node, mark, size);
+        return far_of(node, hash, size);
     }
     next(at, size)
 }
@@ -97,15 +100,15 @@ fn is_at(nodes: &[Node], r: Ref, node: Node) -> bool
     nodes[r.0 as usize - 2] == node
 }
 
-/// The reference of the node with this mark, where it stands in the list.
-pub(crate) fn find(nodes: &[Node], slots: &[u32], node: Node, mark: u32) -> Option<Ref>
+/// The reference of the node with this hash, where it stands in the list.
+pub(crate) fn find(nodes: &[Node], slots: &[u32], node: Node, hash: u32) -> Option<Ref>
     requires some { 0 < length slots.now }
     requires narrow { length slots.now ≤ 2 ^ 32 }
     requires few { length nodes.now ≤ 16777214 }
-    requires mark { mark ≡ mark_of node }
+    requires hash { hash ≡ hash_of node }
     requires inside { AreInside (length nodes.now) slots.now }
     ensures some { IfSome result (λ r. plain_held nodes.now r ≡ Some node) }
-    ensures none { IfNone result ((r : Ref) → IsOnWalk slots.now node (slot_of (mark_of node) r)
+    ensures none { IfNone result ((r : Ref) → IsOnWalk slots.now node (slot_of (hash_of node) r)
         → plain_held nodes.now r ≡ Some node → ⊥) }
 {
     let size = slots.len();
@@ -116,18 +119,18 @@ pub(crate) fn find(nodes: &[Node], slots: &[u32], node: Node, mark: u32) -> Opti
             return None;
         }
         let r = Ref(slot % 16777216);
-        if slot / 16777216 == mark % 256 && is_at(nodes, r, node) {
+        if slot / 16777216 == hash % 256 && is_at(nodes, r, node) {
             return Some(r);
         }
-        at = further(at, n, node, mark, size);
+        at = further(at, n, node, hash, size);
     }
     None
 }
 
-/// Puts a slot at the first unused place of the walk of a node with this mark.
-fn place(table: &mut [u32], node: Node, mark: u32, slot: u32)
+/// Puts a slot at the first unused place of the walk of a node with this hash.
+fn place(table: &mut [u32], node: Node, hash: u32, slot: u32)
     requires narrow { length table.old ≤ 2 ^ 32 }
-    requires mark { mark ≡ mark_of node }
+    requires hash { hash ≡ hash_of node }
     requires room { taken table.old < length table.old }
     ensures { IsPlaced table.old node slot table.new }
 {
@@ -138,20 +141,20 @@ fn place(table: &mut [u32], node: Node, mark: u32, slot: u32)
             table[at] = slot;
             return;
         }
-        at = further(at, n, node, mark, size);
+        at = further(at, n, node, hash, size);
     }
     unreachable!()
 }
 
-/// Puts the slot of a node with this mark and this reference into a table.
-pub(crate) fn put_into(table: &mut Vec<u32>, node: Node, mark: u32, r: Ref)
+/// Puts the slot of a node with this hash and this reference into a table.
+pub(crate) fn put_into(table: &mut Vec<u32>, node: Node, hash: u32, r: Ref)
     requires narrow { length table.old.items ≤ 2 ^ 32 }
-    requires mark { mark ≡ mark_of node }
+    requires hash { hash ≡ hash_of node }
     requires few { r.0 < 16777216 }
     requires room { taken table.old.items < length table.old.items }
-    ensures { IsPlaced table.old.items node (slot_of (mark_of node) r) table.new.items }
+    ensures { IsPlaced table.old.items node (slot_of (hash_of node) r) table.new.items }
 {
-    place(table, node, mark, slot_of(mark, r));
+    place(table, node, hash, slot_of(hash, r));
 }
 
 /// A table of so many places with a slot for each of these nodes.
@@ -164,7 +167,7 @@ pub(crate) fn table_of(alloc: Global, nodes: &[Node], size: usize) -> Result<Vec
 {
     let mut table = Vec::from_elem(alloc, 0u32, size)?;
     for (k, node) in nodes.iter().enumerate() {
-        put_into(&mut table, *node, mark_of(*node), Ref(k as u32 + 2));
+        put_into(&mut table, *node, hash_of(*node), Ref(k as u32 + 2));
     }
     Ok(table)
 }

@@ -10,7 +10,8 @@ use Rattle.std.proofs.lemmas.List.Kept.{AllPairs-cons}
 use Rattle.std.proofs.lemmas.Slice.Eq.{slice_eq-Decides}
 use Rattle.dd_nodes.specs.declared.node.Ref.{Ref}
 use Rattle.dd_nodes.specs.declared.node.Node.{Node}
-use Rattle.dd_nodes.specs.Diagram.{Function, IsCofactor, same_ref}
+use Rattle.ste_base.specs.Functions.{Function}
+use Rattle.dd_nodes.specs.Diagram.{IsCofactor, same_ref}
 use Rattle.dd_nodes.specs.Stores.{Store, function, IsRef, Means}
 use Rattle.dd_nodes.specs.Functions.{bits_of, prefixes, cofactor, same_bits, cofactors, is_constant, node_count, IsCofactorOf, IsNodeRef}
 use Rattle.dd_nodes.proofs.Walks.{canonical, from_constant, from_held, same_numbers, walk-constant}

@@ -10,7 +10,7 @@ use Rattle.dd_nodes.specs.declared.node.Ref.{Ref}
 use Rattle.dd_nodes.specs.declared.node.Node.{Node}
 use Rattle.dd_nodes.specs.Diagram.{Held, IsFrom, IsDiagram, IsCofactor, Grows, child, same_ref}
 use Rattle.dd_nodes.specs.Stores.{Store, function, IsRef, Keeps}
-use Rattle.dd_nodes.specs.Functions.{on_walks, node_refs, size, node_count, IsNodeRef, Reaches}
+use Rattle.dd_nodes.specs.Functions.{on_walks, node_refs, diagram_size, node_count, IsNodeRef, ReachesNode}
 use Rattle.dd_nodes.proofs.Walks.{same_numbers, from_constant, child-constant, IsAt, from_held, from_cases, Cases, child-above, child-from, child-grows, at_or_above, IsFrom-less, value-of_child, up_to, length-up_to, IsCofactor-refl, IsCofactor-trans}
 use Rattle.dd_nodes.proofs.Stores.{IsGood, IsGood-at}
 use Rattle.dd_nodes.proofs.Members.{Contains-head, Contains-tail, Contains-cons_cases, Contains-none, Contains-filter, Contains-filter_of, Contains-unique, Contains-unique_of, unique-apart}
@@ -84,15 +84,15 @@ pub walks-child : (h : Held) (v n i j : ℕ) (b : Bool) (r x : Ref) → IsDiagra
     → Contains (on_walks h i n r) (child h j b x)
 walks-child h v n i j b r x d e f g has = walks-child_by h v n i j b r x d e f has (at_or_above h j x g)
 
-pub Reaches-self : (s : Store) (r : Ref) → Reaches s r r
+pub Reaches-self : (s : Store) (r : Ref) → ReachesNode s r r
 Reaches-self s r = walks-self s.held 0 s.vars r
 
-pub Reaches-child : (s : Store) (j : ℕ) (b : Bool) (r x : Ref) → IsGood s → IsRef s r → IsFrom s.held j x → Reaches s r x → Reaches s r (child s.held j b x)
+pub Reaches-child : (s : Store) (j : ℕ) (b : Bool) (r x : Ref) → IsGood s → IsRef s r → IsFrom s.held j x → ReachesNode s r x → ReachesNode s r (child s.held j b x)
 Reaches-child s j b r x d f g has = walks-child s.held s.vars s.vars 0 j b r x d (omega arith) f g has
 
-pub Reaches-trans : (s : Store) (r x y : Ref) → IsGood s → IsRef s r → IsRef s x → Reaches s r x → Reaches s x y → Reaches s r y
+pub Reaches-trans : (s : Store) (r x y : Ref) → IsGood s → IsRef s r → IsRef s x → ReachesNode s r x → ReachesNode s x y → ReachesNode s r y
 Reaches-trans s r x y d f g first second =
-    walks_all s.held s.vars s.vars 0 x (Reaches s r) d (omega arith) g first (λ j b z lt from has. Reaches-child s j b r z d f from has) y second
+    walks_all s.held s.vars s.vars 0 x (ReachesNode s r) d (omega arith) g first (λ j b z lt from has. Reaches-child s j b r z d f from has) y second
 
 walks-grows : (h k : Held) (v n i : ℕ) (r : Ref) → IsDiagram h v → IsDiagram k v → Grows h k → IsFrom h i r → on_walks k i n r ≡ on_walks h i n r
 walks-grows h k v zero i r d d' g f = refl
@@ -105,10 +105,10 @@ walks-grows h k v (suc n) i r d d' g f =
 pub walks-keeps : (s t : Store) (r : Ref) → IsGood s → IsGood t → Keeps s t → IsRef s r → on_walks t.held 0 t.vars r ≡ on_walks s.held 0 s.vars r
 walks-keeps s t r d d' k f = ap (λ v. on_walks t.held 0 v r) k.vars ∙ walks-grows s.held t.held s.vars s.vars 0 r d (IsGood-at s t k d') k.grows f
 
-pub size-keeps : (s t : Store) (r : Ref) → IsGood s → IsGood t → Keeps s t → IsRef s r → size t r ≡ size s r
+pub size-keeps : (s t : Store) (r : Ref) → IsGood s → IsGood t → Keeps s t → IsRef s r → diagram_size t r ≡ diagram_size s r
 size-keeps s t r d d' k f = ap (λ (xs : List Ref). length (unique_keys same_ref (filter (λ x. nat_lt 1 x.0) xs))) (walks-keeps s t r d d' k f)
 
-pub Reaches-keeps : (s t : Store) (r x : Ref) → IsGood s → IsGood t → Keeps s t → IsRef s r → Reaches t r x → Reaches s r x
+pub Reaches-keeps : (s t : Store) (r x : Ref) → IsGood s → IsGood t → Keeps s t → IsRef s r → ReachesNode t r x → ReachesNode s r x
 Reaches-keeps s t r x d d' k f has = subst (λ xs. Contains xs x) (walks-keeps s t r d d' k f) has
 
 -- the references of a diagram, with both constants
@@ -121,7 +121,7 @@ one_reached_by s r x (suc zero) e lt = (suc zero, omega arith, same_numbers (rec
 one_reached_by s r x (suc (suc n)) e lt = absurd (omega arith)
 
 -- what is on the walks is a constant or a node of the diagram
-pub Reaches-reached : (s : Store) (r x : Ref) → Reaches s r x → Contains (reached s r) x
+pub Reaches-reached : (s : Store) (r x : Ref) → ReachesNode s r x → Contains (reached s r) x
 Reaches-reached s r x has = ⊎_elim
     (λ (lt : x.0 < 2). one_reached_by s r x x.0 refl lt)
     (λ (le : 2 ≤ x.0).
@@ -144,15 +144,15 @@ under_next s r j b x d lt f u =
           (up_to j b, omega (arith, n), λ bits l. value-of_child s.held s.vars j b x bits d f (omega arith));
     }
 
-is_under : (s : Store) (r x : Ref) → IsGood s → IsRef s r → Reaches s r x → IsUnder s r x
+is_under : (s : Store) (r x : Ref) → IsGood s → IsRef s r → ReachesNode s r x → IsUnder s r x
 is_under s r x d f has = walks_all s.held s.vars s.vars 0 r (IsUnder s r) d (omega arith) f
     (record { ref = f; cofactor = IsCofactor-refl s.vars (function s r) }) (λ j b y lt from u. under_next s r j b y d lt from u) x has
 
-pub Reaches-ref : (s : Store) (r x : Ref) → IsGood s → IsRef s r → Reaches s r x → IsRef s x
+pub Reaches-ref : (s : Store) (r x : Ref) → IsGood s → IsRef s r → ReachesNode s r x → IsRef s x
 Reaches-ref s r x d f has = (is_under s r x d f has).ref
 
 -- a constant reaches itself alone
-pub Reaches-constant : (s : Store) (r x : Ref) → IsGood s → r.0 < 2 → Reaches s r x → x ≡ r
+pub Reaches-constant : (s : Store) (r x : Ref) → IsGood s → r.0 < 2 → ReachesNode s r x → x ≡ r
 Reaches-constant s r x d c has = walks_all s.held s.vars s.vars 0 r (λ y. y ≡ r) d (omega arith) (from_constant s.held 0 r c) refl
     (λ j b y lt from same. ap (child s.held j b) same ∙ child-constant s.held s.vars j b r d c) x has
 
@@ -171,6 +171,6 @@ node_ref s r x d f has =
     }
 
 -- a diagram has no more nodes than its function
-pub size-nodes : (s : Store) (r : Ref) → IsGood s → IsRef s r → size s r ≤ node_count s.vars (function s r ∷ [])
+pub size-nodes : (s : Store) (r : Ref) → IsGood s → IsRef s r → diagram_size s r ≤ node_count s.vars (function s r ∷ [])
 size-nodes s r d f = count_nodes s (function s r ∷ []) (node_refs s r) d (λ x has. node_ref s r x d f has)
     (unique-apart same_ref-tells (filter (λ y. nat_lt 1 y.0) (on_walks s.held 0 s.vars r)))

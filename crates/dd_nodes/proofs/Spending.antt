@@ -5,7 +5,8 @@ use Rattle.std.specs.List.{AllPairs}
 use Rattle.std.proofs.lemmas.List.{length-append, length-drop}
 use Rattle.std.proofs.lemmas.List.Elements.{Contains-append_right}
 use Rattle.dd_nodes.specs.declared.node.Ref.{Ref}
-use Rattle.dd_nodes.specs.Diagram.{Function, IsCofactor}
+use Rattle.ste_base.specs.Functions.{Function}
+use Rattle.dd_nodes.specs.Diagram.{IsCofactor}
 use Rattle.dd_nodes.specs.Stores.{Store, IsRef, Means, function}
 use Rattle.dd_nodes.specs.Functions.{IsCofactorOf, IsNodeRef, node_count}
 use Rattle.dd_nodes.specs.Spending.{Has, Spends, IsShort}
@@ -74,7 +75,7 @@ own s r h = record { ref = h; value = λ bits l. refl }
 pub Means-same : (s : Store) (f g : Function) (r : Ref) → ((bits : List Bool) → length bits ≡ s.vars → f bits ≡ g bits) → Means s f r → Means s g r
 Means-same s f g r same m = record { ref = m.ref; value = λ bits l. m.value bits l ∙ same bits l }
 
--- ---- want of steps
+-- ---- too few steps
 
 pairs_behind : (xs ys : List Ref) → AllPairs (λ a b. a ≢ b) (xs ++ ys) → AllPairs (λ a b. a ≢ b) ys
 pairs_behind [] ys p = p

@@ -4,7 +4,8 @@ use Rattle.std.specs.Prelude.{Contains}
 use Rattle.std.proofs.lemmas.List.{append_assoc, append-nil}
 use Rattle.std.proofs.lemmas.List.Elements.{Contains-append_cases}
 use Rattle.dd_nodes.specs.declared.node.Ref.{Ref}
-use Rattle.dd_nodes.specs.Diagram.{Function, IsDiagram}
+use Rattle.ste_base.specs.Functions.{Function}
+use Rattle.dd_nodes.specs.Diagram.{IsDiagram}
 use Rattle.dd_nodes.specs.Stores.{Store, function, IsRef, Means, Keeps, Builds, IsSpent, Unites}
 use Rattle.dd_nodes.proofs.Walks.{IsFrom-grows, walk-grows}
 

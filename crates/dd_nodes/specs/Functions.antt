@@ -1,11 +1,13 @@
--- Functions as lists of bits, the nodes of a list of functions, and the size of a diagram (Bryant 1986): meaning.
+-- Functions as lists of bits, the nodes of a list of functions, and the size of a diagram (Bryant
+-- 1986): meaning.
 use Rattle.std.specs.Prelude.{ℕ, zero, suc, ◌+◌, Bool, true, false, not, ◌||◌, nat_lt, List, [], ◌∷◌, ◌++◌, map, length, drop, Contains, IsSome}
 use Rattle.std.specs.List.{filter}
 use Rattle.std.specs.Bool.{beq}
 use Rattle.std.specs.Cmp.Lexicographic.{pointwise}
 use Rattle.std.specs.Set.{unique_keys}
 use Rattle.dd_nodes.specs.declared.node.Ref.{Ref}
-use Rattle.dd_nodes.specs.Diagram.{Held, Function, IsCofactor, child, same_ref}
+use Rattle.ste_base.specs.Functions.{Function}
+use Rattle.dd_nodes.specs.Diagram.{Held, IsCofactor, child, same_ref}
 use Rattle.dd_nodes.specs.Stores.{Store, function}
 
 -- the bits of a function of v variables, in the order of assignments
@@ -33,7 +35,8 @@ cofactors v (f ∷ fs) = map (λ p. bits_of v (cofactor p f)) (prefixes v) ++ co
 
 -- whether these are the bits of a constant function of v variables
 abbrev pub is_constant : ℕ → List Bool → Bool
-is_constant v bits = same_bits bits (bits_of v (λ _. false)) || same_bits bits (bits_of v (λ _. true))
+is_constant v bits =
+    same_bits bits (bits_of v (λ _. false)) || same_bits bits (bits_of v (λ _. true))
 
 -- the nodes of functions of v variables: their different cofactors that are no constants
 abbrev pub nodes : ℕ → List Function → List (List Bool)
@@ -52,19 +55,21 @@ pub record IsNodeRef (s : Store) (fs : List Function) (r : Ref) : Type 0 where
   pub held : IsSome (s.held r)
   pub cofactor : IsCofactorOf s.vars fs (function s r)
 
--- the references on the walks from r: r, and those behind it at either bit, with so many variables left from i on
+-- the references on the walks from r: r, and those behind it at either bit, with so many variables
+-- left from i on
 abbrev pub on_walks : Held → ℕ → ℕ → Ref → List Ref
 on_walks h i zero r = r ∷ []
-on_walks h i (suc left) r = r ∷ (on_walks h (i + 1) left (child h i false r) ++ on_walks h (i + 1) left (child h i true r))
+on_walks h i (suc left) r =
+    r ∷ (on_walks h (i + 1) left (child h i false r) ++ on_walks h (i + 1) left (child h i true r))
 
 -- x is on the walks from r
-abbrev pub Reaches : Store → Ref → Ref → Type 0
-Reaches s r x = Contains (on_walks s.held 0 s.vars r) x
+abbrev pub ReachesNode : Store → Ref → Ref → Type 0
+ReachesNode s r x = Contains (on_walks s.held 0 s.vars r) x
 
 -- the references of the diagram of r that are no constants, each once
 abbrev pub node_refs : Store → Ref → List Ref
 node_refs s r = unique_keys same_ref (filter (λ x. nat_lt 1 x.0) (on_walks s.held 0 s.vars r))
 
 -- the size of the diagram of r: the number of its nodes
-abbrev pub size : Store → Ref → ℕ
-size s r = length (node_refs s r)
+abbrev pub diagram_size : Store → Ref → ℕ
+diagram_size s r = length (node_refs s r)

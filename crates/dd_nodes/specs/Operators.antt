@@ -3,7 +3,7 @@ use Rattle.std.specs.Prelude.{Bool, not, ◌&&◌, ◌||◌, if◌then◌else◌
 use Rattle.dd_nodes.specs.declared.node.Ref.{Ref}
 use Rattle.dd_nodes.specs.declared.operator.Operator.{Operator}
 use Rattle.dd_nodes.specs.declared.operator.Operator.TheVariants.{And, Or, Xor, Choice}
-use Rattle.dd_nodes.specs.Diagram.{Function}
+use Rattle.ste_base.specs.Functions.{Function}
 use Rattle.dd_nodes.specs.Stores.{Store, function, IsRef, Means}
 
 -- the bit that an operator makes of three

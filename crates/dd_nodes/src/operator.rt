@@ -1,6 +1,7 @@
 //! What joins functions: `Operator`.
 
-/// What joins two functions or three, assignment by assignment. One of two makes nothing of the third.
+/// What joins two functions or three, assignment by assignment. One of two makes nothing of the
+/// third.
 #[derive(Clone, Copy, PartialEq, Eq, Drop)]
 pub enum Operator {
     /// 1 where the first and the second are 1.

@@ -5,10 +5,11 @@ ghost use Rattle.dd_nodes.specs.Stores.{Unites, gives_up, gets};
 
 use crate::nodes::Nodes;
 
-/// Stores that stand on one table, between which the nodes that may be made are shared out. Neither call takes memory.
+/// Stores over one table, between which the nodes that may be made are shared out. Neither
+/// call takes memory.
 pub trait Split: Nodes + Drop {
-    /// Another store on the same table, with the same nodes. It has made nothing, and may make `quota` of the nodes that
-    /// this one may still make.
+    /// Another store on the same table, with the same nodes. It has made nothing, and may make
+    /// `quota` of the nodes that this one may still make.
     fn fork(&mut self, quota: u32) -> Self
         requires { quota + length (Self.store self.old).made ≤ (Self.store self.old).limit }
         ensures left { Self.store self.new ≡ gives_up quota (Self.store self.old) }

@@ -3,7 +3,8 @@
 use std::marker::Model;
 use std::sync::ledger::{Blank, Book, Ledger, Share};
 
-/// A counter of steps, which contracts see as a number. It takes no bytes, and only `tick` changes it.
+/// A counter of steps, which contracts see as a number. It takes no bytes, and only `tick` changes
+/// it.
 #[derive(Drop)]
 pub struct Steps<L: Ledger> {
     book: Book<L>,

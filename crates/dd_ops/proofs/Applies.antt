@@ -1,8 +1,8 @@
 -- The operations of two, as connectives.
 use Rattle.std.proofs.Common.{◌≡◌, ℕ, ◌+◌, ◌*◌, ◌≤◌, Bool, Result, refl, sym, subst}
 use Rattle.dd_nodes.specs.declared.node.Ref.{Ref}
-use Rattle.dd_nodes.specs.Diagram.{Function}
-use Rattle.dd_nodes.specs.Functions.{size}
+use Rattle.ste_base.specs.Functions.{Function}
+use Rattle.dd_nodes.specs.Functions.{diagram_size}
 use Rattle.dd_nodes.specs.Stores.{Store, function}
 use Rattle.dd_nodes.proofs.Stores.{IsGood}
 use Rattle.dd_ops.specs.declared.fault.OpFault.{OpFault}
@@ -26,5 +26,5 @@ applies op k s t x a b result is same answer =
     subst (λ (f : Function). Answer f s t result) (named_pair op k s a b same) (subst (λ (y : Operands). Answer (named k s y) s t result) is answer)
 
 pub applies-bound : (s t : Store) (x : Operands) (a b : Ref) (before after : ℕ) → IsGood s → x ≡ pair_of a b → Expanded s t x before after
-    → after ≤ before + (size s a + 2) * (size s b + 2)
+    → after ≤ before + (diagram_size s a + 2) * (diagram_size s b + 2)
 applies-bound s t x a b before after d is work = Expanded-bound s t (pair_of a b) before after d refl (subst (λ (y : Operands). Expanded s t y before after) is work)

@@ -11,7 +11,7 @@ use Rattle.std.proofs.lemmas.List.{length-append, length-map}
 use Rattle.std.proofs.lemmas.List.Elements.{Contains-append_left, Contains-append_right, Contains-append_cases}
 use Rattle.dd_nodes.specs.declared.node.Ref.{Ref}
 use Rattle.dd_nodes.specs.Diagram.{IsDiagram, IsFrom, Grows, child}
-use Rattle.dd_nodes.specs.Functions.{Reaches, size}
+use Rattle.dd_nodes.specs.Functions.{ReachesNode, diagram_size}
 use Rattle.dd_nodes.specs.Stores.{Store, IsRef, Keeps}
 use Rattle.dd_nodes.proofs.Members.{Contains-head, Contains-tail, Contains-none, Contains-map, Contains-cons_cases, apart-cons, apart-append, count_different}
 use Rattle.dd_nodes.proofs.Sizes.{Reaches-self, Reaches-child, Reaches-trans, Reaches-keeps, Reaches-ref, Reaches-constant, Reaches-reached, reached, from_var}
@@ -132,9 +132,9 @@ halves-keep s t b x d d' k f =
 
 -- y is on the walks from x, and behind the variable i
 pub record IsLater (s : Store) (x : Operands) (i : ℕ) (y : Operands) : Type 0 where
-  pub first : Reaches s x.first y.first
-  pub second : Reaches s x.second y.second
-  pub third : Reaches s x.third y.third
+  pub first : ReachesNode s x.first y.first
+  pub second : ReachesNode s x.second y.second
+  pub third : ReachesNode s x.third y.third
   pub from : AreFrom s.held (i + 1) y
 
 from-back_by : (s t : Store) (j : ℕ) (r : Ref) → IsGood t → Grows s.held t.held → Cases s.held 0 r → IsFrom t.held j r → IsFrom s.held j r
@@ -145,13 +145,13 @@ from-back_by s t j r d g (inr (n, at, low)) f = from_held s.held j r n at (from_
 from-back : (s t : Store) (j : ℕ) (r : Ref) → IsGood t → Grows s.held t.held → IsRef s r → IsFrom t.held j r → IsFrom s.held j r
 from-back s t j r d g f later = from-back_by s t j r d g (from_cases s.held 0 r f) later
 
-reaches-half : (s t : Store) (i : ℕ) (b : Bool) (r y z : Ref) → IsGood s → IsGood t → Keeps s t → IsFrom s.held i r → y ≡ child s.held i b r → Reaches t y z → Reaches s r z
+reaches-half : (s t : Store) (i : ℕ) (b : Bool) (r y z : Ref) → IsGood s → IsGood t → Keeps s t → IsFrom s.held i r → y ≡ child s.held i b r → ReachesNode t y z → ReachesNode s r z
 reaches-half s t i b r y z d d' k f is has =
     let ref : IsRef s r = IsFrom-less s.held 0 i r (omega arith) f in
     let c : Ref = child s.held i b r in
     let cref : IsRef s c = IsFrom-less s.held 0 (i + 1) c (omega arith) (child-from s.held s.vars i b r d f) in
     Reaches-trans s r c z d ref cref (Reaches-child s i b r r d ref f (Reaches-self s r))
-    (Reaches-keeps s t c z d d' k cref (subst (λ q. Reaches t q z) is has))
+    (Reaches-keeps s t c z d d' k cref (subst (λ q. ReachesNode t q z) is has))
 
 later-half : (s t : Store) (x y z : Operands) (i : ℕ) (b : Bool) → IsGood s → IsGood t → Keeps s t → IsHalf s x i b y → IsBelow t y z → IsLater s x i z
 later-half s t x y z i b d d' k h below =
@@ -396,16 +396,16 @@ expanded_in s x y d pair below =
     (in_pairs (reached s x.first) (reached s x.second) y.first y.second (Reaches-reached s x.first y.first below.first) (Reaches-reached s x.second y.second below.second))
 
 pub Expanded-bound : (s t : Store) (x : Operands) (before after : ℕ) → IsGood s → IsPair x → Expanded s t x before after
-    → after ≤ before + (size s x.first + 2) * (size s x.second + 2)
+    → after ≤ before + (diagram_size s x.first + 2) * (diagram_size s x.second + 2)
 Expanded-bound s t x before after d pair work =
     let all : List Operands = pairs_of (reached s x.first) (reached s x.second) in
     let few : length work.done ≤ length (unique_keys same_operands all) = count_different same_operands-tells work.done all work.apart (λ y has. expanded_in s x y d pair (work.below y has)) in
     let less : length (unique_keys same_operands all) ≤ length all = distinct_count-le same_operands all in
     let product : length all ≡ length (reached s x.first) * length (reached s x.second) = length-pairs (reached s x.first) (reached s x.second) in
-    let first : length (reached s x.first) ≡ size s x.first + 2 = omega arith in
-    let second : length (reached s x.second) ≡ size s x.second + 2 = omega arith in
-    let whole_product : length all ≡ (size s x.first + 2) * (size s x.second + 2) = product ∙ ap (λ n. n * length (reached s x.second)) first ∙ ap (λ n. (size s x.first + 2) * n) second in
-    let bound : length work.done ≤ (size s x.first + 2) * (size s x.second + 2) = subst (λ n. length work.done ≤ n) whole_product (omega arith) in
+    let first : length (reached s x.first) ≡ diagram_size s x.first + 2 = omega arith in
+    let second : length (reached s x.second) ≡ diagram_size s x.second + 2 = omega arith in
+    let whole_product : length all ≡ (diagram_size s x.first + 2) * (diagram_size s x.second + 2) = product ∙ ap (λ n. n * length (reached s x.second)) first ∙ ap (λ n. (diagram_size s x.first + 2) * n) second in
+    let bound : length work.done ≤ (diagram_size s x.first + 2) * (diagram_size s x.second + 2) = subst (λ n. length work.done ≤ n) whole_product (omega arith) in
     let count = work.count in
     omega arith
 

@@ -11,7 +11,7 @@ use Rattle.dd_nodes.proofs.Walks.{same_numbers}
 use Rattle.dd_nodes.proofs.Members.{Contains-head, Contains-none, Contains-cons_cases}
 use Rattle.dd_ops.specs.declared.operands.Operands.{Operands}
 use Rattle.dd_ops.specs.declared.few.Entry.{Entry}
-use Rattle.dd_ops.specs.declared.results.Results.{Results}
+use Rattle.dd_ops.specs.declared.hashed_memo.HashedMemo.{HashedMemo}
 use Rattle.dd_ops.specs.declared.memo.Memo.{Memo}
 use Rattle.dd_ops.specs.declared.memo.Memo.TheVariants.{InPlace, InTable}
 use Rattle.dd_ops.specs.private.Tables.{AddsEntry, HasEntries, IsOnWalk, entry_at, entry_of, is_used, no_operands, same_operands}
@@ -63,7 +63,7 @@ found_among few table has y q used (k, lt, at) =
     let is : (entry_at few k).operands ≡ y = ap (λ (a : Entry). a.operands) (get_or_default few k _ (entry_of y q) lt ∙ at) in
     subst (λ (x : Operands). IsOnWalk table x) is (has.all k lt lt (ap is_used is ∙ used))
 
-pub adds-moved : (few : List Entry) (x : Operands) (r : Ref) (mid : List Entry) (n : Results) → is_used x ≡ true → HasEntries few mid → AddsEntry mid (entry_of x r) n.entries.items
+pub adds-moved : (few : List Entry) (x : Operands) (r : Ref) (mid : List Entry) (n : HashedMemo) → is_used x ≡ true → HasEntries few mid → AddsEntry mid (entry_of x r) n.entries.items
     → Adds (InPlace few) x r (InTable n)
 adds-moved few x r mid n used has adds = record {
   only = λ y q (used', at). ⊎_elim (λ (old : Contains mid (entry_of y q)). inl (used', has.only y q used' old)) (λ (new : (y ≡ x) × (q ≡ r)). inr new) (adds.only y q used' at);
@@ -71,14 +71,14 @@ adds-moved few x r mid n used has adds = record {
   new = (used, adds.added);
 }
 
-pub adds-put : (x : Operands) (r : Ref) (m n : Results) → is_used x ≡ true → AddsEntry m.entries.items (entry_of x r) n.entries.items → Adds (InTable m) x r (InTable n)
+pub adds-put : (x : Operands) (r : Ref) (m n : HashedMemo) → is_used x ≡ true → AddsEntry m.entries.items (entry_of x r) n.entries.items → Adds (InTable m) x r (InTable n)
 adds-put x r m n used adds = record {
   only = λ y q (used', at). ⊎_elim (λ (old : Contains m.entries.items (entry_of y q)). inl (used', old)) (λ (new : (y ≡ x) × (q ≡ r)). inr new) (adds.only y q used' at);
   old = λ y (used', on). (used', adds.kept y used' on);
   new = (used, adds.added);
 }
 
-pub if_put : (result : Result (Unit {0}) AllocError) (k : Memo) (x : Operands) (r : Ref) (m n : Results) → is_used x ≡ true → k ≡ InTable m → OnOk result (AddsEntry m.entries.items (entry_of x r) n.entries.items)
+pub if_put : (result : Result (Unit {0}) AllocError) (k : Memo) (x : Operands) (r : Ref) (m n : HashedMemo) → is_used x ≡ true → k ≡ InTable m → OnOk result (AddsEntry m.entries.items (entry_of x r) n.entries.items)
     → OnOk result (Adds k x r (InTable n))
 if_put (Ok u) k x r m n used is adds = subst (λ (j : Memo). Adds j x r (InTable n)) (sym is) (adds-put x r m n used adds)
 if_put (Err f) k x r m n used is adds = tt

@@ -5,8 +5,9 @@ use Rattle.std.specs.List.{AllPairs}
 use Rattle.std.proofs.lemmas.List.{length-map}
 use Rattle.dd_nodes.specs.declared.node.Ref.{Ref}
 use Rattle.dd_nodes.specs.declared.node.Node.{Node}
-use Rattle.dd_nodes.specs.Diagram.{Function, child}
-use Rattle.dd_nodes.specs.Functions.{Reaches}
+use Rattle.ste_base.specs.Functions.{Function}
+use Rattle.dd_nodes.specs.Diagram.{child}
+use Rattle.dd_nodes.specs.Functions.{ReachesNode}
 use Rattle.dd_nodes.specs.Stores.{Store, IsRef, Means}
 use Rattle.dd_nodes.proofs.Members.{Contains-head, Contains-tail, Contains-map, Contains-map_of, apart-cons}
 use Rattle.dd_nodes.proofs.Sizes.{Reaches-constant, Reaches-ref}
@@ -132,7 +133,7 @@ applies-expansion op k s t x a b before after result d ref is same told =
       reached = λ p has.
           let (y, inside, e) = Contains-map_of pair_in work.done p has in
           let under = work.below y inside in
-          subst (λ q. Reaches s a q.0 × Reaches s b q.1) e (under.first, under.second);
+          subst (λ q. ReachesNode s a q.0 × ReachesNode s b q.1) e (under.first, under.second);
       made = let made = work.made in omega (arith, long);
       whole = whole_of op k s a b work.done result d ref same work.below u.whole;
     }

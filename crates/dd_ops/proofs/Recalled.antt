@@ -2,7 +2,7 @@
 use Rattle.std.proofs.Common.{◌≡◌, Bool, Result, Ok, sym, subst}
 use Rattle.dd_nodes.specs.declared.node.Ref.{Ref}
 use Rattle.dd_nodes.specs.declared.operator.Operator.{Operator}
-use Rattle.dd_nodes.specs.Diagram.{Function}
+use Rattle.ste_base.specs.Functions.{Function}
 use Rattle.dd_nodes.specs.Operators.{IsJoined, joined, operator_bit}
 use Rattle.dd_nodes.specs.Stores.{Store, Means, function}
 use Rattle.dd_nodes.proofs.Stores.{IsGood}

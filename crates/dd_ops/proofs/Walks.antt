@@ -1,4 +1,4 @@
--- Walks through a table, and what stands on them.
+-- Walks through a table, and what lies on them.
 use Rattle.std.proofs.Common.{◌≡◌, ◌≢◌, ℕ, suc, ◌+◌, ◌-◌, ◌*◌, ◌/◌, ◌%◌, ◌<◌, ◌≤◌, Bool, true, false, List, [], ◌∷◌, length, get_or, set, cond, inl, inr, sym, ap, ◌∙◌, subst, arith, mod-lt, lt_of_not-le}
 use Rattle.std.specs.List.{sum_by}
 use Rattle.std.proofs.Math.Nat.{mod-add-mod, mod-eq_of_lt, add-mod_right, mul-lt-mul_of_pos_right}

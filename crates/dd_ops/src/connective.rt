@@ -10,7 +10,8 @@ use crate::operands::{Halves, Operands};
 use crate::settled::{settled_and, settled_choice, settled_or, settled_xor};
 use dd_nodes::{Nodes, Operator, Ref};
 
-/// How the functions of operands make one. The recursion takes a connective as a type, so that each has a body of its own.
+/// How the functions of operands make one. The recursion takes a connective as a type, so that each
+/// has a body of its own.
 pub trait Connective {
     ghost rule: { BitRule };
 
@@ -21,7 +22,7 @@ pub trait Connective {
         ensures { (a b c : Bool) → rule a b c ≡ operator_bit result a b c };
 
     /// The result where the operands settle it without a look at their nodes.
-    fn settled(x: Operands) -> Option<Ref>
+    fn settled_result(x: Operands) -> Option<Ref>
         requires { takes x }
         ensures some { IfSome result (λ r. IsSettled rule x r) }
         ensures none { IfNone result (IsOpen x) };
@@ -58,7 +59,7 @@ impl Connective for And {
         Operator::And
     }
 
-    fn settled(x: Operands) -> Option<Ref> {
+    fn settled_result(x: Operands) -> Option<Ref> {
         settled_and(x)
     }
 
@@ -76,7 +77,7 @@ impl Connective for Or {
         Operator::Or
     }
 
-    fn settled(x: Operands) -> Option<Ref> {
+    fn settled_result(x: Operands) -> Option<Ref> {
         settled_or(x)
     }
 
@@ -94,7 +95,7 @@ impl Connective for Xor {
         Operator::Xor
     }
 
-    fn settled(x: Operands) -> Option<Ref> {
+    fn settled_result(x: Operands) -> Option<Ref> {
         settled_xor(x)
     }
 
@@ -112,7 +113,7 @@ impl Connective for Choice {
         Operator::Choice
     }
 
-    fn settled(x: Operands) -> Option<Ref> {
+    fn settled_result(x: Operands) -> Option<Ref> {
         settled_choice(x)
     }
 

@@ -5,17 +5,17 @@ ghost use Rattle.dd_ops.specs.private.Met.{HasMet, IsBlank, IsMet, Adds};
 ghost use Rattle.dd_ops.specs.private.Tables.{entry_of, is_used};
 
 use crate::few::{Entry, Few};
+use crate::hashed_memo::HashedMemo;
 use crate::operands::Operands;
-use crate::results::Results;
 use dd_nodes::Ref;
 use std::alloc::{AllocError, Global};
 
-/// The results that one call has met: the first few in place, and where there are more, all in a table. So a call that
-/// meets few takes no memory.
+/// The results that one call has met: the first few in place, and where there are more, all in a
+/// table. So a call that meets few takes no memory.
 #[derive(Drop)]
 pub enum Memo {
     InPlace(Few),
-    InTable(Results),
+    InTable(HashedMemo),
 }
 
 impl Memo {
@@ -33,7 +33,7 @@ impl Memo {
     {
         match self {
             Memo::InPlace(few) => find_among(few.as_slice(), x),
-            Memo::InTable(results) => results.find(x),
+            Memo::InTable(hashed_memo) => hashed_memo.find(x),
         }
     }
 
@@ -53,11 +53,12 @@ impl Memo {
                 }
                 self.spill(alloc, entry)
             }
-            Memo::InTable(results) => results.put(alloc, entry),
+            Memo::InTable(hashed_memo) => hashed_memo.put(alloc, entry),
         }
     }
 
-    /// Puts all into a table, and the entry with them. It stands apart, since it moves a whole memo.
+    /// Puts all into a table, and the entry with them. It stands apart, since it moves a whole
+    /// memo.
     #[cold]
     #[inline(never)]
     fn spill(&mut self, alloc: Global, entry: Entry) -> Result<(), AllocError>
@@ -66,12 +67,12 @@ impl Memo {
     {
         match self {
             Memo::InPlace(few) => {
-                let mut results = Results::of(alloc, few.as_slice())?;
-                results.put(alloc, entry)?;
-                *self = Memo::InTable(results);
+                let mut hashed_memo = HashedMemo::of(alloc, few.as_slice())?;
+                hashed_memo.put(alloc, entry)?;
+                *self = Memo::InTable(hashed_memo);
                 Ok(())
             }
-            Memo::InTable(results) => results.put(alloc, entry),
+            Memo::InTable(hashed_memo) => hashed_memo.put(alloc, entry),
         }
     }
 }

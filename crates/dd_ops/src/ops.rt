@@ -1,7 +1,7 @@
 //! The operations; begin with `Ops`.
 
 ghost use Rattle.std.specs.Prelude.{◌≡◌, ◌<◌, ◌≤◌, ◌+◌, ◌*◌, ◌↔◌, ◌&&◌, ◌||◌, not, Bool, true, false, List, length, IsTrue, if◌then◌else◌, slice_index_or};
-ghost use Rattle.dd_nodes.specs.Functions.{size};
+ghost use Rattle.dd_nodes.specs.Functions.{diagram_size};
 ghost use Rattle.dd_nodes.specs.Stores.{IsRef, HaveOneFunction, function};
 ghost use Rattle.dd_ops.specs.Answer.{Answer, xor_bit, op_bit};
 ghost use Rattle.dd_ops.specs.Expansion.{IsExpansion};
@@ -27,10 +27,11 @@ pub enum Op {
     Xor,
 }
 
-/// The operations. They take references that are constant or held. Each node that a call makes has a cofactor of the
-/// call's result as its function, and what was held stays held with the same node, after an error too. `StepsOut` comes
-/// only where the store may make no more nodes and the result wants one that is not held. A call keeps what it
-/// has met in memory of this allocator until its end; its result alone is left with the store, which may remember it
+/// The operations. They take references that are constant or held. Each node that a call makes has
+/// a cofactor of the call's result as its function, and what was held stays held with the same
+/// node, after an error too. `StepsOut` comes only where the store may make no more nodes and the
+/// result wants one that is not held. A call keeps what it has met in memory of this allocator
+/// until its end; its result alone is left with the store, which may remember it
 /// (`Nodes::remember`).
 #[derive(Drop)]
 pub struct Ops {
@@ -69,7 +70,7 @@ impl Ops {
             (λ bits. function (N.store nodes.old) a bits && function (N.store nodes.old) b bits)
             (N.store nodes.old) (N.store nodes.new) result }
     {
-        uncounted::<N, Brand>(self, nodes, Op::And, a, b, Blank::new(1))
+        apply_uncounted::<N, Brand>(self, nodes, Op::And, a, b, Blank::new(1))
     }
 
     /// 1 where at least one of them is 1.
@@ -80,7 +81,7 @@ impl Ops {
             (λ bits. function (N.store nodes.old) a bits || function (N.store nodes.old) b bits)
             (N.store nodes.old) (N.store nodes.new) result }
     {
-        uncounted::<N, Brand>(self, nodes, Op::Or, a, b, Blank::new(1))
+        apply_uncounted::<N, Brand>(self, nodes, Op::Or, a, b, Blank::new(1))
     }
 
     /// 1 where they differ.
@@ -92,7 +93,7 @@ impl Ops {
             (function (N.store nodes.old) b bits))
             (N.store nodes.old) (N.store nodes.new) result }
     {
-        uncounted::<N, Brand>(self, nodes, Op::Xor, a, b, Blank::new(1))
+        apply_uncounted::<N, Brand>(self, nodes, Op::Xor, a, b, Blank::new(1))
     }
 
     /// `a` where `c` is 1, and `b` where it is 0.
@@ -111,13 +112,15 @@ impl Ops {
             second: a,
             third: b,
         };
-        chosen::<N, Brand>(self.alloc, nodes, x, Blank::new(1))
+        choice::<N, Brand>(self.alloc, nodes, x, Blank::new(1))
     }
 
-    /// The operation `op`, with a counter of its steps. A step is one pair of references that is expanded, at the first
-    /// variable that one of both reads (Bryant 1986); no pair is expanded twice, so that diagrams of m and n nodes take at
-    /// most (m + 2) * (n + 2) steps. With a result these are the pair and all halves behind it, down to terminal cases; or
-    /// there are none, where the pair is a terminal case or the store remembers its result. A step makes at most one node.
+    /// The operation `op`, with a counter of its steps. A step is one pair of references that is
+    /// expanded, at the first variable that one of both reads (Bryant 1986); no pair is expanded
+    /// twice, so that diagrams of m and n nodes take at most (m + 2) * (n + 2) steps. With a result
+    /// these are the pair and all halves behind it, down to terminal cases; or there are none,
+    /// where the pair is a terminal case or the store remembers its result. A step makes at most
+    /// one node.
     pub fn apply<N: Nodes, L: Ledger>(
         &self,
         nodes: &mut N,
@@ -135,7 +138,8 @@ impl Ops {
         ensures expansion { IsExpansion op (N.store nodes.old) (N.store nodes.new) a b
             steps.old steps.new result }
         ensures bound { steps.new
-            ≤ steps.old + (size (N.store nodes.old) a + 2) * (size (N.store nodes.old) b + 2) }
+            ≤ steps.old + (diagram_size (N.store nodes.old) a + 2)
+            * (diagram_size (N.store nodes.old) b + 2) }
         ensures counted { length (N.store nodes.new).made + steps.old
             ≤ length (N.store nodes.old).made + steps.new }
     {
@@ -176,7 +180,7 @@ impl Ops {
 }
 
 /// `apply` with a counter that is thrown away.
-fn uncounted<N: Nodes, L: Ledger>(
+fn apply_uncounted<N: Nodes, L: Ledger>(
     ops: &Ops,
     nodes: &mut N,
     op: Op,
@@ -198,7 +202,7 @@ fn uncounted<N: Nodes, L: Ledger>(
 }
 
 /// A choice, with a counter that is thrown away.
-fn chosen<N: Nodes, L: Ledger>(
+fn choice<N: Nodes, L: Ledger>(
     alloc: Global,
     nodes: &mut N,
     x: Operands,

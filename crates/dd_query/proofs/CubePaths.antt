@@ -10,7 +10,7 @@ use Rattle.dd_nodes.specs.Diagram.{Held, IsDiagram, IsFrom, child, walk, value}
 use Rattle.dd_nodes.specs.Stores.{Store, function}
 use Rattle.dd_nodes.proofs.Walks.{canonical, child-above, child-high, child-low, from_constant, from_held, IsFrom-less, same_walks, walk-constant}
 use Rattle.ste_model.specs.declared.cubes.CubeList.{CubeList}
-use Rattle.ste_model.specs.Cubes.{AreOneSet, cofactor, cubes_from, cubes_of, first_cubes, is_in_cube, with_literal}
+use Rattle.ste_model.specs.Cubes.{AreOneSet, first_cofactor, cubes_from, cubes_of, first_cubes, is_in_cube, with_literal}
 use Rattle.dd_query.proofs.Walking.{append_nil}
 use Rattle.ste_model.proofs.CubeLists.{cubes_are_exact, from_differ, from_empty, from_full, from_same}
 
@@ -26,7 +26,7 @@ skip h v (suc n) m i j zero r d e g f = absurd (omega arith)
 skip h v (suc n) m i j (suc k) r d e g f =
     let above : IsFrom h (i + 1) r = IsFrom-less h (i + 1) j r (omega arith) f in
     let still : (b : Bool) → child h i b r ≡ r = λ b. child-above h v i b r d above in
-    let same : AreOneSet k (cofactor false (walk h i r)) (cofactor true (walk h i r)) =
+    let same : AreOneSet k (first_cofactor false (walk h i r)) (first_cofactor true (walk h i r)) =
     λ rest l. ap (λ (x : Ref). walk h (i + 1) x rest) (still false ∙ sym (still true)) in
     from_same i k (walk h i r) same
     ∙ ap (λ (x : Ref). cubes_from (suc i) k (walk h (i + 1) x)) (still false)
@@ -40,7 +40,7 @@ of_node h v r n d at =
     let low : j < v = d.below r n at in
     let m : ℕ = v - (j + 1) in
     let next : j + 1 ≡ suc j = omega arith in
-    let apart : ¬ AreOneSet m (cofactor false (walk h j r)) (cofactor true (walk h j r)) =
+    let apart : ¬ AreOneSet m (first_cofactor false (walk h j r)) (first_cofactor true (walk h j r)) =
     λ same. d.differ r n at (same_walks h v m (j + 1) n.lo n.hi d (omega arith) (d.low r n at) (d.high r n at)
     (λ bits l. ap (λ (x : Ref). walk h (j + 1) x bits) (sym (child-low h j r n at refl)) ∙ same bits l ∙ ap (λ (x : Ref). walk h (j + 1) x bits) (child-high h j r n at refl))) in
     let behind : (c : Ref) → IsFrom h (j + 1) c → cubes_from (suc j) m (walk h (j + 1) c) ≡ cubes_of v (value h c) =
@@ -49,7 +49,7 @@ of_node h v r n d at =
     let ones = ap (λ (x : Ref). cubes_from (suc j) m (walk h (j + 1) x)) (child-high h j r n at refl) ∙ behind n.hi (d.high r n at) in
     skip h v j (suc m) 0 j v r d (omega arith) (omega arith) (from_held h j r n at (omega arith))
     ∙ from_differ j m (walk h j r) apart
-    ∙ ap (λ cubes. with_literal j false cubes ++ with_literal j true (cubes_from (suc j) m (cofactor true (walk h j r)))) zeros
+    ∙ ap (λ cubes. with_literal j false cubes ++ with_literal j true (cubes_from (suc j) m (first_cofactor true (walk h j r)))) zeros
     ∙ ap (λ cubes. with_literal j false (cubes_of v (value h n.lo)) ++ with_literal j true cubes) ones
 
 pub of_false : (h : Held) (v : ℕ) (r : Ref) → IsDiagram h v → r.0 ≡ 0 → cubes_of v (value h r) ≡ []
@@ -110,7 +110,7 @@ is_full max before xs list is more full some =
     (whole ∙ sym (take_whole max before low) ∙ sym (take-append-le max before xs (omega arith)))
     (sym (lt-ltb max (length (before ++ xs)) (omega arith)))
 
--- one cube more
+-- one more cube
 pub has_one : (max : ℕ) (before : List (List (VarId × Bool))) (cube : List (VarId × Bool)) (list : CubeList) → list ≡ first_cubes max before → list.more ≡ false → length list.cubes ≢ max → ◌≡◌ {A = CubeList} (record { cubes = list.cubes ++ cube ∷ []; more = list.more }) (first_cubes max (before ++ cube ∷ []))
 has_one max before cube list is more ne =
     let low : length before ≤ max = ltb-false max (length before) (sym (ap (λ (l : CubeList). l.more) is) ∙ more) in
@@ -157,7 +157,7 @@ both_behind before path low high var cubes zeros ones e f g =
 pub full_behind : (max : ℕ) (before : List (List (VarId × Bool))) (path : List (VarId × Bool)) (cubes : List (List (VarId × Bool))) (list : CubeList) → list ≡ first_cubes max before → list.more ≡ false → length list.cubes ≡ max → 0 < length cubes → ◌≡◌ {A = CubeList} (record { cubes = list.cubes; more = true }) (first_cubes max (before ++ behind path cubes))
 full_behind max before path cubes list is more full some = is_full max before (behind path cubes) list is more full (subst (λ (n : ℕ). 0 < n) (sym (length-map cubes (λ cube. path ++ cube))) some)
 
--- the path itself is one cube more
+-- the path itself is one more cube
 pub one_behind : (max : ℕ) (before : List (List (VarId × Bool))) (path cube : List (VarId × Bool)) (cubes pushed : List (List (VarId × Bool))) (list : CubeList) → list ≡ first_cubes max before → list.more ≡ false → length list.cubes ≢ max → pushed ≡ list.cubes ++ cube ∷ [] → cube ≡ path → cubes ≡ [] ∷ [] → ◌≡◌ {A = CubeList} (record { cubes = pushed; more = list.more }) (first_cubes max (before ++ behind path cubes))
 one_behind max before path cube cubes pushed list is more ne push copy one =
     same_list pushed (list.cubes ++ path ∷ []) list.more list.more (push ∙ ap (λ c. list.cubes ++ c ∷ []) copy) refl
@@ -171,7 +171,7 @@ of_node_in s u w r n d e f at =
     ∙ ap (λ (x : Store). with_literal n.var false (cubes_of x.vars (function x n.lo)) ++ with_literal n.var true (cubes_of s.vars (function s n.hi))) (sym e)
     ∙ ap (λ (x : Store). with_literal n.var false (cubes_of u.vars (function u n.lo)) ++ with_literal n.var true (cubes_of x.vars (function x n.hi))) (sym f)
 
--- the cubes of both children, behind the path and one literal more
+-- the cubes of both children, behind the path and one more literal
 pub both_turns : (max : ℕ) (path low middle high : List (VarId × Bool)) (var : ℕ) (cubes zeros ones : List (List (VarId × Bool))) (old first second : CubeList) → cubes ≡ with_literal var false zeros ++ with_literal var true ones
     → low ≡ path ++ (record { 0 = var }, false) ∷ [] → middle ≡ path → high ≡ middle ++ (record { 0 = var }, true) ∷ []
     → ((before : List (List (VarId × Bool))) → old ≡ first_cubes max before → first ≡ first_cubes max (before ++ behind low zeros))

@@ -5,8 +5,8 @@ ghost use Rattle.dd_nodes.specs.Stores.{IsRef, function};
 
 use dd_nodes::{Nodes, Ref};
 
-/// The value of a reference under an assignment, which has a bit for each variable of the store. It takes no memory, and
-/// looks at a node for each variable at most.
+/// The value of a reference under an assignment, which has a bit for each variable of the store. It
+/// takes no memory, and looks at a node for each variable at most.
 pub fn eval<N: Nodes>(nodes: &mut N, r: Ref, bits: &[bool]) -> bool
     requires held { IsRef (N.store nodes.old) r }
     requires long { length bits.now ≡ (N.store nodes.old).vars }

@@ -67,8 +67,9 @@ fn least_of<N: Nodes>(alloc: Global, nodes: &mut N, r: Ref) -> Result<Items<bool
     Ok(bits)
 }
 
-/// The least assignment at which the function of a reference is 1, a bit for each variable of the store, 0 before 1; None
-/// exactly where the function is 0 everywhere. It looks at a node for each variable at most.
+/// The least assignment at which the function of a reference is 1, a bit for each variable of the
+/// store, 0 before 1; None exactly where the function is 0 everywhere. It looks at a node for each
+/// variable at most.
 pub fn least<N: Nodes>(
     alloc: Global,
     nodes: &mut N,

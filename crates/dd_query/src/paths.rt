@@ -18,8 +18,8 @@ fn cube_of(alloc: Global, path: &[(VarId, bool)]) -> Result<Cube, AllocError>
     Ok(literals.into())
 }
 
-/// Adds the cubes of a diagram, each behind the path, to a list of at most `max` cubes. Where the list is full, one more
-/// cube is told without a look at what it is.
+/// Adds the cubes of a diagram, each behind the path, to a list of at most `max` cubes. Where the
+/// list is full, that there are more cubes is known without a look at the next one.
 fn add_cubes<N: Nodes>(
     alloc: Global,
     nodes: &mut N,
@@ -61,9 +61,11 @@ fn add_cubes<N: Nodes>(
     Ok(())
 }
 
-/// The first `max` cubes of the assignments at which the function of a reference is 1, and whether there are more.
+/// The first `max` cubes of the assignments at which the function of a reference is 1, and whether
+/// there are more.
 ///
-/// It looks at a node for each literal of these cubes at most, and besides the list it takes a place for each variable.
+/// It looks at a node for each literal of these cubes at most, and besides the list it takes a
+/// place for each variable.
 pub fn cubes<N: Nodes>(
     alloc: Global,
     nodes: &mut N,

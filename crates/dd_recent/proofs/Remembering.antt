@@ -11,7 +11,7 @@ use Rattle.dd_nodes.specs.Stores.{IsRef, Store, function}
 use Rattle.dd_nodes.proofs.Stores.{IsGood}
 use Rattle.dd_nodes.proofs.Walks.{walk-grows}
 use Rattle.dd_recent.specs.declared.recent.Joined.{Joined}
-use Rattle.dd_recent.specs.declared.recent.Recent.{Recent}
+use Rattle.dd_recent.specs.declared.recent.RecentMemo.{RecentMemo}
 use Rattle.dd_recent.specs.Recent.{AreRight, IsRight, Takes, entries_of, joined_as, nothing, zero_ref}
 
 -- a reference that holds a node holds one of variable 0 or more
@@ -94,7 +94,7 @@ IsRight-keeps s t e d d' grows vars right =
     stays r (Some n) is some' = λ empty. none-some n (sym empty ∙ grows r n is)
 
 -- and so do all
-pub AreRight-keeps : (s t : Store) (recent : Recent) → IsGood s → IsGood t → Grows s.held t.held → t.vars ≡ s.vars → AreRight s recent → AreRight t recent
+pub AreRight-keeps : (s t : Store) (recent : RecentMemo) → IsGood s → IsGood t → Grows s.held t.held → t.vars ≡ s.vars → AreRight s recent → AreRight t recent
 AreRight-keeps s t recent d d' grows vars right = record { each = λ e has. IsRight-keeps s t e d d' grows vars (right.each e has) }
 
 -- an entry is right in each store of the same nodes and variables
@@ -112,11 +112,11 @@ IsRight-same s t e held vars right =
     }
 
 -- and so are all
-pub AreRight-same : (s t : Store) (recent : Recent) → t.held ≡ s.held → t.vars ≡ s.vars → AreRight s recent → AreRight t recent
+pub AreRight-same : (s t : Store) (recent : RecentMemo) → t.held ≡ s.held → t.vars ≡ s.vars → AreRight s recent → AreRight t recent
 AreRight-same s t recent held vars right = record { each = λ e has. IsRight-same s t e held vars (right.each e has) }
 
 -- a right result may be put in
-pub AreRight-adds : (s : Store) (old new : Recent) (o : Operator) (a b c r : Ref) → Takes (entries_of old) (joined_as o a b c r) (entries_of new)
+pub AreRight-adds : (s : Store) (old new : RecentMemo) (o : Operator) (a b c r : Ref) → Takes (entries_of old) (joined_as o a b c r) (entries_of new)
     → IsJoined s o a b c r → AreRight s old → AreRight s new
 AreRight-adds s old new o a b c r takes is right = record { each = λ e has. by e (takes e has) }
   where
@@ -126,15 +126,15 @@ AreRight-adds s old new o a b c r takes is right = record { each = λ e has. by 
     by e (inr (inr none')) = subst (IsRight s) (sym none') (IsRight-nothing s)
 
 -- the entries alone tell
-pub AreRight-entries : (s : Store) (old new : Recent) → entries_of new ≡ entries_of old → AreRight s old → AreRight s new
+pub AreRight-entries : (s : Store) (old new : RecentMemo) → entries_of new ≡ entries_of old → AreRight s old → AreRight s new
 AreRight-entries s old new same right = record { each = λ e has. right.each e (subst (λ (xs : List Joined). Contains xs e) same has) }
 
 -- where there is no entry, all are right
-pub AreRight-none : (s : Store) (recent : Recent) → entries_of recent ≡ [] → AreRight s recent
+pub AreRight-none : (s : Store) (recent : RecentMemo) → entries_of recent ≡ [] → AreRight s recent
 AreRight-none s recent none' = record { each = λ e has. let (i, lt, at) = subst (λ (xs : List Joined). Contains xs e) none' has in absurd (omega arith) }
 
 -- what is found is what the operator makes
-pub IfSome-joined : (s : Store) (recent : Recent) (o : Operator) (a b c : Ref) (result : Option Ref) → AreRight s recent
+pub IfSome-joined : (s : Store) (recent : RecentMemo) (o : Operator) (a b c : Ref) (result : Option Ref) → AreRight s recent
     → IfSome result (λ r. Contains (entries_of recent) (joined_as o a b c r)) → IfSome result (λ r. IsJoined s o a b c r)
 IfSome-joined s recent o a b c None right has = has
 IfSome-joined s recent o a b c (Some r) right has = IsJoined-of s o a b c r (right.each (joined_as o a b c r) has)

@@ -1,7 +1,7 @@
-//! What a store of nodes remembers of operations: results that were put in, some of which are found again. Begin with
-//! `Recent`.
+//! What a store of nodes remembers of operations: results that were put in, some of which are found
+//! again. Begin with `RecentMemo`.
 #![tactic(auto)]
 
 pub mod recent;
 
-pub use recent::{Joined, Recent};
+pub use recent::{Joined, RecentMemo};

@@ -1,4 +1,4 @@
-//! Results of operations that are remembered; begin with `Recent`.
+//! Results of operations that are remembered; begin with `RecentMemo`.
 
 ghost use Rattle.std.specs.Prelude.{◌≡◌, ◌<◌, ◌⊎◌, [], Contains, IfSome, IsTrue, length};
 ghost use Rattle.dd_recent.specs.Recent.{Takes, entries_of, joined_as, nothing};
@@ -25,11 +25,11 @@ const NOTHING: Joined = Joined {
     result: Ref::FALSE,
 };
 
-/// Some of the results that were put here. Each has one place, which the operator and the references give, and takes it
-/// from what stood there. Where many were put the places become more, and all is forgotten. It takes no memory before the
-/// first one.
+/// Some of the results that were put here. Each has one place, which the operator and the
+/// references give, and takes it from what stood there. Where many were put the places become more,
+/// and all is forgotten. It takes no memory before the first one.
 #[derive(Drop)]
-pub struct Recent {
+pub struct RecentMemo {
     entries: Option<Vec<Joined>>,
     count: usize,
 }
@@ -40,7 +40,8 @@ const LEAST: usize = 1024;
 /// The most places. So many take 320 kB, which a processor keeps near.
 const MOST: usize = 16384;
 
-/// A place of so many, which looks like chance, by the operator and the references (multiplicative hashing).
+/// The place of a result, of so many, by a hash of the operator and the references (multiplicative
+/// hashing).
 fn place(operator: Operator, first: Ref, second: Ref, third: Ref, size: usize) -> usize
     requires { 0 < size }
     ensures { result < size }
@@ -109,30 +110,30 @@ fn put_in(table: &mut Vec<Joined>, joined: Joined)
     table[at] = joined;
 }
 
-impl Recent {
+impl RecentMemo {
     /// No results.
-    pub fn none() -> Recent
+    pub fn none() -> RecentMemo
         ensures { entries_of result ≡ [] }
     {
-        Recent {
+        RecentMemo {
             entries: None,
             count: 0,
         }
     }
 
     /// All results, which are taken away from here.
-    pub fn take(&mut self) -> Recent
+    pub fn take(&mut self) -> RecentMemo
         ensures all { entries_of result ≡ entries_of self.old }
         ensures none { entries_of self.new ≡ [] }
     {
-        Recent {
+        RecentMemo {
             entries: self.entries.take(),
             count: self.count,
         }
     }
 
     /// The results of another, where it may be and there is no place for any so far.
-    pub fn take_over(&mut self, other: Recent, may: bool)
+    pub fn take_over(&mut self, other: RecentMemo, may: bool)
         ensures { (entries_of self.new ≡ entries_of self.old)
             ⊎ (IsTrue may × (entries_of self.new ≡ entries_of other)) }
     {

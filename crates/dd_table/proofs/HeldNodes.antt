@@ -13,7 +13,8 @@ use mathlib.Core.Logic.{dite}
 use native.Mathlib.Decide.{ℕ_discrete}
 use Rattle.dd_nodes.specs.declared.node.Ref.{Ref}
 use Rattle.dd_nodes.specs.declared.node.Node.{Node}
-use Rattle.dd_nodes.specs.Diagram.{Function, IsDiagram}
+use Rattle.ste_base.specs.Functions.{Function}
+use Rattle.dd_nodes.specs.Diagram.{IsDiagram}
 use Rattle.dd_nodes.specs.Functions.{IsCofactorOf, bits_of, cofactor, cofactors, is_constant, node_count, nodes, prefixes, same_bits}
 use Rattle.dd_nodes.specs.Stores.{function}
 use Rattle.dd_nodes.proofs.Counts.{bits-same, same_bits-tells}

@@ -10,8 +10,8 @@ use Rattle.dd_table.specs.Layout.{node_in_word, home_slot, walk_slot}
 pub word_once : (a b : ℕ) → node_in_word a ≡ node_in_word b → a ≡ b
 unfolding node_in_word
 word_once a b e =
-    let d : ℕ = 2 ^ 27 in
-    let two : (x : ℕ) → x / d / d ≡ x / 2 ^ 54 = λ x. div-div-eq-div-mul x d d in
+    let d : ℕ = 2 ^ 26 in
+    let two : (x : ℕ) → x / d / d ≡ x / 2 ^ 52 = λ x. div-div-eq-div-mul x d d in
     let top : a / d / d ≡ b / d / d = two a ∙ ap (λ (n : Node). n.var) e ∙ sym (two b) in
     let mid : a / d % d ≡ b / d % d = ap (λ (n : Node). n.lo.0) e in
     let low : a % d ≡ b % d = ap (λ (n : Node). n.hi.0) e in
@@ -25,20 +25,20 @@ same_node : (a b c x y z : ℕ) → a ≡ x → b ≡ y → c ≡ z → node a b
 same_node a b c x y z p q r i = node (p i) (q i) (r i)
 
 -- the node in the word that is made of three numbers
-pub node_in_made_word : (v l h : ℕ) → l < 134217728 → h < 134217728 → node_in_word (v * 18014398509481984 + l * 134217728 + h) ≡ node v l h
+pub node_in_made_word : (v l h : ℕ) → l < 67108864 → h < 67108864 → node_in_word (v * 4503599627370496 + l * 67108864 + h) ≡ node v l h
 unfolding node_in_word
 node_in_made_word v l h small_l small_h =
-    let x : ℕ = v * 18014398509481984 + l * 134217728 + h in
-    let parts : x ≡ v * 18014398509481984 + (l * 134217728 + h) = omega arith in
-    let top : x / 18014398509481984 ≡ v =
-    ap (λ (y : ℕ). y / 18014398509481984) parts ∙ div-mul-add v 18014398509481984 (l * 134217728 + h) (omega arith) in
-    let split : x ≡ (v * 134217728 + l) * 134217728 + h = omega arith in
-    let upper : x / 134217728 ≡ v * 134217728 + l =
-    ap (λ (y : ℕ). y / 134217728) split ∙ div-mul-add (v * 134217728 + l) 134217728 h small_h in
-    same_node (x / 18014398509481984) (x / 134217728 % 134217728) (x % 134217728) v l h
+    let x : ℕ = v * 4503599627370496 + l * 67108864 + h in
+    let parts : x ≡ v * 4503599627370496 + (l * 67108864 + h) = omega arith in
+    let top : x / 4503599627370496 ≡ v =
+    ap (λ (y : ℕ). y / 4503599627370496) parts ∙ div-mul-add v 4503599627370496 (l * 67108864 + h) (omega arith) in
+    let split : x ≡ (v * 67108864 + l) * 67108864 + h = omega arith in
+    let upper : x / 67108864 ≡ v * 67108864 + l =
+    ap (λ (y : ℕ). y / 67108864) split ∙ div-mul-add (v * 67108864 + l) 67108864 h small_h in
+    same_node (x / 4503599627370496) (x / 67108864 % 67108864) (x % 67108864) v l h
     top
-    (ap (λ (y : ℕ). y % 134217728) upper ∙ mod-mul-add v 134217728 l small_l)
-    (ap (λ (y : ℕ). y % 134217728) split ∙ mod-mul-add (v * 134217728 + l) 134217728 h small_h)
+    (ap (λ (y : ℕ). y % 67108864) upper ∙ mod-mul-add v 67108864 l small_l)
+    (ap (λ (y : ℕ). y % 67108864) split ∙ mod-mul-add (v * 67108864 + l) 67108864 h small_h)
 
 pub home_lt : (slots w : ℕ) → 0 < slots → home_slot slots w < slots
 unfolding home_slot

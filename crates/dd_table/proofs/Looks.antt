@@ -1,4 +1,4 @@
--- A load keeps the rules, and tells what it should: in a search where no step is left, and of a slot that is held.
+-- A load keeps the rules, and shows what it should: in a search where no step is left, and of a slot that is held.
 use Rattle.std.proofs.Common.{◌≡◌, ◌≢◌, ℕ, ◌+◌, ◌<◌, set, Some, refl, sym, ap, ◌∙◌, subst, arith}
 use Rattle.std.proofs.lemmas.List.{set-get_or}
 use Rattle.std.specs.Prelude.{slice_index}

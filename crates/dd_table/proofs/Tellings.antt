@@ -1,4 +1,4 @@
--- What the rules tell of one view: that it is sound, that it has room, and what a search that ends has shown.
+-- What the rules say of one view: that it is sound, that it has room, and what a search that ends has shown.
 use Rattle.std.proofs.Common.{◌≡◌, ◌≢◌, ℕ, zero, suc, ◌+◌, ◌-◌, ◌/◌, ◌<◌, ◌≤◌, List, [], ◌∷◌, length, set, Some, sym, refl, ap, ◌∙◌, subst, arith, lt_of_not-le}
 use Rattle.std.specs.Prelude.{slice_index, sum_by}
 use mathlib.Core.Option.{some, some-ne-none}

@@ -1,4 +1,4 @@
--- A compare-exchange in a search keeps the rules, and tells what it should.
+-- A compare-exchange in a search keeps the rules, and shows what it should.
 use Rattle.std.proofs.Common.{◌≡◌, ◌≢◌, ℕ, ◌+◌, ◌<◌, ◌==◌, length, set, Some, refl, sym, ap, ◌∙◌, subst, arith, eqb, eq-eqb, ne_eqb}
 use Rattle.std.proofs.lemmas.List.{set-get_or}
 use Rattle.std.specs.Prelude.{slice_index}

@@ -3,7 +3,8 @@ use Rattle.std.specs.Prelude.{◌≡◌, ◌≢◌, ◌≤◌, [], length, Some}
 use Rattle.std.specs.FinMap.{get}
 use Rattle.dd_nodes.specs.declared.node.Node.{Node}
 use Rattle.dd_table.specs.declared.session.Session.TheInside.{Inside}
-use Rattle.dd_table.specs.Layout.{most_vars, most_slots}
+use Rattle.ste_base.specs.Limits.{most_variables}
+use Rattle.dd_table.specs.Layout.{most_slots}
 use Rattle.dd_table.specs.Sessions.{SessionValue}
 use Rattle.dd_table.specs.Tells.{IsSound, HoldsNothing}
 
@@ -28,7 +29,7 @@ pub record IsSession (s : Inside) : Type 0 where
   pub words : s.seat.table_id.words ≡ s.slots
   pub two : 2 ≤ s.slots
   pub most : s.slots ≤ most_slots
-  pub few : s.vars ≤ most_vars
+  pub few : s.vars ≤ most_variables
   pub sound : IsSound s.seat.me.0
   -- one reference that is held, or 0 where none is
   pub none : s.some ≡ 0 → HoldsNothing s.seat.me.0

@@ -1,6 +1,6 @@
--- Meaning: the rules of the table, which hold between any two steps of any threads. They speak of the list of words and
--- of the views of all seats: the node-word rule, the walk rule, the view rule and the quota rule. That words are only
--- added is a law of its own.
+-- Meaning: the rules of the table, which hold between any two steps of any threads. They speak of
+-- the list of words and of the views of all seats: the node-word rule, the walk rule, the view rule
+-- and the quota rule. That words are only added is a law of its own.
 use Rattle.std.specs.Prelude.{◌≡◌, ◌≢◌, ℕ, zero, suc, ◌+◌, ◌-◌, ◌/◌, ◌<◌, ◌≤◌, ◌==◌, List, length, slice_index, Some, ◌⊎◌, sum_by, count_by}
 use mathlib.Core.Option.{some}
 use lib.ListN.{get_elem?}

@@ -1,4 +1,5 @@
--- Meaning and laws: steps of any seats as data, what a list of them makes of a table, and what holds after each list.
+-- Meaning and laws: steps of any seats as data, what a list of them makes of a table, and what
+-- holds after each list.
 use Rattle.std.specs.Prelude.{◌≡◌, ◌≢◌, ℕ, ◌+◌, ◌<◌, ◌≤◌, ◌==◌, if◌then◌else◌, List, [], ◌∷◌, ◌++◌, length, slice_index, slice_set, replicate, Some, ◌⊎◌}
 use mathlib.Core.Option.{some}
 use lib.ListN.{get_elem?}
@@ -12,8 +13,9 @@ use Rattle.dd_table.specs.Rules.{KeepsRules}
 use Rattle.dd_table.specs.Sessions.{SessionValue, Shows, gives_quota, gets_quota, session_union}
 use Rattle.dd_table.specs.Tells.{MayMake, HasWalked, TryTells, LookTells, ReadTells}
 
--- one step of one seat, which comes first: it writes a word to the n-th slot of its walk, finds it there, passes a slot
--- with some word, reads without learning, splits off a seat with a quota, or joins another seat
+-- one step of one seat, which comes first: it writes a word to the n-th slot of its walk, finds it
+-- there, passes a slot with some word, reads without learning, splits off a seat with a quota, or
+-- joins another seat
 pub data Move : Type 0 where
   writes : ℕ → ℕ → ℕ → Move
   finds : ℕ → ℕ → ℕ → Move
@@ -37,8 +39,12 @@ Seeks v w n = MayMake v w × HasWalked v w n
 -- the move may be made in the state s, and makes t of it
 abbrev pub MoveMakes : Move → TableState → TableState → Type 0
 MoveMakes (writes id w n) s t =
-    (v : View) × Sees s id v × Seeks v w n × (length v.made < v.limit) × (slice_index s.0 (walk_slot v.slots w n) ≡ 0)
-    × (t ≡ (slice_set s.0 (walk_slot v.slots w n) w, slice_set s.1 id (made_view v (walk_slot v.slots w n) w)))
+    (v : View) × Sees s id v × Seeks v w n × (length v.made < v.limit) ×
+    (slice_index s.0 (walk_slot v.slots w n) ≡ 0)
+    × (t ≡ (
+      slice_set s.0 (walk_slot v.slots w n) w,
+      slice_set s.1 id (made_view v (walk_slot v.slots w n) w),
+    ))
 MoveMakes (finds id w n) s t =
     (v : View) × Sees s id v × Seeks v w n × (slice_index s.0 (walk_slot v.slots w n) ≡ w)
     × (t ≡ (s.0, slice_set s.1 id (found_view v (walk_slot v.slots w n) w)))
@@ -85,7 +91,8 @@ NodesStandOnce =
 -- at most one word changes, and that from 0
 abbrev pub AddsOneWord : List ℕ → List ℕ → Type 0
 AddsOneWord ws xs =
-    (xs ≡ ws) ⊎ ((i : ℕ) × (slice_index ws i ≡ 0) × ((j : ℕ) → j ≢ i → slice_index xs j ≡ slice_index ws j))
+    (xs ≡ ws) ⊎ ((i : ℕ) × (slice_index ws i ≡ 0) ×
+    ((j : ℕ) → j ≢ i → slice_index xs j ≡ slice_index ws j))
 
 -- law, the append-only rule: a step changes at most one word, and that from 0
 abbrev pub MovesAddWords : Type 0
@@ -102,7 +109,8 @@ SeatsAgree =
     (k : Sizes) (t : TableState) → 2 ≤ k.slots → IsReached k t
     → (i j : ℕ) (v u : View) → Sees t i v → Sees t j u → Agree v u
 
--- the words after a compare-exchange at a slot from 0 to w, and the views after it, where that of its seat is v
+-- the words after a compare-exchange at a slot from 0 to w, and the views after it, where that of
+-- its seat is v
 abbrev pub exchanged_state : TableState → ℕ → ℕ → ℕ → View → TableState
 exchanged_state s id slot w v =
     let x = slice_index s.0 slot in
@@ -120,13 +128,15 @@ split_state s id q v = (s.0, slice_set s.1 id (giving_view q v) ++ given_view q 
 abbrev pub joined_state : TableState → ℕ → ℕ → View → View → TableState
 joined_state s id other v u = (s.0, slice_set (slice_set s.1 id (joined_view v u)) other spent_view)
 
--- law: an operation of the code, under its conditions, is one of the moves, whatever it is told
+-- law: an operation of the code, under its conditions, is one of the moves, whatever it reads
 pub record OperationsAreMoves : Type 0 where
-  pub try : (s : TableState) (id w n : ℕ) (v u : View) → Sees s id v → Seeks v w n → length v.made < v.limit
+  pub try : (s : TableState) (id w n : ℕ) (v u : View) → Sees s id v → Seeks v w n →
+      length v.made < v.limit
       → TryTells (walk_slot v.slots w n) w (v, []) (slice_index s.0 (walk_slot v.slots w n)) (u, [])
       → IsMove s (exchanged_state s id (walk_slot v.slots w n) w u)
   pub look : (s : TableState) (id w n : ℕ) (v u : View) → Sees s id v → Seeks v w n
-      → LookTells (walk_slot v.slots w n) w (v, []) (slice_index s.0 (walk_slot v.slots w n)) (u, [])
+      → LookTells (walk_slot v.slots w n) w (v, []) (slice_index s.0 (walk_slot v.slots w n))
+      (u, [])
       → IsMove s (loaded_state s id u)
   pub read : (s : TableState) (id slot : ℕ) (v u : View) → Sees s id v
       → ReadTells slot (v, []) (slice_index s.0 slot) (u, [])
@@ -137,6 +147,7 @@ pub record OperationsAreMoves : Type 0 where
       → IsMove s (split_state s id q v)
       × Shows (giving_view q v) (gives_quota q k) × Shows (given_view q v) (gets_quota q k)
   -- a merge: the view of the seat that is left shows the union of the sessions
-  pub merge : (s : TableState) (id other : ℕ) (v u : View) (k j : SessionValue) → Sees s id v → Sees s other u
+  pub merge : (s : TableState) (id other : ℕ) (v u : View) (k j : SessionValue) → Sees s id v →
+      Sees s other u
       → ¬ (other ≡ id) → Shows v k → Shows u j
       → IsMove s (joined_state s id other v u) × Shows (joined_view v u) (session_union k j)

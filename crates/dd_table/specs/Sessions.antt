@@ -9,7 +9,7 @@ use Rattle.std.specs.FinMap.{FinMap, get}
 use Rattle.atomic_table.specs.Seated.{TableId, table_id_coded}
 use Rattle.dd_nodes.specs.declared.node.Ref.{Ref}
 use Rattle.dd_nodes.specs.declared.node.Node.{Node}
-use Rattle.dd_nodes.specs.Diagram.{Function}
+use Rattle.ste_base.specs.Functions.{Function}
 use Rattle.dd_nodes.specs.Functions.{IsCofactorOf}
 use Rattle.dd_nodes.specs.Stores.{Means, Store}
 use Rattle.dd_nodes.specs.Plain.{var_or}
@@ -19,8 +19,8 @@ use Rattle.dd_table.specs.Views.{union}
 use Rattle.dd_table.specs.Rules.{count_of, taken_slots, IsHeldChild, KeepsRules}
 use Rattle.dd_table.specs.declared.views.View.{View}
 
--- a session: its table, the numbers of variables and slots, the nodes that it holds by the numbers of their references,
--- the references that it made, and how many it may make
+-- a session: its table, the numbers of variables and slots, the nodes that it holds by the numbers
+-- of their references, the references that it made, and how many it may make
 pub record SessionValue : Type 0 where
   pub table : TableId
   pub vars : ℕ
@@ -33,9 +33,18 @@ pub record SessionValue : Type 0 where
 abbrev pub session_code : Coded SessionValue
 session_code =
     code_by (TableId × (ℕ × (ℕ × (FinMap nat_cmp Node × (List Ref × ℕ)))))
-    (coded× table_id_coded (coded× coded_ℕ (coded× coded_ℕ (coded× (map.code coded_ℕ node_code) (coded× (coded_list ref_code) coded_ℕ)))))
+    (coded× table_id_coded (coded× coded_ℕ
+    (coded× coded_ℕ (coded× (map.code coded_ℕ node_code)
+    (coded× (coded_list ref_code) coded_ℕ)))))
     (λ k. (k.table, (k.vars, (k.slots, (k.held, (k.made, k.limit))))))
-    (λ p. record { table = p.0; vars = p.1.0; slots = p.1.1.0; held = p.1.1.1.0; made = p.1.1.1.1.0; limit = p.1.1.1.1.1 })
+    (λ p. record {
+      table = p.0;
+      vars = p.1.0;
+      slots = p.1.1.0;
+      held = p.1.1.1.0;
+      made = p.1.1.1.1.0;
+      limit = p.1.1.1.1.1;
+    })
     (λ _. refl)
 
 -- the name of a table, as a list of numbers
@@ -66,7 +75,8 @@ gets_quota q k = record k { made = []; limit = q }
 
 -- two sessions of one table in one
 abbrev pub session_union : SessionValue → SessionValue → SessionValue
-session_union k j = record k { held = union k.held j.held; made = k.made ++ j.made; limit = k.limit + j.limit }
+session_union k j =
+    record k { held = union k.held j.held; made = k.made ++ j.made; limit = k.limit + j.limit }
 
 -- the view shows the session: its numbers, what it holds and made, and how many it may make
 pub record Shows (v : View) (k : SessionValue) : Type 0 where
@@ -76,7 +86,8 @@ pub record Shows (v : View) (k : SessionValue) : Type 0 where
   pub made : v.made ≡ k.made
   pub limit : v.limit ≡ k.limit
 
--- so many slots are taken, of some words that keep the rules with some views, one of which shows the session
+-- so many slots are taken, of some words that keep the rules with some views, one of which shows
+-- the session
 pub record CountsTaken (k : SessionValue) (count : ℕ) : Type 0 where
   pub words : List ℕ
   pub views : List View
@@ -87,7 +98,8 @@ pub record CountsTaken (k : SessionValue) (count : ℕ) : Type 0 where
   pub shown : Shows view k
   pub is : count ≡ taken_slots words
 
--- the node may be made: its children differ, and each is a constant, or held with a greater variable
+-- the node may be made: its children differ, and each is a constant, or held with a greater
+-- variable
 pub record IsMakeable (k : SessionValue) (n : Node) : Type 0 where
   pub var : n.var < k.vars
   pub apart : n.lo.0 ≢ n.hi.0
@@ -118,7 +130,8 @@ pub record MkGives (k k' : SessionValue) (n : Node) (r : ℕ) : Type 0 where
   -- where the node was held nothing was made
   pub again : (q : ℕ) → get k.held q ≡ Some n → k'.made ≡ k.made
 
--- r is the reference of the slot that comes after n others on the walk of the node's word, and n + 1 steps were counted
+-- r is the reference of the slot that comes after n others on the walk of the node's word, and n +
+-- 1 steps were counted
 abbrev pub CountsWalk : ℕ → Node → ℕ → ℕ → ℕ → Type 0
 CountsWalk slots node r before after =
     (w : ℕ) × (node_in_word w ≡ node)
@@ -134,8 +147,10 @@ pub record IsGoodSession (k : SessionValue) : Type 0 where
   pub near : (r : ℕ) (n : Node) → get k.held r ≡ Some n → 2 ≤ r
   pub below : (r : ℕ) (n : Node) → get k.held r ≡ Some n → n.var < k.vars
   pub differ : (r : ℕ) (n : Node) → get k.held r ≡ Some n → n.lo.0 ≢ n.hi.0
-  pub low : (r : ℕ) (n : Node) → get k.held r ≡ Some n → 2 ≤ n.lo.0 → n.var < var_or 0 (get k.held n.lo.0)
-  pub high : (r : ℕ) (n : Node) → get k.held r ≡ Some n → 2 ≤ n.hi.0 → n.var < var_or 0 (get k.held n.hi.0)
+  pub low : (r : ℕ) (n : Node) → get k.held r ≡ Some n → 2 ≤ n.lo.0 →
+      n.var < var_or 0 (get k.held n.lo.0)
+  pub high : (r : ℕ) (n : Node) → get k.held r ≡ Some n → 2 ≤ n.hi.0 →
+      n.var < var_or 0 (get k.held n.hi.0)
   pub once : (r q : ℕ) (n : Node) → get k.held r ≡ Some n → get k.held q ≡ Some n → r ≡ q
   pub within : length k.made ≤ k.limit
   pub distinct : (r : ℕ) → count_of r k.made ≤ 1

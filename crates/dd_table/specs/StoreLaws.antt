@@ -15,7 +15,8 @@ use Rattle.dd_table.specs.Sessions.{SessionValue, IsGoodSession, store_of}
 same_numbers : (r s : Ref) → r.0 ≡ s.0 → r ≡ s
 same_numbers r s e = ap ref e
 
-from_by : (h : Held) (i : ℕ) (r : Ref) (o : Option Node) → h r ≡ o → (2 ≤ r.0 → i < var_or 0 o) → IsFrom h (i + 1) r
+from_by : (h : Held) (i : ℕ) (r : Ref) (o : Option Node) → h r ≡ o → (2 ≤ r.0 → i < var_or 0 o) →
+    IsFrom h (i + 1) r
 from_by h i r None e lt two = let no = lt two in absurd (omega arith)
 from_by h i r (Some n) e lt two = rw e (let more = lt two in let le : i + 1 ≤ n.var = omega arith in le)
 
@@ -38,11 +39,13 @@ diagram_of k g = record {
 }
 
 -- one reference more at the front
-count_more : (r : ℕ) (x : Ref) (xs : List Ref) → count_of r (x ∷ xs) ≡ cond {A = ℕ} (x.0 == r) 1 0 + count_of r xs
+count_more : (r : ℕ) (x : Ref) (xs : List Ref) →
+    count_of r (x ∷ xs) ≡ cond {A = ℕ} (x.0 == r) 1 0 + count_of r xs
 count_more r x xs = sum_by-cons (λ (q : Ref). cond {A = ℕ} (q.0 == r) 1 0) x xs
 
 count_same : (x : Ref) (xs : List Ref) → count_of x.0 (x ∷ xs) ≡ 1 + count_of x.0 xs
-count_same x xs = count_more x.0 x xs ∙ ap (λ b. cond {A = ℕ} b 1 0 + count_of x.0 xs) (eq-eqb x.0 x.0 refl)
+count_same x xs =
+    count_more x.0 x xs ∙ ap (λ b. cond {A = ℕ} b 1 0 + count_of x.0 xs) (eq-eqb x.0 x.0 refl)
 
 -- what stands in a list is counted
 pub counted : (xs : List Ref) (i : ℕ) (d : Ref) → i < length xs → 0 < count_of (get_or xs i d).0 xs
@@ -50,7 +53,8 @@ counted [] i d lt = absurd (omega arith)
 counted (x ∷ xs) zero d lt = let e = count_same x xs in omega arith
 counted (x ∷ xs) (suc i) d lt = let h = counted xs i d (omega arith) in let e = count_more (get_or xs i d).0 x xs in omega arith
 
-twice : (xs : List Ref) (i j : ℕ) (d : Ref) → i < j → j < length xs → get_or xs i d ≡ get_or xs j d → 2 ≤ count_of (get_or xs i d).0 xs
+twice : (xs : List Ref) (i j : ℕ) (d : Ref) → i < j → j < length xs →
+    get_or xs i d ≡ get_or xs j d → 2 ≤ count_of (get_or xs i d).0 xs
 twice [] i j d lt in' e = absurd (omega arith)
 twice (x ∷ xs) i zero d lt in' e = absurd (omega arith)
 twice (x ∷ xs) zero (suc j) d lt in' e =

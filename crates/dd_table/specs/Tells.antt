@@ -1,5 +1,6 @@
--- What each step on the table asks for, which is meaning (`MayMake`, `HasWalked`), and what it tells of the seat's view,
--- which is for private functions and for the law that each operation of the code is one of the moves.
+-- What each step on the table asks for, which is meaning (`MayMake`, `HasWalked`), and what it
+-- shows of the seat's view, which is for private functions and for the law that each operation of
+-- the code is one of the moves.
 use Rattle.std.specs.Prelude.{◌≡◌, ◌≢◌, ℕ, ◌+◌, ◌-◌, ◌/◌, ◌<◌, ◌≤◌, [], ◌∷◌, ◌++◌, length, Option, Some, None, Bool, true, false}
 use Rattle.std.specs.FinMap.{get, insert}
 use Rattle.atomic_table.specs.Table.{Me}
@@ -24,7 +25,8 @@ HoldsNothing v = (r : ℕ) (n : Node) → get v.held r ≢ Some n
 
 -- x is held by one of the two views
 abbrev pub IsHeldByOne : View → View → ℕ → Type 0
-IsHeldByOne v u x = (2 ≤ x) × (x < v.slots + 2) × ((n : Node) × (get (union v.held u.held) x ≡ Some n))
+IsHeldByOne v u x =
+    (2 ≤ x) × (x < v.slots + 2) × ((n : Node) × (get (union v.held u.held) x ≡ Some n))
 
 -- no held node is lost
 abbrev pub HoldsMore : View → View → Type 0
@@ -44,7 +46,7 @@ pub record IsSound (v : View) : Type 0 where
   pub used : length v.made ≤ v.limit
   pub last : (r : ℕ) (n : Node) → get v.last r ≡ Some n → get v.held r ≡ Some n
 
--- what is told of a view after each step of a search
+-- what is known of a view after each step of a search
 abbrev pub IsSoundWithRoom : View → Type 0
 IsSoundWithRoom v = HasRoom v × IsSound v
 
@@ -86,7 +88,8 @@ LookTells slot w m n m' =
 -- a load at a slot, outside of a search, which found the word n
 abbrev pub ReadTells : ℕ → Me Unit View → ℕ → Me Unit View → Type 0
 ReadTells slot m n m' =
-    (m' ≡ m) × IsSound m.0 × (m.0.limit ≤ m.0.slots / 2) × ((w : ℕ) → get m.0.met slot ≡ Some w → n ≡ w)
+    (m' ≡ m) × IsSound m.0 × (m.0.limit ≤ m.0.slots / 2) ×
+    ((w : ℕ) → get m.0.met slot ≡ Some w → n ≡ w)
 
 -- only `met` may differ
 pub record DiffersInMet (v u : View) : Type 0 where

@@ -21,7 +21,8 @@ first_view k = record {
 
 -- the view of a seat that another took in
 abbrev pub spent_view : View
-spent_view = record { met = empty; held = empty; last = empty; made = []; limit = 0; vars = 0; slots = 0 }
+spent_view =
+    record { met = empty; held = empty; last = empty; made = []; limit = 0; vars = 0; slots = 0 }
 
 -- the word w was found at the slot s
 abbrev pub met_view : View → ℕ → ℕ → View
@@ -29,7 +30,8 @@ met_view v s w = record v { met = insert v.met s w }
 
 -- the word w was sought, and found at the slot s
 abbrev pub found_view : View → ℕ → ℕ → View
-found_view v s w = record v { met = insert v.met s w; held = insert v.held (s + 2) (node_in_word w) }
+found_view v s w =
+    record v { met = insert v.met s w; held = insert v.held (s + 2) (node_in_word w) }
 
 -- the word w was written to the slot s
 abbrev pub made_view : View → ℕ → ℕ → View

@@ -15,8 +15,9 @@ use dd_nodes::{Node, Ref, Steps};
 use std::marker::Brand;
 use std::sync::ledger::{Blank, Ledger};
 
-/// The reference of a node whose children differ, or none where it is not held and no step is left. Each operation on the
-/// table is a counted step: one a slot, a compare-exchange or a load, where `once` says so.
+/// The reference of a node whose children differ, or none where it is not held and no step is left.
+/// Each operation on the table is a counted step: one a slot, a compare-exchange or a load, where
+/// `once` says so.
 fn make<L: Ledger>(
     table: &SharedTable,
     session: &mut Session,

@@ -1,6 +1,6 @@
-//! An append-only table of diagram nodes that any number of threads share without a lock. Begin with `SharedTable::open`,
-//! which makes one, with its first session; `TableNodes::on` puts a session on its table, and is a store of nodes that can be
-//! split.
+//! An append-only table of diagram nodes that any number of threads share without a lock. Begin
+//! with `SharedTable::open`, which makes one, with its first session; `TableNodes::on` puts a
+//! session on its table, and is a store of nodes that can be split.
 #![tactic(auto)]
 
 mod calls;

@@ -9,16 +9,17 @@ use crate::calls::{make_node, make_uncounted, read_node, split_off, take_in};
 use crate::session::Session;
 use crate::table::SharedTable;
 use dd_nodes::{MkFault, Node, Nodes, Operator, Ref, Split, Steps};
-use dd_recent::{Joined, Recent};
+use dd_recent::{Joined, RecentMemo};
 use std::alloc::Global;
 use std::sync::ledger::Ledger;
 
-/// A session on its table, and results of operations that it remembers. Contracts see it as the session.
+/// A session on its table, and results of operations that it remembers. Contracts see it as the
+/// session.
 #[derive(Drop)]
 pub struct TableNodes<'a> {
     table: &'a SharedTable,
     session: Session,
-    recent: Recent,
+    recent: RecentMemo,
     ghost same: { session.table ≡ table.now },
     ghost good: { IsGoodSession session } by { Prim.hlevel props },
     ghost right: { AreRight (store_of session) recent } by { Prim.hlevel props },
@@ -39,7 +40,7 @@ impl<'a> TableNodes<'a> {
         TableNodes {
             table,
             session,
-            recent: Recent::none(),
+            recent: RecentMemo::none(),
         }
     }
 
@@ -55,9 +56,9 @@ impl<'a> TableNodes<'a> {
         session
     }
 
-    /// As `mk`, and counts its steps: each is one compare-exchange or one load of a word of the table. Where the
-    /// children are one there is none. Else there is one for each slot on the walk of the node's word up to the one
-    /// where the search ends, so at most one a slot of the table.
+    /// As `mk`, and counts its steps: each is one compare-exchange or one load of a word of the
+    /// table. Where the children are one there is none. Else there is one for each slot on the walk
+    /// of the node's word up to the one where the search ends, so at most one a slot of the table.
     pub fn mk_counted<L: Ledger>(
         &mut self,
         var: u32,
@@ -108,8 +109,8 @@ impl<'a> Nodes for TableNodes<'a> {
 
     ghost store = { λ n. store_of n.session };
 
-    /// It never answers want of memory, whatever other sessions do at the same time. It looks at each slot of the table
-    /// at most once, and tries none again.
+    /// It never answers `OutOfMemory`, whatever other sessions do at the same time. It looks at
+    /// each slot of the table at most once, and tries none again.
     fn mk(&mut self, var: u32, lo: Ref, hi: Ref) -> Result<Ref, MkFault>
         requires var { var < self.old.session.vars }
         requires lo { IsFrom (store_of self.old.session).held (var + 1) lo }
@@ -217,12 +218,12 @@ impl<'a> Split for TableNodes<'a> {
         TableNodes {
             table: self.table,
             session,
-            recent: Recent::none(),
+            recent: RecentMemo::none(),
         }
     }
 
-    /// It is two loads at most. What the two sessions held before agrees: no node has two references, and no reference
-    /// has two nodes.
+    /// It is two loads at most. What the two sessions held before agrees: no node has two
+    /// references, and no reference has two nodes.
     fn merge(&mut self, other: Self)
         requires { table_name other.session.table ≡ table_name self.old.session.table }
         ensures unites { Unites (store_of self.old.session) (store_of other.entry.session)

@@ -1,4 +1,5 @@
-//! The rules of the table as `atomic_table` asks for them, and the kinds of step. Begin with `NodeTable`.
+//! The rules of the table as `atomic_table` asks for them, and the kinds of step. Begin with
+//! `NodeTable`.
 
 ghost use Rattle.std.specs.Prelude.{ℕ};
 
@@ -6,7 +7,7 @@ use crate::views::View;
 use atomic_table::{Join, Play, Split, TableRule};
 use std::marker::{Brand, PhantomData};
 
-/// What the table is told when it is made: the numbers of variables and of slots.
+/// What the table is given when it is made: the numbers of variables and of slots.
 #[derive(Drop)]
 pub struct Sizes {
     /// The number of variables.

@@ -16,9 +16,10 @@ fn next(at: u32, slots: u32) -> u32
     if at + 1 == slots { 0 } else { at + 1 }
 }
 
-/// Walks from the home of the word on, until it finds the word or an empty slot. Where a step is left it writes the word to
-/// the empty slot, and gives the slot and whether it wrote. Each operation on the table is a counted step: where `once` says
-/// so there is one a slot, a compare-exchange or a load; else there are both at an empty slot.
+/// Walks from the home of the word on, until it finds the word or an empty slot. Where a step is
+/// left it writes the word to the empty slot, and gives the slot and whether it wrote. Each
+/// operation on the table is a counted step: where `once` says so there is one a slot, a
+/// compare-exchange or a load; else there are both at an empty slot.
 pub(crate) fn search<L: Ledger>(
     words: &TableWords,
     seat: &mut TableSeat,

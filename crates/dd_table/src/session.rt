@@ -6,8 +6,9 @@ ghost use Rattle.dd_table.specs.Sessions.{IsGoodSession};
 use crate::steps::TableSeat;
 use std::marker::Model;
 
-/// What one thread has of a table: the nodes that it may use, and how many it may make. It may be moved to another
-/// thread. Contracts see its table, its numbers of variables and slots, what it holds, what it made, and its limit.
+/// What one thread has of a table: the nodes that it may use, and how many it may make. It may be
+/// moved to another thread. Contracts see its table, its numbers of variables and slots, what it
+/// holds, what it made, and its limit.
 #[derive(Drop)]
 pub struct Session {
     pub(crate) seat: TableSeat,

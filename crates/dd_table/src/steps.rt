@@ -1,4 +1,5 @@
-//! The single steps on the table, each one compare-exchange or one load of one word, and two of them in a row. Begin with `try_word`.
+//! The single steps on the table, each one compare-exchange or one load of one word, and two of
+//! them in a row. Begin with `try_word`.
 
 ghost use Rattle.std.specs.Prelude.{◌≡◌, ◌≢◌, ℕ, ◌<◌, ◌≤◌, ◌+◌, ◌/◌, [], length, true};
 ghost use Rattle.std.specs.FinMap.{get};
@@ -21,7 +22,8 @@ pub(crate) type TableWords = Shared<(), View, Sizes, NodeTable>;
 /// A seat of a table.
 pub(crate) type TableSeat = Seat<(), View>;
 
-/// A compare-exchange from 0 to the word, at the next slot on its walk, as one counted step. It gives the word that was there.
+/// A compare-exchange from 0 to the word, at the next slot on its walk, as one counted step. It
+/// gives the word that was there.
 fn try_word<L: Ledger>(
     words: &TableWords,
     seat: &mut TableSeat,
@@ -86,9 +88,9 @@ pub(crate) fn look<L: Ledger>(
     look_for::<Brand, L>(words, seat, word, slot, steps)
 }
 
-/// A load at the next slot on the walk of the word, and only where the slot is empty a compare-exchange from 0 to the word. It
-/// gives the word that was there. A word that stands in the table already is found without a compare-exchange, which takes
-/// several times as long as a load.
+/// A load at the next slot on the walk of the word, and only where the slot is empty a
+/// compare-exchange from 0 to the word. It gives the word that was there. A word that stands in the
+/// table already is found without a compare-exchange, which takes several times as long as a load.
 fn look_and_try<L: Ledger>(
     words: &TableWords,
     seat: &mut TableSeat,
@@ -112,8 +114,8 @@ fn look_and_try<L: Ledger>(
     try_word(words, seat, word, slot, steps)
 }
 
-/// Writes the word to the next slot on its walk, where this is empty, by a compare-exchange alone where `once` says so, and
-/// else behind a load. It gives the word that was there.
+/// Writes the word to the next slot on its walk, where this is empty, by a compare-exchange alone
+/// where `once` says so, and else behind a load. It gives the word that was there.
 pub(crate) fn try_at<L: Ledger>(
     words: &TableWords,
     seat: &mut TableSeat,
@@ -139,7 +141,7 @@ pub(crate) fn try_at<L: Ledger>(
     }
 }
 
-/// A load of any slot, which tells what the rules say of the seat's view.
+/// A load of any slot, which shows what the rules say of the seat's view.
 fn read_any(words: &TableWords, seat: &mut TableSeat, slot: usize) -> u64
     requires table { seat.old.table_id ≡ words.now.table_id }
     requires slot { slot < words.now.table_id.words }
@@ -192,7 +194,7 @@ pub(crate) fn split(words: &TableWords, seat: &mut TableSeat, quota: u32) -> Tab
     split_by::<Brand>(words, seat, quota)
 }
 
-/// Takes in another seat. What the other held is told by a later load alone.
+/// Takes in another seat. What the other held is known from a later load alone.
 fn join(words: &TableWords, seat: &mut TableSeat, other: TableSeat)
     requires table { seat.old.table_id ≡ words.now.table_id }
     requires other { other.table_id ≡ words.now.table_id }
@@ -205,8 +207,9 @@ fn join(words: &TableWords, seat: &mut TableSeat, other: TableSeat)
     words.join_seat::<TakesIn>(seat, other);
 }
 
-/// Takes in another seat, and loads the slot of a node that one of them holds: `some` is its reference, or 0 where both
-/// hold nothing. The load tells that the union holds no node twice, and that the other's entries stand.
+/// Takes in another seat, and loads the slot of a node that one of them holds: `some` is its
+/// reference, or 0 where both hold nothing. The load shows that the union holds no node twice, and
+/// that the other's entries stand.
 pub(crate) fn unite(words: &TableWords, seat: &mut TableSeat, other: TableSeat, some: u32)
     requires table { seat.old.table_id ≡ words.now.table_id }
     requires other { other.table_id ≡ words.now.table_id }
@@ -226,8 +229,8 @@ pub(crate) fn unite(words: &TableWords, seat: &mut TableSeat, other: TableSeat, 
     }
 }
 
-/// Adds two limits, which together are that of the seat. Where they were too many for the type, a load would show that
-/// they are not; so no load is ever made here.
+/// Adds two limits, which together are that of the seat. Where they were too many for the type, a
+/// load would show that they are not; so no load is ever made here.
 pub(crate) fn add_limits(words: &TableWords, seat: &mut TableSeat, one: u32, two: u32) -> u32
     requires table { seat.old.table_id ≡ words.now.table_id }
     requires size { words.now.table_id.words ≡ seat.old.me.0.slots }

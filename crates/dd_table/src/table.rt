@@ -3,9 +3,10 @@
 ghost use Rattle.std.specs.Prelude.{◌≡◌, ℕ, ◌<◌, ◌≤◌, ◌/◌, List, [], length, IfOk};
 ghost use Rattle.std.specs.Mem.Slots.{slots_len, slots_items, IsFull};
 ghost use Rattle.std.specs.FinMap as map;
-ghost use Rattle.dd_nodes.specs.Diagram.{Function};
+ghost use Rattle.ste_base.specs.Functions.{Function};
 ghost use Rattle.dd_nodes.specs.Functions.{node_count};
-ghost use Rattle.dd_table.specs.Layout.{most_vars, most_slots};
+ghost use Rattle.ste_base.specs.Limits.{most_variables};
+ghost use Rattle.dd_table.specs.Layout.{most_slots};
 ghost use Rattle.dd_table.specs.Rules.{taken_slots};
 ghost use Rattle.dd_table.specs.Sessions.{AreHeld, CountsTaken, store_of};
 
@@ -17,7 +18,8 @@ use atomic_table::{Closed, Table};
 use std::alloc::{AllocError, Global};
 use std::marker::Model;
 
-/// A table of nodes, one word each, to which any number of threads add without a lock. Contracts see its name.
+/// A table of nodes, one word each, to which any number of threads add without a lock. Contracts
+/// see its name.
 #[derive(Drop)]
 pub struct SharedTable {
     table: Table<(), View, Sizes, NodeTable, Global>,
@@ -38,11 +40,12 @@ impl Model for SharedTable {
 }
 
 impl SharedTable {
-    /// A table of `slots` words, all empty, over `vars` variables (at most 1,000), and its first session, which holds
-    /// nothing, made nothing, and may make half as many nodes as there are slots (2 to 32,000,000), rounded down. A table takes 8 bytes a slot, and
-    /// twice as many while it is opened.
+    /// A table of `slots` words, all empty, over `vars` variables (at most 1,000), and its first
+    /// session, which holds nothing, made nothing, and may make half as many nodes as there are
+    /// slots (2 to 32,000,000), rounded down. A table takes 8 bytes a slot, and twice as many while
+    /// it is opened.
     pub fn open(alloc: Global, vars: u32, slots: u32) -> Result<(SharedTable, Session), AllocError>
-        requires vars { vars ≤ most_vars }
+        requires vars { vars ≤ most_variables }
         requires slots { (2 ≤ slots) × (slots ≤ most_slots) }
         ensures table { IfOk result (λ r. r.1.table ≡ r.0) }
         ensures sizes { IfOk result (λ r. (r.1.vars ≡ vars) × (r.1.slots ≡ slots)) }
@@ -73,13 +76,15 @@ impl SharedTable {
         &self.table.shared
     }
 
-    /// Ends the table, and gives the number of its taken slots. That is the number of nodes that were made in all, at
-    /// least those that this session made or holds, and at least the nodes of any functions whose nodes all have references in
-    /// it. A session that has all steps made them all.
+    /// Ends the table, and gives the number of its taken slots. That is the number of nodes that
+    /// were made in all, at least those that this session made or holds, and at least the nodes of
+    /// any functions whose nodes all have references in it. A session that has all steps made them
+    /// all.
     pub fn close(self, session: Session) -> u32
         requires { session.table ≡ self }
 
-        // The number of taken slots of words that keep the rules, with views of which one shows this session.
+        // The number of taken slots of words that keep the rules, with views of which one shows
+        // this session.
         ensures taken { CountsTaken session result }
 
         // So it has these bounds.

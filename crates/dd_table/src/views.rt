@@ -1,4 +1,5 @@
-//! What a seat of the table knows: begin with `View`. No value of these types is ever made; the rules speak of them.
+//! What a seat of the table knows: begin with `View`. No value of these types is ever made; the
+//! rules speak of them.
 
 use dd_nodes::{Node, Ref};
 use std::collections::LinkedList;

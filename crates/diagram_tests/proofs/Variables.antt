@@ -6,8 +6,9 @@ use Rattle.std.specs.Set.{unique_keys}
 use Rattle.std.proofs.lemmas.Bool.{ltb-true, cases_lt}
 use Rattle.std.proofs.lemmas.Map.Made.{distinct_count-le}
 use Rattle.dd_nodes.specs.declared.node.Ref.{Ref}
-use Rattle.dd_nodes.specs.Diagram.{Function, IsFrom, child, same_ref}
-use Rattle.dd_nodes.specs.Functions.{Reaches, node_refs, on_walks, size}
+use Rattle.ste_base.specs.Functions.{Function}
+use Rattle.dd_nodes.specs.Diagram.{IsFrom, child, same_ref}
+use Rattle.dd_nodes.specs.Functions.{ReachesNode, node_refs, on_walks, diagram_size}
 use Rattle.dd_nodes.specs.Stores.{Store, Means}
 use Rattle.dd_nodes.proofs.Counts.{same_ref-tells}
 use Rattle.dd_nodes.proofs.Members.{Contains-head, Contains-filter_of, Contains-unique_of, count_different, unique-apart}
@@ -55,13 +56,13 @@ one_member : (r x : Ref) → (x ≡ r) ⊎ (x.0 < 2) → 1 < x.0 → Contains (r
 one_member r x (inl same) lt = subst (λ y. Contains (r ∷ []) y) (sym same) (Contains-head r [])
 one_member r x (inr c) lt = absurd (omega arith)
 
-pub size-variable : (s : Store) (v : ℕ) (r : Ref) → IsGood s → v < s.vars → Means s (λ bits. get_or bits v false) r → size s r ≤ 1
+pub size-variable : (s : Store) (v : ℕ) (r : Ref) → IsGood s → v < s.vars → Means s (λ bits. get_or bits v false) r → diagram_size s r ≤ 1
 size-variable s v r d lt m =
     let f : Function = λ bits. get_or bits v false in
     let c : HasChildren s v zero_ref one_ref r = Splits-children s v zero_ref one_ref r f d (variable_splits s v d lt) m in
-    let all : (x : Ref) → Reaches s r x → (x ≡ r) ⊎ (x.0 < 2) =
+    let all : (x : Ref) → ReachesNode s r x → (x ≡ r) ⊎ (x.0 < 2) =
     walks_all s.held s.vars s.vars 0 r (λ x. (x ≡ r) ⊎ (x.0 < 2)) d (omega arith) m.ref (inl refl) (λ j b x inside from p. reaches_by s v j b r x d c from p) in
-    let few : size s r ≤ length (unique_keys same_ref (r ∷ [])) = count_different same_ref-tells (node_refs s r) (r ∷ [])
+    let few : diagram_size s r ≤ length (unique_keys same_ref (r ∷ [])) = count_different same_ref-tells (node_refs s r) (r ∷ [])
     (unique-apart same_ref-tells (filter (λ x. nat_lt 1 x.0) (on_walks s.held 0 s.vars r)))
     (λ x has.
     let (walked, pass) = Contains-filter_of (λ y. nat_lt 1 y.0) (on_walks s.held 0 s.vars r) x (Contains-unique_of same_ref (filter (λ y. nat_lt 1 y.0) (on_walks s.held 0 s.vars r)) x has) in

@@ -1,5 +1,5 @@
-//! Tests of the operations on diagrams, of the questions to them, and of sets of bits as pairs of diagrams. Nothing else is
-//! here, so that each crate below is proved once.
+//! Tests of the operations on diagrams, of the questions to them, and of sets of bits as pairs of
+//! diagrams. Nothing else is here, so that each crate below is proved once.
 #![tactic(auto)]
 
 #[cfg(test)]

@@ -8,8 +8,8 @@ use dd_ops::{OpFault, Ops};
 use std::process::Abort;
 use std::test::Fail;
 
-/// The place of the function of three variables that is 0 everywhere. The one whose value at assignment k is bit k of
-/// t stands t places behind it.
+/// The place of the function of three variables that is 0 everywhere. The one whose value at
+/// assignment k is bit k of t stands t places behind it.
 const ZERO: usize = 22;
 
 /// The place of the variable v or of its negation, as assignment k has it.
@@ -29,7 +29,8 @@ fn shelve_functions_to<N: Nodes + Drop>(shelf: &mut Shelf<N>, k: usize) -> Resul
     Ok(())
 }
 
-/// Adds the variables, their negations, the product that is 1 at one assignment, for each, and all 256 functions.
+/// Adds the variables, their negations, the product that is 1 at one assignment, for each, and all
+/// 256 functions.
 fn shelve_functions<N: Nodes + Drop>(shelf: &mut Shelf<N>) -> Result<(), Fail> {
     for v in 0..3 {
         shelf.put_var(v)?;
@@ -157,8 +158,8 @@ fn a_call_goes_4000_variables_deep(rt: HostRuntime) -> Result<(), Fail> {
     Ok(())
 }
 
-/// Adds the products of variable i and variable 8 + i to a sum, by `both` and `either`, or with negated variables the
-/// other way round.
+/// Adds the products of variable i and variable 8 + i to a sum, by `both` and `either`, or with
+/// negated variables the other way round.
 fn shelve_pairs<N: Nodes + Drop>(
     shelf: &mut Shelf<N>,
     first: usize,
@@ -175,7 +176,8 @@ fn shelve_pairs<N: Nodes + Drop>(
     Ok(all)
 }
 
-/// Whether a sum of products of sixteen variables is, negated, the product of the sums of their negations.
+/// Whether a sum of products of sixteen variables is, negated, the product of the sums of their
+/// negations.
 fn is_dual<N: Nodes + Drop>(shelf: &mut Shelf<N>) -> Result<bool, Fail> {
     for v in 0..16 {
         shelf.put_var(v)?;

@@ -18,7 +18,8 @@ fn code_of(cube: &[(VarId, bool)]) -> u32 {
     code
 }
 
-/// Whether a list has the first of the cubes with these codes, at most so many, and says whether there are more.
+/// Whether a list has the first of the cubes with these codes, at most so many, and says whether
+/// there are more.
 fn has_codes(list: &CubeList, codes: &[u32], max: u32) -> bool {
     let max = max as usize;
     list.cubes.len() == codes.len().min(max)
@@ -103,7 +104,8 @@ fn has_values(shown: &mut Shown<PlainNodes>, table: u32) -> Result<bool, Fail> {
     Ok(true)
 }
 
-/// Compares the values and the least assignment of a diagram of three variables with those of a table.
+/// Compares the values and the least assignment of a diagram of three variables with those of a
+/// table.
 fn compare_values(
     rt: &impl Abort,
     alloc: Global,
@@ -127,8 +129,8 @@ fn values_and_least_assignments_of_three_variables_are_those_of_tables(
     Ok(())
 }
 
-/// Whether a cube is the one of this number of the parity of a thousand variables: a literal for each, in order, and a bit 1
-/// of the last four alone.
+/// Whether a cube is the one of this number of the parity of a thousand variables: a literal for
+/// each, in order, and a bit 1 of the last four alone.
 fn is_parity_cube(cube: &[(VarId, bool)], k: usize) -> bool {
     let bits = [k / 4 % 2 == 1, k / 2 % 2 == 1, k % 2 == 1];
     let odd = bits[0] ^ bits[1] ^ bits[2];
@@ -140,7 +142,8 @@ fn is_parity_cube(cube: &[(VarId, bool)], k: usize) -> bool {
         })
 }
 
-/// Whether a list has the first eight cubes of the parity of a thousand variables, and says that there are more.
+/// Whether a list has the first eight cubes of the parity of a thousand variables, and says that
+/// there are more.
 fn has_parity_cubes(list: &CubeList) -> bool {
     list.more
         && list.cubes.len() == 8

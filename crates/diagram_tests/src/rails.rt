@@ -1,5 +1,5 @@
-//! Gates of up to four inputs over every list of constant sets, against all choices of bits; cuts, unions and the test for an
-//! empty set, over constant sets.
+//! Gates of up to four inputs over every list of constant sets, against all choices of bits; cuts,
+//! unions and the test for an empty set, over constant sets.
 
 ghost use Rattle.std.specs.Prelude.{◌≡◌, ◌≤◌, ◌<◌, List, All, IfOk, IsTrue, length};
 ghost use Rattle.dd_nodes.specs.Stores.{Store};
@@ -250,8 +250,12 @@ fn is_union<N: Nodes>(ops: &Ops, nodes: &mut N, first: usize, second: usize) -> 
     }
 }
 
-/// Whether it is told of this set that it is empty, or not.
-fn is_told<N: Nodes>(ops: &Ops, nodes: &mut N, number: usize) -> Result<bool, Fail> {
+/// Whether `empty` says of this set whether it is empty.
+fn is_empty_where_it_should_be<N: Nodes>(
+    ops: &Ops,
+    nodes: &mut N,
+    number: usize,
+) -> Result<bool, Fail> {
     match empty(ops, nodes, constant_set(number)) {
         Ok(none) => Ok(none == constant(number % 4 == 0)),
         Err(_) => Err("no answer".into()),
@@ -275,7 +279,10 @@ fn cuts_unions_and_empty_sets_of_constants(rt: HostRuntime) -> Result<(), Fail> 
                 "{number} {other}"
             );
         }
-        assert!(rt; is_told(&ops, &mut nodes, number)?, "{number}");
+        assert!(rt;
+            is_empty_where_it_should_be(&ops, &mut nodes, number)?,
+            "{number}"
+        );
     }
     assert!(rt; constant_set(1) == zero() && constant_set(2) == one() && constant_set(3) == free());
     Ok(())

@@ -40,8 +40,8 @@ fn of_four_bits<N: Nodes>(nodes: &mut N, table: u32) -> Result<Ref, MkFault>
     node_over(nodes, 1, lo, hi)
 }
 
-/// The diagram over three variables of a table of eight bits. Bit k of it is the value at the assignment that is k in
-/// binary, the first variable's bit first.
+/// The diagram over three variables of a table of eight bits. Bit k of it is the value at the
+/// assignment that is k in binary, the first variable's bit first.
 pub fn of_table<N: Nodes>(nodes: &mut N, table: u32) -> Result<Ref, MkFault>
     requires { (N.store nodes.old).vars ≡ 3 }
     ensures keeps { Keeps (N.store nodes.old) (N.store nodes.new) }
@@ -79,7 +79,8 @@ pub fn with_literal(code: u32, var: u32, bit: bool) -> u32 {
     code.wrapping_mul(7).wrapping_add(literal)
 }
 
-/// Adds the codes of the cubes of a table of two bits over the variable `var`, each behind those of a code.
+/// Adds the codes of the cubes of a table of two bits over the variable `var`, each behind those of
+/// a code.
 fn add_codes_of_two(
     codes: &mut Vec<u32>,
     table: u32,

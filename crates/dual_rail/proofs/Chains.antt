@@ -1,7 +1,7 @@
 -- Sums and products, function by function.
 use Rattle.std.proofs.Common.{◌≡◌, ℕ, zero, suc, ◌+◌, ◌<◌, List, [], ◌∷◌, length, take, get_or, refl, ◌∙◌, ap, arith, Contains, map}
 use Rattle.std.proofs.lemmas.List.Elements.{Contains-append_left, Contains-append_right}
-use Rattle.dd_nodes.specs.Diagram.{Function}
+use Rattle.ste_base.specs.Functions.{Function}
 use Rattle.net_core.specs.declared.cover.Lit.{Lit}
 use Rattle.net_core.specs.Work.{SymbolicSet, chain, whole, factor, factors, product, products, some_bit, row_products, rows_chains}
 use Rattle.dual_rail.proofs.Works.{Within, here, behind}

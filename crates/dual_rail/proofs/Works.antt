@@ -4,7 +4,8 @@ use Rattle.std.specs.Prelude.{◌&&◌, ◌||◌}
 use Rattle.std.specs.Result.{IsErrAnd}
 use Rattle.std.proofs.lemmas.Result.{err_from_is_err_and}
 use Rattle.dd_nodes.specs.declared.node.Ref.{Ref}
-use Rattle.dd_nodes.specs.Diagram.{Function, IsCofactor}
+use Rattle.ste_base.specs.Functions.{Function}
+use Rattle.dd_nodes.specs.Diagram.{IsCofactor}
 use Rattle.dd_nodes.specs.Stores.{Store, Means, function, Keeps}
 use Rattle.dd_nodes.specs.Functions.{IsCofactorOf}
 use Rattle.dd_nodes.specs.Spending.{Spends}
@@ -137,13 +138,13 @@ pass {A} {B} work Good Other s t u fault result dt du p x is =
 pub Built-made : {A : Type 0} (work : List Function) (Good : Store → A → Type 0) (s t : Store) (a : A) → SoFar work s t → Good t a → Built work Good s t (Ok a)
 Built-made work Good s t a p h = record { ok = h; spends = Spends-out work s t ⊥ (Ok a ≡ Err StepsOut) (λ e. ok_differs a StepsOut e) p }
 
--- with a want of memory between the calls
+-- out of memory between the calls
 pub Built-lost : {B : Type 0} (work : List Function) (Other : Store → B → Type 0) (s t : Store) → SoFar work s t → Built work Other s t (Err OutOfMemory)
 Built-lost {B} work Other s t p =
     let out : OpFault → Result B OpFault = Err in
     record { ok = tt; spends = Spends-out work s t ⊥ (out OutOfMemory ≡ Err StepsOut) (λ e. cc) p }
 
--- with a want of memory that is handed on
+-- out of memory, which is handed on
 pub lost : {B : Type 0} (work : List Function) (Other : Store → B → Type 0) (s t : Store) (result : Result B OpFault) → SoFar work s t → IsErrAnd result (λ e. e ≡ OutOfMemory) → Built work Other s t result
 lost {B} work Other s t result p is =
     let q = err_from_is_err_and result is in

@@ -1,7 +1,7 @@
 -- A condition between crates: what the calls so far have built.
 use Rattle.std.specs.Prelude.{List}
 use Rattle.dd_nodes.specs.declared.node.Ref.{Ref}
-use Rattle.dd_nodes.specs.Diagram.{Function}
+use Rattle.ste_base.specs.Functions.{Function}
 use Rattle.dd_nodes.specs.Stores.{Store, Means}
 use Rattle.dd_nodes.specs.Spending.{Spends}
 

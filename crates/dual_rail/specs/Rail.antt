@@ -1,7 +1,8 @@
--- Meaning. Sets of bits under all assignments as pairs of references, and what calls leave that build functions.
+-- Meaning. Sets of bits under all assignments as pairs of references, and what calls leave that
+-- build functions.
 use Rattle.std.specs.Prelude.{◌≡◌, List, Bool, IfOk, Result, Err}
 use Rattle.dd_nodes.specs.declared.node.Ref.{Ref}
-use Rattle.dd_nodes.specs.Diagram.{Function}
+use Rattle.ste_base.specs.Functions.{Function}
 use Rattle.dd_nodes.specs.Stores.{Store, function, IsRef, Means}
 use Rattle.dd_nodes.specs.Spending.{Spends}
 use Rattle.dd_ops.specs.declared.fault.OpFault.{OpFault}
@@ -10,9 +11,11 @@ use Rattle.net_core.specs.declared.bit_set.BitSet.{BitSet}
 use Rattle.net_core.specs.Work.{SymbolicSet}
 use Rattle.dual_rail.specs.declared.rails.Rails.{Rails}
 
--- What a call leaves that builds the functions fs: its result is good in the new store, each made reference has as its
--- function a cofactor of one of fs, and it answers `StepsOut` only where all steps are spent and such a cofactor is missing.
-pub record Built {A : Type 0} (fs : List Function) (Good : Store → A → Type 0) (s t : Store) (result : Result A OpFault) : Type 0 where
+-- What a call leaves that builds the functions fs: its result is good in the new store, each made
+-- reference has as its function a cofactor of one of fs, and it answers `StepsOut` only where all
+-- steps are spent and such a cofactor is missing.
+pub record Built {A : Type 0} (fs : List Function) (Good : Store → A → Type 0) (s t : Store)
+    (result : Result A OpFault) : Type 0 where
   pub ok : IfOk result (Good t)
   pub spends : Spends fs s t (result ≡ Err StepsOut)
 

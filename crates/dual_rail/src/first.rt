@@ -1,4 +1,5 @@
-//! Products, sums and opposites of diagrams with a look at the constants first: `both`, `either`, `opposite` and `except`.
+//! Products, sums and opposites of diagrams with a look at the constants first: `both`, `either`,
+//! `opposite` and `except`.
 
 ghost use Rattle.std.specs.Prelude.{◌≡◌, ◌↔◌, ◌<◌, ◌&&◌, ◌||◌, IsTrue, not};
 ghost use Rattle.dd_nodes.specs.Stores.{IsRef, function};

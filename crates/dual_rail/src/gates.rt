@@ -2,7 +2,7 @@
 
 ghost use Rattle.std.specs.Prelude.{◌≡◌, ◌↔◌, not, ◌∷◌, [], Bool, List, length, map, All, IfOk};
 ghost use Rattle.std.specs.List.{AllZip};
-ghost use Rattle.dd_nodes.specs.Diagram.{Function};
+ghost use Rattle.ste_base.specs.Functions.{Function};
 ghost use Rattle.dd_nodes.specs.Stores.{IsRef, Means};
 ghost use Rattle.net_core.specs.Cover.{some_matches};
 ghost use Rattle.net_core.specs.Possible.{MayGive};
@@ -98,9 +98,10 @@ fn rows_sum<N: Nodes>(
     Ok(sum)
 }
 
-/// The exact set of a gate's outputs over all choices of one bit from each input's set; it is empty where an input's set
-/// is. `on` are the rows that match where the gate's bit is 1, `off` those where it is 0. `StepsOut` comes only where all
-/// steps are spent and a node of the gate's functions is not held; after any error what was held stays.
+/// The exact set of a gate's outputs over all choices of one bit from each input's set; it is empty
+/// where an input's set is. `on` are the rows that match where the gate's bit is 1, `off` those
+/// where it is 0. `StepsOut` comes only where all steps are spent and a node of the gate's
+/// functions is not held; after any error what was held stays.
 pub fn gate<N: Nodes>(
     ops: &Ops,
     nodes: &mut N,

@@ -1,5 +1,6 @@
-//! Sets of bits under all assignments at once, as pairs of diagrams: constants, cuts, unions, the exact set of a gate, and
-//! where a set is empty (the dual rail of Seger and Bryant 1995). Begin with `Rails` and `gate`.
+//! Sets of bits under all assignments at once, as pairs of diagrams: constants, cuts, unions, the
+//! exact set of a gate, and where a set is empty (the dual rail of Seger and Bryant 1995). Begin
+//! with `Rails` and `gate`.
 #![tactic(auto)]
 
 mod first;

@@ -1,7 +1,7 @@
 //! Constant sets, cuts, unions, and where a set is empty; begin with `free` and `cut`.
 
 ghost use Rattle.std.specs.Prelude.{◌≡◌, ◌∷◌, [], Bool, List, length, IfOk};
-ghost use Rattle.dd_nodes.specs.Diagram.{Function};
+ghost use Rattle.ste_base.specs.Functions.{Function};
 ghost use Rattle.dd_nodes.specs.Stores.{IsRef, Means};
 ghost use Rattle.net_core.specs.Work.{SymbolicSet, cut_set, cut_work, empty_work, negation, union, union_work, no_bit};
 ghost use Rattle.dual_rail.specs.Rail.{AreRefs, AreRails, Built, HasFunction, HasSet};
@@ -42,8 +42,9 @@ pub fn free() -> Rails
     }
 }
 
-/// The set without the opposite of `value` where `guard` is 1. `StepsOut` comes only where all steps are spent and a
-/// node of the cut's functions is not held; after any error what was held stays.
+/// The set without the opposite of `value` where `guard` is 1. `StepsOut` comes only where all
+/// steps are spent and a node of the cut's functions is not held; after any error what was held
+/// stays.
 pub fn cut<N: Nodes>(
     ops: &Ops,
     nodes: &mut N,
@@ -107,7 +108,8 @@ fn without_opposite<N: Nodes>(
     except(ops, nodes, rail, asked)
 }
 
-/// The union of two sets. `StepsOut` comes only where all steps are spent and a node of its two sums is not held.
+/// The union of two sets. `StepsOut` comes only where all steps are spent and a node of its two
+/// sums is not held.
 pub fn join<N: Nodes>(ops: &Ops, nodes: &mut N, a: Rails, b: Rails) -> Result<Rails, OpFault>
     requires left { AreRefs (N.store nodes.old) a }
     requires right { AreRefs (N.store nodes.old) b }
@@ -121,8 +123,8 @@ pub fn join<N: Nodes>(ops: &Ops, nodes: &mut N, a: Rails, b: Rails) -> Result<Ra
     Ok(Rails { can0, can1 })
 }
 
-/// 1 exactly where the set is empty. `StepsOut` comes only where all steps are spent and a node of `z | o` or of its
-/// negation is not held.
+/// 1 exactly where the set is empty. `StepsOut` comes only where all steps are spent and a node of
+/// `z | o` or of its negation is not held.
 pub fn empty<N: Nodes>(ops: &Ops, nodes: &mut N, r: Rails) -> Result<Ref, OpFault>
     requires { AreRefs (N.store nodes.old) r }
     ensures { (w : SymbolicSet) → AreRails (N.store nodes.old) w r

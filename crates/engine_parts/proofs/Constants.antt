@@ -24,7 +24,8 @@ use Rattle.net_core.specs.declared.source.Source.{Source}
 use Rattle.net_core.specs.declared.source.Source.TheVariants.{Input, Free, Gate as OfGate, Latch as OfLatch}
 use Rattle.net_core.specs.Cases.{on_rows, off_rows}
 use Rattle.net_core.specs.Source.{source_of}
-use Rattle.net_core.specs.Work.{Function, SymbolicAsked, SymbolicCut, SymbolicSet, after_cut, by_gate, by_source, chain, conjunction, cover_set, cover_work, cut_set, cut_work, cuts_work, disjunction, everything, factor, factors, first_sets, gates_work, input_sets, negation, no_bit, one_gate_work, row_products, rows_chains, rows_work, some_bit, time_work, uncut, unless_weakened, whole}
+use Rattle.ste_base.specs.Functions.{Function}
+use Rattle.net_core.specs.Work.{SymbolicAsked, SymbolicCut, SymbolicSet, after_cut, by_gate, by_source, chain, conjunction, cover_set, cover_work, cut_set, cut_work, cuts_work, disjunction, everything, factor, factors, sets_below, gates_work, input_sets, negation, no_bit, one_gate_work, row_products, rows_chains, rows_work, some_bit, time_work, set_before_cuts, unless_weakened, whole}
 use Rattle.net_core.specs.Possible.{is_weakened}
 use Rattle.ste_base.specs.declared.id.NodeId.{NodeId}
 use Rattle.engine_parts.specs.Failing.{MakesNothing, constant_ref}
@@ -155,7 +156,7 @@ module _ (sets : ℕ → SymbolicSet) (are : IsConstantFamily sets) where
       go [] = AreConstantSets.none
       go (input ∷ inputs) = AreConstantSets.more (are input.0) (go inputs)
 
-  of_firsts : (n : ℕ) → AreConstantSets (first_sets sets n)
+  of_firsts : (n : ℕ) → AreConstantSets (sets_below sets n)
   of_firsts zero = AreConstantSets.none
   of_firsts (suc n) = put (of_firsts n)
     where
@@ -217,7 +218,7 @@ of_cuts sets (AreConstantCuts.more {d = d} c cs) are = append (cut_works d c (ar
 pub of_time : {ls : List SymbolicSet} (net : RawNet) (asked : SymbolicAsked) (sets : ℕ → SymbolicSet) → AreConstantSets ls → AreConstantCuts asked.cuts → IsConstantFamily sets → AreConstant (time_work net ls asked sets)
 of_time {ls} net asked sets p cs are =
     let all = of_firsts sets are net.nets in
-    append (of_cuts (uncut net asked.weak ls sets) cs (λ id. of_unless (is_weakened asked.weak id) (of_source net sets p are (source_of net id))))
+    append (of_cuts (set_before_cuts net asked.weak ls sets) cs (λ id. of_unless (is_weakened asked.weak id) (of_source net sets p are (source_of net id))))
     (append (of_gates sets are net asked.weak net.gates)
     (append (for_each some_bit of_some all) (append (for_each no_bit of_none all) (chains disjunction or_joins (of_bit false) (for_each no_bit of_none all)))))
 

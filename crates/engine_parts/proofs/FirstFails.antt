@@ -5,7 +5,7 @@ use Rattle.std.specs.List.{AllZip}
 use Rattle.std.proofs.lemmas.List.Elements.{All-head, All-tail}
 use Rattle.bool_expr.specs.Value.{value_of}
 use Rattle.dd_nodes.specs.declared.node.Ref.{Ref}
-use Rattle.dd_nodes.specs.Diagram.{Function}
+use Rattle.ste_base.specs.Functions.{Function}
 use Rattle.dd_nodes.specs.Stores.{Means, Store}
 use Rattle.dd_nodes.proofs.Stores.{IsGood}
 use Rattle.dual_rail.specs.declared.rails.Rails.{Rails}
@@ -79,7 +79,7 @@ pub record IsFirstFail (failure : Failure) (sets : ℕ → BitSet) (cuts : List 
   pub node_is : node.0 ≡ cut.node
   pub first : (j : ℕ) (other : AskedCut) → j < number → slice_get cuts j ≡ Some other → ¬ FailsBy failure sets other
 
--- what is told of consequents: the net of the first that fails, or that none does
+-- what is said of consequents: the net of the first that fails, or that none does
 abbrev pub IsTold : Failure → (ℕ → BitSet) → List AskedCut → Option NodeId → Type 0
 IsTold failure sets cuts None = ¬ Any (FailsBy failure sets) cuts
 IsTold failure sets cuts (Some node) = IsFirstFail failure sets cuts node

@@ -1,6 +1,6 @@
 -- Calls that make nothing.
 use Rattle.std.proofs.Common.{◌≡◌, List, refl, sym, ◌∙◌, subst}
-use Rattle.dd_nodes.specs.Diagram.{Function}
+use Rattle.ste_base.specs.Functions.{Function}
 use Rattle.dd_nodes.specs.Functions.{IsCofactorOf}
 use Rattle.dd_nodes.specs.Spending.{Spends}
 use Rattle.dd_nodes.specs.Stores.{Store}

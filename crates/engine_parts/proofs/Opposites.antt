@@ -2,7 +2,7 @@
 use Rattle.std.proofs.Common.{◌≡◌, ℕ, ◌&&◌, ◌||◌, Bool, true, false, not, List, [], ◌∷◌, ◌++◌, refl, sym, ◌∙◌, ap, arith, Contains, Result, ⊎_elim}
 use Rattle.std.proofs.lemmas.List.Elements.{Contains-append_cases, Contains-append_left, Contains-append_right}
 use Rattle.dd_nodes.specs.declared.node.Ref.{Ref}
-use Rattle.dd_nodes.specs.Diagram.{Function}
+use Rattle.ste_base.specs.Functions.{Function}
 use Rattle.dd_nodes.specs.Stores.{Store, IsRef, Means, function}
 use Rattle.dd_nodes.proofs.Spending.{own, zero_means}
 use Rattle.dd_nodes.proofs.Stores.{IsGood}

@@ -1,10 +1,15 @@
 -- From the functions of the results to the verdict.
 use Rattle.std.proofs.Common.{◌≡◌, ℕ, zero, suc, Bool, true, false, List, [], ◌∷◌, length, arith, sym, ap, refl, subst, ◌∙◌, inl, inr}
-use Rattle.std.specs.Prelude.{◌⊎◌}
+use Rattle.std.specs.Prelude.{◌⊎◌, IsTrue}
 use Rattle.dd_nodes.specs.declared.node.Ref.{Ref}
-use Rattle.dd_nodes.specs.Diagram.{Function}
+use Rattle.ste_base.specs.Functions.{Function}
 use Rattle.dd_nodes.specs.Stores.{Store, function}
+use Rattle.ste_model.specs.declared.verdict.Verdict.{Verdict}
+use Rattle.ste_model.specs.declared.verdict.Verdict.TheVariants.{Strong, Weak, Vacuous, Pass, Budget}
 use Rattle.ste_model.specs.Assignments.{EachAssignment, SomeAssignment, Tells}
+use Rattle.ste_model.specs.Found.{IsVerdict}
+use Rattle.engine_parts.specs.declared.results.Results.{Results}
+use Rattle.engine_parts.specs.Reporting.{IsVerdictBy}
 
 -- some assignment has the bit, or none has
 both_halves : (v : ℕ) (f : Function) → ((bits : List Bool) × (length bits ≡ v) × (f (false ∷ bits) ≡ true)) ⊎ ((bits : List Bool) → length bits ≡ v → f (false ∷ bits) ≡ false)
@@ -46,3 +51,27 @@ module _ (t : Store) (r : Ref) (P : List Bool → Type 0) (is : Tells t.vars (fu
 
   pub not_each : (((bits : List Bool) → length bits ≡ t.vars → function t r bits ≡ true) → ⊥) → ¬ EachAssignment t.vars P
   not_each some each = some (λ bits l. (is bits l).1 (each bits l))
+
+-- ---- the verdict by the functions of the references, and that of the findings which these tell
+
+module _ (t : Store) (r : Ref) (P : List Bool → Type 0) (is : Tells t.vars (function t r) P) where
+  some_told : SomeAssignment t.vars (λ bits. IsTrue (function t r bits)) → SomeAssignment t.vars P
+  some_told some = (some.0, some.1, (is some.0 some.1).0 some.2)
+
+  none_told : ¬ SomeAssignment t.vars (λ bits. IsTrue (function t r bits)) → ¬ SomeAssignment t.vars P
+  none_told none some = none (some.0, some.1, (is some.0 some.1).1 some.2)
+
+  each_told : EachAssignment t.vars (λ bits. IsTrue (function t r bits)) → EachAssignment t.vars P
+  each_told each bits l = (is bits l).0 (each bits l)
+
+  not_each_told : ¬ EachAssignment t.vars (λ bits. IsTrue (function t r bits)) → ¬ EachAssignment t.vars P
+  not_each_told some each = some (λ bits l. (is bits l).1 (each bits l))
+
+pub verdict_told : (t : Store) (r : Results) (S W C : List Bool → Type 0)
+    → Tells t.vars (function t r.strong) S → Tells t.vars (function t r.weak) W → Tells t.vars (function t r.contradictory) C
+    → (verdict : Verdict) → IsVerdictBy t r verdict → IsVerdict t.vars S W C verdict
+verdict_told t r S W C s w c Strong v = some_told t r.strong S s v
+verdict_told t r S W C s w c Weak v = (none_told t r.strong S s v.0, some_told t r.weak W w v.1)
+verdict_told t r S W C s w c Vacuous v = (none_told t r.strong S s v.0, none_told t r.weak W w v.1, each_told t r.contradictory C c v.2)
+verdict_told t r S W C s w c Pass v = (none_told t r.strong S s v.0, none_told t r.weak W w v.1, not_each_told t r.contradictory C c v.2)
+verdict_told t r S W C s w c Budget v = absurd v

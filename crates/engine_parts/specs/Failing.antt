@@ -37,13 +37,15 @@ misses Weak zero one value = zero && one
 
 -- whether a consequent fails so, by constants alone
 abbrev pub fails : Failure → Rails → Cut → Bool
-fails failure r c = is_true c.guard && misses failure (is_true r.can0) (is_true r.can1) (is_true c.value)
+fails failure r c =
+    is_true c.guard && misses failure (is_true r.can0) (is_true r.can1) (is_true c.value)
 
 -- the net of the first consequent that fails so
 abbrev pub first_failing : Failure → List Rails → List Cut → Option NodeId
 first_failing failure nets [] = None
 first_failing failure nets (c ∷ cuts) =
-    if fails failure (rails_at nets c.node.0) c then Some c.node else first_failing failure nets cuts
+    if fails failure (rails_at nets c.node.0) c then Some c.node else first_failing failure nets
+    cuts
 
 -- the constant of a bit
 abbrev pub constant_ref : Bool → Ref
@@ -52,4 +54,7 @@ constant_ref bit = if bit then record { 0 = 1 } else record { 0 = 0 }
 -- a quintuple with its guard and value under an assignment
 abbrev pub fixed_quint : List Bool → Quint → Quint
 fixed_quint bits quint =
-    record quint { guard = Const (value_of quint.guard bits); value = Const (value_of quint.value bits) }
+    record quint {
+      guard = Const (value_of quint.guard bits);
+      value = Const (value_of quint.value bits);
+    }

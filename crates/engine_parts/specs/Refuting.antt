@@ -1,6 +1,6 @@
 -- A condition between crates: the functions for where a set is exactly the opposite of a value.
 use Rattle.std.specs.Prelude.{List, [], ◌∷◌, ◌++◌}
-use Rattle.dd_nodes.specs.Diagram.{Function}
+use Rattle.ste_base.specs.Functions.{Function}
 use Rattle.net_core.specs.Work.{SymbolicSet, conjunction, negation}
 use Rattle.ste_model.specs.Work.{refutes}
 
@@ -21,4 +21,5 @@ opposite_except_work x f g = negation x ∷ both_except_work (negation x) f g
 
 -- the functions for where the set is exactly the opposite of the value
 abbrev pub refutes_work : SymbolicSet → Function → List Function
-refutes_work w x = both_except_work x w.zero w.one ++ (opposite_except_work x w.one w.zero ++ refutes w x ∷ [])
+refutes_work w x =
+    both_except_work x w.zero w.one ++ (opposite_except_work x w.one w.zero ++ refutes w x ∷ [])

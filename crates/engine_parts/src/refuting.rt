@@ -1,6 +1,6 @@
 //! Where a set is exactly the opposite of a value; begin with `refuted`.
 
-ghost use Rattle.dd_nodes.specs.Diagram.{Function};
+ghost use Rattle.ste_base.specs.Functions.{Function};
 ghost use Rattle.dd_nodes.specs.Stores.{IsRef, Means};
 ghost use Rattle.net_core.specs.Work.{SymbolicSet, conjunction, negation};
 ghost use Rattle.dual_rail.specs.Rail.{AreRails, AreRefs, Built, HasFunction};
@@ -24,7 +24,8 @@ pub fn but_not<N: Nodes>(ops: &Ops, nodes: &mut N, one: Ref, other: Ref) -> Resu
     both(ops, nodes, one, not)
 }
 
-/// Where the value is 1 and a set has the one bit alone: `one` is where it has this bit, `other` where it has the other.
+/// Where the value is 1 and a set has the one bit alone: `one` is where it has this bit, `other`
+/// where it has the other.
 fn refuted_one<N: Nodes>(
     ops: &Ops,
     nodes: &mut N,
@@ -79,8 +80,8 @@ fn refuted_either<N: Nodes>(ops: &Ops, nodes: &mut N, r: Rails, value: Ref) -> R
     either(ops, nodes, low, high)
 }
 
-/// Where a set is exactly the opposite of the value. It is so nowhere, and nothing is called, where the set has 1 just
-/// where the value is 1, as that of a net that passes has.
+/// Where a set is exactly the opposite of the value. It is so nowhere, and nothing is called, where
+/// the set has 1 just where the value is 1, as that of a net that passes has.
 pub fn refuted<N: Nodes>(ops: &Ops, nodes: &mut N, r: Rails, value: Ref) -> Result<Ref, OpFault>
     requires rails { AreRefs (N.store nodes.old) r }
     requires value { IsRef (N.store nodes.old) value }

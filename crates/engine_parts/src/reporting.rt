@@ -2,10 +2,11 @@
 
 ghost use Rattle.std.specs.Prelude.{◌≡◌, IfOk};
 ghost use Rattle.ste_model.specs.Report.{budget_report, no_cubes};
-ghost use Rattle.engine_parts.specs.Reporting.{AreGuards, AreResultRefs};
+ghost use Rattle.engine_parts.specs.Reporting.{AreGuards, AreResultRefs, IsVerdictBy};
 
 use crate::results::Results;
 use dd_nodes::Nodes;
+use dd_ops::Ops;
 use dd_query::cubes;
 use std::alloc::{AllocError, Global};
 use ste_base::{Items, Name};
@@ -32,6 +33,23 @@ pub fn guards_of<N: Nodes>(
     })
 }
 
+/// The verdict, from the references that tell the strong, the weak and the contradictory
+/// assignments. Nothing is made.
+pub fn verdict_of<N: Nodes>(ops: &Ops, nodes: &N, r: Results) -> Verdict
+    requires { AreResultRefs (N.store nodes.now) r }
+    ensures { IsVerdictBy (N.store nodes.now) r result }
+{
+    if !ops.is_false(nodes, r.strong) {
+        Verdict::Strong
+    } else if !ops.is_false(nodes, r.weak) {
+        Verdict::Weak
+    } else if ops.is_true(nodes, r.contradictory) {
+        Verdict::Vacuous
+    } else {
+        Verdict::Pass
+    }
+}
+
 /// A list without cubes.
 fn no_cubes(alloc: Global) -> CubeList
     ensures { result ≡ no_cubes }
@@ -42,7 +60,7 @@ fn no_cubes(alloc: Global) -> CubeList
     }
 }
 
-/// What is told of a task of this name whose node steps were spent.
+/// The report of a task of this name whose node steps were spent.
 pub fn budget_report(alloc: Global, name: &Name) -> Result<Report, AllocError>
     ensures { IfOk result (λ report. report ≡ budget_report name.now) }
 {

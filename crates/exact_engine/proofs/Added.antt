@@ -6,7 +6,7 @@ use Rattle.std.proofs.lemmas.List.{drop_all, get_or_default}
 use Rattle.std.proofs.lemmas.List.Elements.{Contains-append_left, Contains-append_right}
 use Rattle.bool_expr.specs.Value.{flips, value_of}
 use Rattle.dd_nodes.specs.declared.node.Ref.{Ref}
-use Rattle.dd_nodes.specs.Diagram.{Function}
+use Rattle.ste_base.specs.Functions.{Function}
 use Rattle.dd_nodes.specs.Stores.{Store, Keeps, Means, function}
 use Rattle.dd_nodes.proofs.Stores.{IsGood, Means-keeps}
 use Rattle.dd_nodes.proofs.Walks.{IsFrom-grows}
@@ -20,8 +20,8 @@ use Rattle.dual_rail.specs.Rail.{Built, HasFunction}
 use Rattle.dual_rail.proofs.Turns.{zip_at, zip_long}
 use Rattle.dual_rail.proofs.Works.{SoFar, Within, Built-answer, Built-made, Built-wider, So-start, here}
 use Rattle.exact_model.specs.ExactWork.{differs, is_broken}
-use Rattle.exact_engine.specs.declared.ask.Ask.{Ask}
-use Rattle.exact_engine.specs.private.Asks.{AreAsks, IsAsk, IsAskRef, ask_work, broken, broken_at, broken_work, cuts_added, only_if, runs_at}
+use Rattle.exact_engine.specs.declared.timed_cut.TimedCut.{TimedCut}
+use Rattle.exact_engine.specs.private.TimedCuts.{AreTimedCuts, IsTimedCut, IsTimedCutRef, timed_cut_work, broken, broken_at, broken_work, cuts_added, only_if, runs_at}
 use Rattle.exact_engine.specs.private.Bits.{AreBits, net_ref}
 use Rattle.exact_engine.specs.private.Joined.{Leads}
 use Rattle.exact_engine.proofs.Leading.{leads_on}
@@ -41,45 +41,45 @@ xor_built work f g s t a b result has ma mb x =
 -- ---- one quintuple
 
 -- one that lacks the time adds nothing
-pub not_added : (s : Store) (test : Bool) (f b g x : Function) (sum : Ref) → test ≡ false → Means s f sum → Built (ask_work test f b g x) (HasFunction (whole disjunction f (only_if test (broken b g x)))) s s (Ok sum)
+pub not_added : (s : Store) (test : Bool) (f b g x : Function) (sum : Ref) → test ≡ false → Means s f sum → Built (timed_cut_work test f b g x) (HasFunction (whole disjunction f (only_if test (broken b g x)))) s s (Ok sum)
 not_added s test f b g x sum e m =
-    subst (λ (o : Bool). Built (ask_work o f b g x) (HasFunction (whole disjunction f (only_if o (broken b g x)))) s s (Ok sum)) (sym e)
+    subst (λ (o : Bool). Built (timed_cut_work o f b g x) (HasFunction (whole disjunction f (only_if o (broken b g x)))) s s (Ok sum)) (sym e)
     (Built-made [] (HasFunction f) s s sum (So-start [] s) m)
 
 pub is_added : (s t : Store) (test : Bool) (f b g x : Function) (result : Result Ref OpFault) → test ≡ true → Built (broken_work f b g x) (HasFunction (disjunction f (broken b g x))) s t result
-    → Built (ask_work test f b g x) (HasFunction (whole disjunction f (only_if test (broken b g x)))) s t result
+    → Built (timed_cut_work test f b g x) (HasFunction (whole disjunction f (only_if test (broken b g x)))) s t result
 is_added s t test f b g x result e made =
-    subst (λ (o : Bool). Built (ask_work o f b g x) (HasFunction (whole disjunction f (only_if o (broken b g x)))) s t result) (sym e) made
+    subst (λ (o : Bool). Built (timed_cut_work o f b g x) (HasFunction (whole disjunction f (only_if o (broken b g x)))) s t result) (sym e) made
 
-pub too_early : (t : ℕ) (ask : Ask) → t < ask.from → runs_at t ask ≡ false
-too_early t ask l = let e : nat_le ask.from t ≡ false = grind (arith, l) in ap (λ (b : Bool). b && nat_lt t ask.to) e
+pub too_early : (t : ℕ) (timed_cut : TimedCut) → t < timed_cut.from → runs_at t timed_cut ≡ false
+too_early t timed_cut l = let e : nat_le timed_cut.from t ≡ false = grind (arith, l) in ap (λ (b : Bool). b && nat_lt t timed_cut.to) e
 
-pub too_late : (t : ℕ) (ask : Ask) → ask.from ≤ t → ask.to ≤ t → runs_at t ask ≡ false
-too_late t ask m l =
-    let e : nat_lt t ask.to ≡ false = grind (arith, l) in
-    let f : nat_le ask.from t ≡ true = grind (arith, m) in
-    ap (λ (b : Bool). b && nat_lt t ask.to) f ∙ e
+pub too_late : (t : ℕ) (timed_cut : TimedCut) → timed_cut.from ≤ t → timed_cut.to ≤ t → runs_at t timed_cut ≡ false
+too_late t timed_cut m l =
+    let e : nat_lt t timed_cut.to ≡ false = grind (arith, l) in
+    let f : nat_le timed_cut.from t ≡ true = grind (arith, m) in
+    ap (λ (b : Bool). b && nat_lt t timed_cut.to) f ∙ e
 
-pub in_time : (t : ℕ) (ask : Ask) → ask.from ≤ t → t < ask.to → runs_at t ask ≡ true
-in_time t ask m l =
-    let e : nat_lt t ask.to ≡ true = grind (arith, l) in
-    let f : nat_le ask.from t ≡ true = grind (arith, m) in
-    ap (λ (b : Bool). b && nat_lt t ask.to) f ∙ e
+pub in_time : (t : ℕ) (timed_cut : TimedCut) → timed_cut.from ≤ t → t < timed_cut.to → runs_at t timed_cut ≡ true
+in_time t timed_cut m l =
+    let e : nat_lt t timed_cut.to ≡ true = grind (arith, l) in
+    let f : nat_le timed_cut.from t ≡ true = grind (arith, m) in
+    ap (λ (b : Bool). b && nat_lt t timed_cut.to) f ∙ e
 
 -- ---- lists of them
 
-pub ask_keeps : (s t : Store) (q : Quint) (a : Ask) → IsGood s → IsGood t → Keeps s t → IsAsk s q a → IsAsk t q a
+pub ask_keeps : (s t : Store) (q : Quint) (a : TimedCut) → IsGood s → IsGood t → Keeps s t → IsTimedCut s q a → IsTimedCut t q a
 ask_keeps s t q a ds dt k h = record { node = h.node; from = h.from; to = h.to; guard = Means-keeps s t (value_of q.guard) a.guard ds dt k h.guard; value = Means-keeps s t (value_of q.value) a.value ds dt k h.value }
 
-pub asks_keep : (s t : Store) (quints : List Quint) (asks : List Ask) → IsGood s → IsGood t → Keeps s t → AreAsks s quints asks → AreAsks t quints asks
-asks_keep s t [] [] ds dt k h = tt
-asks_keep s t [] (y ∷ ys) ds dt k h = absurd h
-asks_keep s t (x ∷ xs) [] ds dt k h = absurd h
-asks_keep s t (x ∷ xs) (y ∷ ys) ds dt k h = (ask_keeps s t x y ds dt k h.0, asks_keep s t xs ys ds dt k h.1)
+pub timed_cuts_keep : (s t : Store) (quints : List Quint) (timed_cuts : List TimedCut) → IsGood s → IsGood t → Keeps s t → AreTimedCuts s quints timed_cuts → AreTimedCuts t quints timed_cuts
+timed_cuts_keep s t [] [] ds dt k h = tt
+timed_cuts_keep s t [] (y ∷ ys) ds dt k h = absurd h
+timed_cuts_keep s t (x ∷ xs) [] ds dt k h = absurd h
+timed_cuts_keep s t (x ∷ xs) (y ∷ ys) ds dt k h = (ask_keeps s t x y ds dt k h.0, timed_cuts_keep s t xs ys ds dt k h.1)
 
-pub ask_refs_keep : (s t : Store) (n : ℕ) (asks : List Ask) → Keeps s t → All (IsAskRef s n) asks → All (IsAskRef t n) asks
-ask_refs_keep s t n asks k h i d l =
-    let a = get_or asks i d in
+pub ask_refs_keep : (s t : Store) (n : ℕ) (timed_cuts : List TimedCut) → Keeps s t → All (IsTimedCutRef s n) timed_cuts → All (IsTimedCutRef t n) timed_cuts
+ask_refs_keep s t n timed_cuts k h i d l =
+    let a = get_or timed_cuts i d in
     let p = h i d l in
     record { node = p.node; guard = IsFrom-grows s.held t.held 0 a.guard k.grows p.guard; value = IsFrom-grows s.held t.held 0 a.value k.grows p.value }
 
@@ -114,7 +114,7 @@ module _ (f : Function) (bit : ℕ → Function) (time : ℕ) (quints : List Qui
   -- what is built for one of them is among all
   ask_within : (k : ℕ) (q : Quint) (h : Function) (test : Bool) → k < length quints → q ≡ get_or quints k q → has_time time q ≡ test
       → ((g : Function) → Contains (chain disjunction h (only_if test (is_broken bit (symbolic_cut q)))) g → Contains work g)
-      → Within (ask_work test h (bit q.node.0) (value_of q.guard) (value_of q.value)) work
+      → Within (timed_cut_work test h (bit q.node.0) (value_of q.guard) (value_of q.value)) work
   ask_within k q h false l is e within g (j, lt, same) = absurd (omega arith)
   ask_within k q h true l is e within g (zero, lt, same) =
       subst (λ (x : Function). Contains work x) same
@@ -128,32 +128,32 @@ module _ (f : Function) (bit : ℕ → Function) (time : ℕ) (quints : List Qui
   ask_within k q h true l is e within g (suc (suc (suc j)), lt, same) = absurd (omega arith)
 
   -- one more
-  pub ask_turn : (nets : ℕ) (refs : List Ref) (asks : List Ask) (s t u : Store) (k : ℕ) (ask : Ask) (r sum : Ref) (result : Result Ref OpFault) → IsGood s → IsGood t → IsGood u → k < length asks → ask ≡ get_or asks k ask → ask.node.0 < nets → r ≡ net_ref refs ask.node.0
-      → AreBits s nets bit refs → AreAsks s quints asks → SoFar work s t
+  pub ask_turn : (nets : ℕ) (refs : List Ref) (timed_cuts : List TimedCut) (s t u : Store) (k : ℕ) (timed_cut : TimedCut) (r sum : Ref) (result : Result Ref OpFault) → IsGood s → IsGood t → IsGood u → k < length timed_cuts → timed_cut ≡ get_or timed_cuts k timed_cut → timed_cut.node.0 < nets → r ≡ net_ref refs timed_cut.node.0
+      → AreBits s nets bit refs → AreTimedCuts s quints timed_cuts → SoFar work s t
       → Leads disjunction target work (broken_at bit (symbolic_cuts_at (drop k quints) time)) t sum
-      → ((h b g x : Function) → Means t h sum → Means t b r → Means t g ask.guard → Means t x ask.value → Built (ask_work (runs_at time ask) h b g x) (HasFunction (whole disjunction h (only_if (runs_at time ask) (broken b g x)))) t u result)
+      → ((h b g x : Function) → Means t h sum → Means t b r → Means t g timed_cut.guard → Means t x timed_cut.value → Built (timed_cut_work (runs_at time timed_cut) h b g x) (HasFunction (whole disjunction h (only_if (runs_at time timed_cut) (broken b g x)))) t u result)
       → Built work (Leads disjunction target work (broken_at bit (symbolic_cuts_at (drop (k + 1) quints) time))) s u result
-  ask_turn nets refs asks s t u k ask r sum result ds dt du l is inside is_r bits zip so leads call =
-      let some : Quint = first_of quints k (let long = zip_long (IsAsk s) quints asks zip in omega (arith, l, long)) in
+  ask_turn nets refs timed_cuts s t u k timed_cut r sum result ds dt du l is inside is_r bits zip so leads call =
+      let some : Quint = first_of quints k (let long = zip_long (IsTimedCut s) quints timed_cuts zip in omega (arith, l, long)) in
       let q : Quint = get_or quints k some in
-      let lq : k < length quints = let long = zip_long (IsAsk s) quints asks zip in omega (arith, l, long) in
+      let lq : k < length quints = let long = zip_long (IsTimedCut s) quints timed_cuts zip in omega (arith, l, long) in
       let is_q : q ≡ get_or quints k q = sym (get_or_default quints k q some lq) in
-      let fits : IsAsk s q ask = subst (λ (a : Ask). IsAsk s q a) (sym is) (zip_at (IsAsk s) quints asks k some ask zip l) in
-      let now : IsAsk t q ask = ask_keeps s t q ask ds dt so.keeps fits in
-      let node : ask.node.0 ≡ q.node.0 = ap (λ n. n.0) fits.node in
-      let runs : runs_at time ask ≡ has_time time q = ap (λ (n : ℕ). nat_le n time && nat_lt time ask.to) fits.from ∙ ap (λ (n : ℕ). nat_le q.from time && nat_lt time n) fits.to in
+      let fits : IsTimedCut s q timed_cut = subst (λ (a : TimedCut). IsTimedCut s q a) (sym is) (zip_at (IsTimedCut s) quints timed_cuts k some timed_cut zip l) in
+      let now : IsTimedCut t q timed_cut = ask_keeps s t q timed_cut ds dt so.keeps fits in
+      let node : timed_cut.node.0 ≡ q.node.0 = ap (λ n. n.0) fits.node in
+      let runs : runs_at time timed_cut ≡ has_time time q = ap (λ (n : ℕ). nat_le n time && nat_lt time timed_cut.to) fits.from ∙ ap (λ (n : ℕ). nat_le q.from time && nat_lt time n) fits.to in
       let rest : List Function = broken_at bit (symbolic_cuts_at (drop (k + 1) quints) time) in
       let next : k + 1 ≡ suc k = omega arith in
       let quints_are : drop k quints ≡ q ∷ drop (k + 1) quints = drop-cons quints k some lq ∙ ap (λ (j : ℕ). q ∷ drop j quints) (sym next) in
       let split : broken_at bit (symbolic_cuts_at (drop k quints) time) ≡ only_if (has_time time q) (is_broken bit (symbolic_cut q)) ++ rest = ap (λ (xs : List Quint). broken_at bit (symbolic_cuts_at xs time)) quints_are ∙ cuts_cons bit time q (drop (k + 1) quints) in
       let means : Means t (bit q.node.0) r =
-      subst (λ (x : Ref). Means t (bit q.node.0) x) (sym is_r) (subst (λ (i : ℕ). Means t (bit i) (net_ref refs ask.node.0)) node (Means-keeps s t (bit ask.node.0) (net_ref refs ask.node.0) ds dt so.keeps (bits ask.node.0 inside))) in
+      subst (λ (x : Ref). Means t (bit q.node.0) x) (sym is_r) (subst (λ (i : ℕ). Means t (bit i) (net_ref refs timed_cut.node.0)) node (Means-keeps s t (bit timed_cut.node.0) (net_ref refs timed_cut.node.0) ds dt so.keeps (bits timed_cut.node.0 inside))) in
       leads_on disjunction target work (only_if (has_time time q) (is_broken bit (symbolic_cut q))) rest s t u sum result dt du so
       (subst (λ (xs : List Function). Leads disjunction target work xs t sum) split leads)
       (λ h m within.
-      Built-wider work (ask_work (has_time time q) h (bit q.node.0) (value_of q.guard) (value_of q.value)) (HasFunction (whole disjunction h (only_if (has_time time q) (is_broken bit (symbolic_cut q))))) t u result
+      Built-wider work (timed_cut_work (has_time time q) h (bit q.node.0) (value_of q.guard) (value_of q.value)) (HasFunction (whole disjunction h (only_if (has_time time q) (is_broken bit (symbolic_cut q))))) t u result
       (ask_within k q h (has_time time q) lq is_q refl within)
-      (subst (λ (o : Bool). Built (ask_work o h (bit q.node.0) (value_of q.guard) (value_of q.value)) (HasFunction (whole disjunction h (only_if o (is_broken bit (symbolic_cut q))))) t u result) runs
+      (subst (λ (o : Bool). Built (timed_cut_work o h (bit q.node.0) (value_of q.guard) (value_of q.value)) (HasFunction (whole disjunction h (only_if o (is_broken bit (symbolic_cut q))))) t u result) runs
       (call h (bit q.node.0) (value_of q.guard) (value_of q.value) m means now.guard now.value)))
     where
       first_of : (xs : List Quint) (j : ℕ) → j < length xs → Quint

@@ -5,7 +5,7 @@ use Rattle.std.proofs.Math.Nat.{suc-mul, mul-le-mul_right, zero-mul}
 use Rattle.std.proofs.lemmas.Bool.{cases_lt}
 use Rattle.std.proofs.lemmas.List.Elements.{Contains-append_left, Contains-append_right, Contains-append_cases}
 use Rattle.dd_nodes.specs.declared.node.Ref.{Ref}
-use Rattle.dd_nodes.specs.Diagram.{Function}
+use Rattle.ste_base.specs.Functions.{Function}
 use Rattle.dd_nodes.specs.Stores.{Store, Means}
 use Rattle.dd_nodes.proofs.Stores.{IsGood, Means-keeps}
 use Rattle.dd_ops.specs.declared.fault.OpFault.{OpFault}
@@ -20,7 +20,7 @@ use Rattle.dual_rail.proofs.Works.{SoFar, So-start, Within, Built-good, Built-wi
 use Rattle.exact_model.specs.Choices.{choices}
 use Rattle.exact_model.specs.ExactWork.{all_broken, all_differ, counter_where, differs, exact_work, exactly_contradictory_where, exactly_strong_where, met_where, some_choices}
 use Rattle.exact_engine.specs.declared.results.Broken.{Broken}
-use Rattle.exact_engine.specs.private.Asks.{AreBothAdded, both_added, broken_at, cuts_added}
+use Rattle.exact_engine.specs.private.TimedCuts.{AreBothAdded, both_added, broken_at, cuts_added}
 use Rattle.exact_engine.specs.private.Bits.{time_work}
 use Rattle.exact_engine.specs.private.Counts.{first_count, open_count}
 use Rattle.exact_engine.specs.private.Sources.{IsFirstTime, IsNextTime}

@@ -7,7 +7,8 @@ use Rattle.std.proofs.lemmas.List.{drop-append-le, drop-take, get_or-take, get_o
 use Rattle.std.proofs.Math.Seq.{drop-append_seam}
 use Rattle.dd_nodes.specs.declared.node.Ref.{Ref}
 use Rattle.dd_nodes.specs.declared.node.Node.{Node}
-use Rattle.dd_nodes.specs.Diagram.{Function, IsCofactor, IsFrom, same_ref}
+use Rattle.ste_base.specs.Functions.{Function}
+use Rattle.dd_nodes.specs.Diagram.{IsCofactor, IsFrom, same_ref}
 use Rattle.dd_nodes.specs.Stores.{Store, IsRef, Keeps, Means, function}
 use Rattle.dd_nodes.specs.Spending.{Has}
 use Rattle.dd_nodes.proofs.Spending.{Means-same}

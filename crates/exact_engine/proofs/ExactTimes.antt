@@ -5,12 +5,12 @@ use Rattle.std.proofs.Math.Nat.{mul-le-mul_right, suc-mul, zero-mul}
 use Rattle.std.proofs.lemmas.Bool.{cases_lt}
 use Rattle.std.proofs.lemmas.List.{get_or-append-add, get_or_append_left, get_or-drop, get_or-map, get_or-take, length-take}
 use Rattle.net_core.specs.declared.raw.RawNet.{RawNet}
-use Rattle.net_core.specs.Work.{Function}
+use Rattle.ste_base.specs.Functions.{Function}
 use Rattle.ste_model.specs.declared.task.Assertion.{Assertion}
 use Rattle.ste_model.specs.Asked.{depth}
 use Rattle.exact_model.specs.Choices.{Cell, cells_at, choices, input_cells}
 use Rattle.exact_model.specs.ExactWork.{AreExactBits}
-use Rattle.exact_model.specs.Wider.{widened}
+use Rattle.exact_model.specs.Wider.{bits_over_more}
 use Rattle.exact_engine.specs.private.Counts.{first_count, first_test, open_count, open_test}
 use Rattle.exact_engine.specs.private.Sources.{AreChoices, IsVariable}
 use Rattle.exact_engine.specs.private.Times.{AreTimes, choice_at}
@@ -90,7 +90,7 @@ module _ (net : RawNet) (vars : ℕ) (task : Assertion) (bit : ℕ → ℕ → F
   front_long bits l = simp (length-take) (omega (arith, l, room))
 
   -- the bit at the choice of some place is the variable behind the first ones by this place
-  at_place : (p t id : ℕ) → p < length (choices net task) → ((d : Cell) → get_or (choices net task) p d ≡ cell t id) → IsVariable total (vars + p) (widened width bit t id)
+  at_place : (p t id : ℕ) → p < length (choices net task) → ((d : Cell) → get_or (choices net task) p d ≡ cell t id) → IsVariable total (vars + p) (bits_over_more width bit t id)
   at_place p t id l is bits long =
       let all : List Bool = take width bits in
       let some : Cell = cell 0 0 in
@@ -99,16 +99,16 @@ module _ (net : RawNet) (vars : ℕ) (task : Assertion) (bit : ℕ → ℕ → F
       ∙ ap (λ (xs : List Bool). get_or xs p false) (exact.chosen all (front_long bits long))
       ∙ get_or-drop vars all p false ∙ get_or-take width bits (vars + p) false (omega (arith, l))
 
-  moved : (a b t id : ℕ) → a ≡ b → IsVariable total a (widened width bit t id) → IsVariable total b (widened width bit t id)
-  moved a b t id e h = subst (λ (k : ℕ). IsVariable total k (widened width bit t id)) e h
+  moved : (a b t id : ℕ) → a ≡ b → IsVariable total a (bits_over_more width bit t id) → IsVariable total b (bits_over_more width bit t id)
+  moved a b t id e h = subst (λ (k : ℕ). IsVariable total k (bits_over_more width bit t id)) e h
 
-  firsts_are : AreChoices total (first_test net task.reset) net.nets vars (widened width bit 0)
+  firsts_are : AreChoices total (first_test net task.reset) net.nets vars (bits_over_more width bit 0)
   firsts_are id l h =
       let long = choices_long net task in
       let below = cells_below (first_test net task.reset) 0 id net.nets l h in
       at_place (length (cells_at (first_test net task.reset) 0 id)) 0 id (omega (arith, long, below)) (λ d. first_spot net task id d l h)
 
-  inputs_are : (t : ℕ) → t < depth task → AreChoices total (open_test net) net.nets (choice_at net vars task t) (widened width bit t)
+  inputs_are : (t : ℕ) → t < depth task → AreChoices total (open_test net) net.nets (choice_at net vars task t) (bits_over_more width bit t)
   inputs_are t lt id l h =
       let long = choices_long net task in
       let q : ℕ = length (cells_at (open_test net) 0 id) in
@@ -119,7 +119,7 @@ module _ (net : RawNet) (vars : ℕ) (task : Assertion) (bit : ℕ → ℕ → F
       moved (vars + place) (choice_at net vars task t + q) t id (omega arith)
       (at_place place t id (omega (arith, long, below, next, most)) (λ d. input_spot net task t id d lt l h))
 
-  pub are_times : AreTimes total net vars task (widened width bit)
+  pub are_times : AreTimes total net vars task (bits_over_more width bit)
   are_times = record {
     gates = λ t l bits long. (exact.is_run (take width bits) (front_long bits long)).is_run.gates t l;
     first = λ l. record {

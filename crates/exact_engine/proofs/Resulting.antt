@@ -5,7 +5,7 @@ use Rattle.std.specs.List.{AllPairs}
 use Rattle.std.proofs.Math.Seq.{take-append-add, take-length}
 use Rattle.std.proofs.lemmas.List.{length-append, length-take}
 use Rattle.std.proofs.lemmas.List.Elements.{All-contains}
-use Rattle.dd_nodes.specs.Diagram.{Function}
+use Rattle.ste_base.specs.Functions.{Function}
 use Rattle.dd_nodes.specs.Functions.{node_count}
 use Rattle.dd_nodes.specs.Spending.{Has, Spends}
 use Rattle.dd_nodes.specs.Stores.{Store, function}
@@ -23,7 +23,7 @@ use Rattle.exact_model.specs.Choices.{bits_at, choices}
 use Rattle.exact_model.specs.Exact.{IsExactlyContradictory, IsExactlyStrong, IsSoundFor}
 use Rattle.exact_model.specs.ExactNeed.{IsExactNeed}
 use Rattle.exact_model.specs.ExactWork.{AreExactBits, all_broken, counter_where, exact_work, exactly_contradictory_where, exactly_strong_where, met_where, some_bits, some_choices}
-use Rattle.exact_model.specs.Wider.{IsOfFirst, widened}
+use Rattle.exact_model.specs.Wider.{IsOfFirst, bits_over_more}
 use Rattle.exact_model.proofs.ExactFindings.{exact_results_are_findings}
 use Rattle.exact_model.proofs.WiderNeeds.{wider_needs_as_many, work_first}
 use Rattle.exact_engine.specs.declared.results.ExactResults.{ExactResults}
@@ -60,7 +60,7 @@ module _ (net : RawNet) (vars : ℕ) (task : Assertion) (bit : ℕ → ℕ → F
   w = length (choices net task)
 
   abbrev pub wide : ℕ → ℕ → Function
-  wide = widened (vars + w) bit
+  wide = bits_over_more (vars + w) bit
 
   abbrev pub work : List Function
   work = exact_work net vars task wide

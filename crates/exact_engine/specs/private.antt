@@ -3,7 +3,7 @@ pub mod Counts
 pub mod Joined
 pub mod Bits
 pub mod Sources
-pub mod Asks
+pub mod TimedCuts
 pub mod Asking
 pub mod Times
 pub mod Choosing

@@ -1,17 +1,17 @@
 //! Where the quintuples of one time are broken; begin with `add_both`.
 
 ghost use Rattle.std.specs.Prelude.{◌≡◌, ◌<◌, ℕ, List, All, IfOk, length};
-ghost use Rattle.dd_nodes.specs.Diagram.{Function};
+ghost use Rattle.ste_base.specs.Functions.{Function};
 ghost use Rattle.dd_nodes.specs.Stores.{IsRef, Keeps, Means};
 ghost use Rattle.net_core.specs.Work.{disjunction, whole};
 ghost use Rattle.ste_model.specs.declared.task.Quint.{Quint};
 ghost use Rattle.ste_model.specs.Work.{symbolic_cuts_at};
 ghost use Rattle.dual_rail.specs.Rail.{Built, HasFunction};
-ghost use Rattle.exact_engine.specs.private.Asks.{AreAsks, AreBothAdded, IsAskRef, ask_work, broken, both_added, broken_at, broken_work, cuts_added, only_if, runs_at};
+ghost use Rattle.exact_engine.specs.private.TimedCuts.{AreTimedCuts, AreBothAdded, IsTimedCutRef, timed_cut_work, broken, both_added, broken_at, broken_work, cuts_added, only_if, runs_at};
 ghost use Rattle.exact_engine.specs.private.Bits.{AreBits};
 
-use crate::ask::Ask;
 use crate::results::Broken;
+use crate::timed_cut::TimedCut;
 use dd_nodes::{Nodes, Ref};
 use dd_ops::{OpFault, Ops};
 use dual_rail::{both, either};
@@ -42,32 +42,32 @@ fn add_broken<N: Nodes>(
 }
 
 /// The same where the quintuple has the time, and else the sum so far.
-fn add_ask<N: Nodes>(
+fn add_timed_cut<N: Nodes>(
     ops: &Ops,
     nodes: &mut N,
     sum: Ref,
-    ask: Ask,
+    timed_cut: TimedCut,
     time: Time,
     bit: Ref,
 ) -> Result<Ref, OpFault>
     requires sum { IsRef (N.store nodes.old) sum }
-    requires guard { IsRef (N.store nodes.old) ask.guard }
-    requires value { IsRef (N.store nodes.old) ask.value }
+    requires guard { IsRef (N.store nodes.old) timed_cut.guard }
+    requires value { IsRef (N.store nodes.old) timed_cut.value }
     requires bit { IsRef (N.store nodes.old) bit }
     ensures { (f b g x : Function)
         → Means (N.store nodes.old) f sum → Means (N.store nodes.old) b bit
-        → Means (N.store nodes.old) g ask.guard → Means (N.store nodes.old) x ask.value
-        → Built (ask_work (runs_at time ask) f b g x)
-        (HasFunction (whole disjunction f (only_if (runs_at time ask) (broken b g x))))
+        → Means (N.store nodes.old) g timed_cut.guard → Means (N.store nodes.old) x timed_cut.value
+        → Built (timed_cut_work (runs_at time timed_cut) f b g x)
+        (HasFunction (whole disjunction f (only_if (runs_at time timed_cut) (broken b g x))))
         (N.store nodes.old) (N.store nodes.new) result }
 {
-    if time < ask.from {
+    if time < timed_cut.from {
         return Ok(sum);
     }
-    if ask.to <= time {
+    if timed_cut.to <= time {
         return Ok(sum);
     }
-    add_broken(ops, nodes, sum, ask.guard, ask.value, bit)
+    add_broken(ops, nodes, sum, timed_cut.guard, timed_cut.value, bit)
 }
 
 /// The sum so far with where the quintuples that have the time are broken, in text order.
@@ -75,17 +75,17 @@ fn add_time<N: Nodes>(
     ops: &Ops,
     nodes: &mut N,
     sum: Ref,
-    asks: &[Ask],
+    timed_cuts: &[TimedCut],
     time: Time,
     bits: &[Ref],
 ) -> Result<Ref, OpFault>
     requires sum { IsRef (N.store nodes.old) sum }
-    requires asks { All (IsAskRef (N.store nodes.old) (length bits.now)) asks.now }
+    requires timed_cuts { All (IsTimedCutRef (N.store nodes.old) (length bits.now)) timed_cuts.now }
     requires refs { All (IsRef (N.store nodes.old)) bits.now }
     ensures built { (f : Function) (bit : ℕ → Function) (quints : List Quint)
         → Means (N.store nodes.old) f sum
         → AreBits (N.store nodes.old) (length bits.now) bit bits.now
-        → AreAsks (N.store nodes.old) quints asks.now
+        → AreTimedCuts (N.store nodes.old) quints timed_cuts.now
         → Built (cuts_added f bit (symbolic_cuts_at quints time))
         (HasFunction (whole disjunction f (broken_at bit (symbolic_cuts_at quints time))))
         (N.store nodes.old) (N.store nodes.new) result }
@@ -93,14 +93,14 @@ fn add_time<N: Nodes>(
     ensures held { IfOk result (λ r. IsRef (N.store nodes.new) r) }
 {
     let mut sum = sum;
-    for k in 0..asks.len() {
-        sum = add_ask(
+    for k in 0..timed_cuts.len() {
+        sum = add_timed_cut(
             ops,
             nodes,
             sum,
-            asks[k],
+            timed_cuts[k],
             time,
-            bits[asks[k].node.0 as usize],
+            bits[timed_cuts[k].node.0 as usize],
         )?;
     }
     Ok(sum)
@@ -111,20 +111,21 @@ pub fn add_both<N: Nodes>(
     ops: &Ops,
     nodes: &mut N,
     sums: Broken,
-    ant: &[Ask],
-    con: &[Ask],
+    ant: &[TimedCut],
+    con: &[TimedCut],
     time: Time,
     bits: &[Ref],
 ) -> Result<Broken, OpFault>
     requires ant_sum { IsRef (N.store nodes.old) sums.ant }
     requires con_sum { IsRef (N.store nodes.old) sums.con }
-    requires ant { All (IsAskRef (N.store nodes.old) (length bits.now)) ant.now }
-    requires con { All (IsAskRef (N.store nodes.old) (length bits.now)) con.now }
+    requires ant { All (IsTimedCutRef (N.store nodes.old) (length bits.now)) ant.now }
+    requires con { All (IsTimedCutRef (N.store nodes.old) (length bits.now)) con.now }
     requires refs { All (IsRef (N.store nodes.old)) bits.now }
     ensures built { (f h : Function) (bit : ℕ → Function) (one two : List Quint)
         → Means (N.store nodes.old) f sums.ant → Means (N.store nodes.old) h sums.con
         → AreBits (N.store nodes.old) (length bits.now) bit bits.now
-        → AreAsks (N.store nodes.old) one ant.now → AreAsks (N.store nodes.old) two con.now
+        → AreTimedCuts (N.store nodes.old) one ant.now
+        → AreTimedCuts (N.store nodes.old) two con.now
         → Built (both_added f h bit (symbolic_cuts_at one time) (symbolic_cuts_at two time))
         (AreBothAdded f h bit (symbolic_cuts_at one time) (symbolic_cuts_at two time))
         (N.store nodes.old) (N.store nodes.new) result }

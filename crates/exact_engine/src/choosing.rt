@@ -2,7 +2,8 @@
 
 ghost use Rattle.std.specs.Prelude.{◌≡◌, ◌<◌, ◌≤◌, ◌+◌, ◌∷◌, [], Some, OnOk, cond};
 ghost use Rattle.std.specs.HashMap.{get};
-ghost use Rattle.dd_nodes.specs.Diagram.{Function, IsFrom, same_ref};
+ghost use Rattle.ste_base.specs.Functions.{Function};
+ghost use Rattle.dd_nodes.specs.Diagram.{IsFrom, same_ref};
 ghost use Rattle.dd_nodes.specs.Stores.{IsRef};
 ghost use Rattle.dd_ops.specs.Answer.{Answer};
 ghost use Rattle.dd_ops.specs.Splitting.{Splits};

@@ -1,7 +1,7 @@
 //! The engine; begin with `exact_results`.
 
 ghost use Rattle.std.specs.Prelude.{◌≡◌, ◌<◌, ◌≤◌, ◌+◌, ℕ, All, Err, IfOk, length};
-ghost use Rattle.dd_nodes.specs.Diagram.{Function};
+ghost use Rattle.ste_base.specs.Functions.{Function};
 ghost use Rattle.dd_nodes.specs.Stores.{Keeps};
 ghost use Rattle.dd_ops.specs.declared.fault.OpFault.TheVariants.{StepsOut};
 ghost use Rattle.dual_rail.specs.Rail.{Built};
@@ -9,12 +9,12 @@ ghost use Rattle.ste_model.specs.Need.{ReadBelow};
 ghost use Rattle.exact_model.specs.Choices.{choices};
 ghost use Rattle.exact_model.specs.ExactNeed.{IsExactNeed};
 ghost use Rattle.exact_model.specs.ExactWork.{AreExactBits, exact_work};
-ghost use Rattle.exact_model.specs.Wider.{widened};
+ghost use Rattle.exact_model.specs.Wider.{bits_over_more};
 ghost use Rattle.exact_engine.specs.Results.{AreExactRefs, TellExactly};
 
-use crate::asks::asks_of;
 use crate::finishing::finish;
 use crate::results::ExactResults;
+use crate::timed_cuts::timed_cuts_of;
 use crate::times::broken_sums;
 use dd_nodes::Nodes;
 use dd_ops::{OpFault, Ops};
@@ -38,13 +38,13 @@ fn results<N: Nodes>(
     requires room { vars + length (choices net.now.raw task.now) ≤ (N.store nodes.old).vars }
     ensures { (bit : ℕ → ℕ → Function) → AreExactBits net.now.raw vars task.now bit
         → Built (exact_work net.now.raw vars task.now
-        (widened (vars + length (choices net.now.raw task.now)) bit))
+        (bits_over_more (vars + length (choices net.now.raw task.now)) bit))
         (AreExactRefs net.now.raw vars task.now
-        (widened (vars + length (choices net.now.raw task.now)) bit))
+        (bits_over_more (vars + length (choices net.now.raw task.now)) bit))
         (N.store nodes.old) (N.store nodes.new) result }
 {
-    let ant = asks_of(alloc, ops, nodes, task.ant.as_slice())?;
-    let con = asks_of(alloc, ops, nodes, task.con.as_slice())?;
+    let ant = timed_cuts_of(alloc, ops, nodes, task.ant.as_slice())?;
+    let con = timed_cuts_of(alloc, ops, nodes, task.con.as_slice())?;
     let broken = broken_sums(
         alloc,
         ops,
@@ -85,9 +85,9 @@ pub fn exact_results<N: Nodes>(
     // Only nodes of the exact work functions are made, and steps are out only where one is missing.
     ensures built { (bit : ℕ → ℕ → Function) → AreExactBits net.now.raw vars task.now bit
         → Built (exact_work net.now.raw vars task.now
-        (widened (vars + length (choices net.now.raw task.now)) bit))
+        (bits_over_more (vars + length (choices net.now.raw task.now)) bit))
         (AreExactRefs net.now.raw vars task.now
-        (widened (vars + length (choices net.now.raw task.now)) bit))
+        (bits_over_more (vars + length (choices net.now.raw task.now)) bit))
         (N.store nodes.old) (N.store nodes.new) result }
 
     // What was held stays, and so does the limit.

@@ -1,7 +1,7 @@
 //! The results of all times; begin with `finish`.
 
 ghost use Rattle.std.specs.Prelude.{◌≡◌, ◌≤◌, ◌-◌};
-ghost use Rattle.dd_nodes.specs.Diagram.{Function};
+ghost use Rattle.ste_base.specs.Functions.{Function};
 ghost use Rattle.dd_nodes.specs.Stores.{IsRef, Means};
 ghost use Rattle.dual_rail.specs.Rail.{Built};
 ghost use Rattle.exact_engine.specs.private.Finishing.{AreResults, finish_work};

@@ -1,7 +1,7 @@
 //! The bits of gates, from those of their inputs; begin with `cover_ref`.
 
 ghost use Rattle.std.specs.Prelude.{◌≡◌, ◌<◌, ℕ, All, Some, length};
-ghost use Rattle.dd_nodes.specs.Diagram.{Function};
+ghost use Rattle.ste_base.specs.Functions.{Function};
 ghost use Rattle.dd_nodes.specs.Stores.{IsRef, Means};
 ghost use Rattle.net_core.specs.Work.{AreWide, chain, conjunction, disjunction, product, products, sum, whole};
 ghost use Rattle.dual_rail.specs.Rail.{Built, HasFunction};

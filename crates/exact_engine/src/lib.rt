@@ -3,8 +3,6 @@
 #![tactic(auto)]
 
 mod adding;
-pub mod ask;
-mod asks;
 mod choosing;
 mod counting;
 pub mod engine;
@@ -13,6 +11,8 @@ mod gates;
 pub mod results;
 mod settling;
 mod sources;
+pub mod timed_cut;
+mod timed_cuts;
 mod times;
 
 pub use counting::choices;

@@ -2,7 +2,7 @@
 
 ghost use Rattle.std.specs.Prelude.{◌≡◌, ℕ, All, IfOk, length};
 ghost use Rattle.std.specs.declared.vec.Vec.{Vec};
-ghost use Rattle.dd_nodes.specs.Diagram.{Function};
+ghost use Rattle.ste_base.specs.Functions.{Function};
 ghost use Rattle.dd_nodes.specs.Stores.{IsRef, Keeps};
 ghost use Rattle.dual_rail.specs.Rail.{Built};
 ghost use Rattle.exact_engine.specs.private.Bits.{AreBits, AreSources, FollowGates, time_work};

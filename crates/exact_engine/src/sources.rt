@@ -3,7 +3,7 @@
 
 ghost use Rattle.std.specs.Prelude.{◌≡◌, ◌<◌, ◌≤◌, ◌+◌, ℕ, Bool, List, All, IfOk, IsTrue, Some, length, ◌∷◌, [], if◌then◌else◌, slice_index_or};
 ghost use Rattle.std.specs.declared.vec.Vec.{Vec};
-ghost use Rattle.dd_nodes.specs.Diagram.{Function};
+ghost use Rattle.ste_base.specs.Functions.{Function};
 ghost use Rattle.dd_nodes.specs.Stores.{IsRef, Keeps};
 ghost use Rattle.dual_rail.specs.Rail.{Built, HasFunction};
 ghost use Rattle.exact_model.specs.Choices.{starts_free};

@@ -2,24 +2,24 @@
 
 ghost use Rattle.std.specs.Prelude.{◌≡◌, ◌<◌, ◌≤◌, ◌+◌, ℕ, All, IfOk, length, suc};
 ghost use Rattle.std.specs.declared.vec.Vec.{Vec};
-ghost use Rattle.dd_nodes.specs.Diagram.{Function};
+ghost use Rattle.ste_base.specs.Functions.{Function};
 ghost use Rattle.dd_nodes.specs.Stores.{IsRef, Keeps};
 ghost use Rattle.dual_rail.specs.Rail.{Built};
 ghost use Rattle.ste_model.specs.Asked.{depth as depth_of};
 ghost use Rattle.exact_model.specs.Choices.{choices};
 ghost use Rattle.exact_model.specs.ExactWork.{exact_work};
-ghost use Rattle.exact_engine.specs.private.Asks.{AreAsks, IsAskRef};
+ghost use Rattle.exact_engine.specs.private.TimedCuts.{AreTimedCuts, IsTimedCutRef};
 ghost use Rattle.exact_engine.specs.private.Bits.{AreBits, FollowGates, time_work};
 ghost use Rattle.exact_engine.specs.private.Counts.{first_count, open_count};
 ghost use Rattle.exact_engine.specs.private.Sources.{IsFirstTime, IsNextTime};
 ghost use Rattle.exact_engine.specs.private.Times.{AreSums, AreTimes, choice_at};
 
 use crate::adding::add_both;
-use crate::ask::Ask;
 use crate::counting::{first_count, open_count};
 use crate::results::Broken;
 use crate::settling::settle;
 use crate::sources::{first_sources, next_sources};
+use crate::timed_cut::TimedCut;
 use dd_nodes::{Nodes, Ref};
 use dd_ops::{OpFault, Ops};
 use net_core::Net;
@@ -132,17 +132,17 @@ pub fn broken_sums<N: Nodes>(
     nodes: &mut N,
     net: &Net,
     task: &Assertion,
-    ant: &[Ask],
-    con: &[Ask],
+    ant: &[TimedCut],
+    con: &[TimedCut],
     vars: u32,
 ) -> Result<Broken, OpFault>
     requires room { vars + length (choices net.now.raw task.now) ≤ (N.store nodes.old).vars }
-    requires ant { All (IsAskRef (N.store nodes.old) net.now.raw.nets) ant.now }
-    requires con { All (IsAskRef (N.store nodes.old) net.now.raw.nets) con.now }
+    requires ant { All (IsTimedCutRef (N.store nodes.old) net.now.raw.nets) ant.now }
+    requires con { All (IsTimedCutRef (N.store nodes.old) net.now.raw.nets) con.now }
     ensures built { (bit : ℕ → ℕ → Function)
         → AreTimes (N.store nodes.old).vars net.now.raw vars task.now bit
-        → AreAsks (N.store nodes.old) task.now.ant ant.now
-        → AreAsks (N.store nodes.old) task.now.con con.now
+        → AreTimedCuts (N.store nodes.old) task.now.ant ant.now
+        → AreTimedCuts (N.store nodes.old) task.now.con con.now
         → Built (exact_work net.now.raw vars task.now bit)
         (λ t broken. AreSums t task.now bit (depth_of task.now) broken)
         (N.store nodes.old) (N.store nodes.new) result }

@@ -127,7 +127,7 @@ type Set = [bool; 4];
 
 /// The exactly strong and the exactly contradictory assignments, and how many steps were used.
 #[derive(Clone, Copy, PartialEq, Eq, Drop)]
-struct Told {
+struct Reported {
     strong: Set,
     contradictory: Set,
     used: u32,
@@ -163,28 +163,28 @@ fn set_of(nodes: &mut PlainNodes, r: Ref) -> Set
     [none, last, first, both]
 }
 
-/// What the results tell.
-fn told_of(nodes: &mut PlainNodes, r: ExactResults) -> Told
+/// What the results say.
+fn results_of(nodes: &mut PlainNodes, r: ExactResults) -> Reported
     requires strong { IsRef (⟦<PlainNodes as Nodes>⟧.store nodes.old) r.strong }
     requires contradictory { IsRef (⟦<PlainNodes as Nodes>⟧.store nodes.old) r.contradictory }
     requires vars { (⟦<PlainNodes as Nodes>⟧.store nodes.old).vars ≡ 8 }
 {
     let strong = set_of(nodes, r.strong);
     let contradictory = set_of(nodes, r.contradictory);
-    Told {
+    Reported {
         strong,
         contradictory,
         used: nodes.used(),
     }
 }
 
-/// What is told of a task with so many steps; none where they are out.
-fn told_with(
+/// What is reported for a task with so many steps; none where they are out.
+fn results_with(
     alloc: Global,
     ready: &Ready,
     task: &Assertion,
     steps: u32,
-) -> Result<Option<Told>, Fail>
+) -> Result<Option<Reported>, Fail>
     requires steps { steps ≤ 1000 }
     requires ant { All (λ quint. quint.node.0 < ready.now.net.raw.nets) task.now.ant }
     requires con { All (λ quint. quint.node.0 < ready.now.net.raw.nets) task.now.con }
@@ -196,7 +196,7 @@ fn told_with(
     }
     let mut nodes = PlainNodes::new(alloc, 8, steps)?;
     match exact_results(alloc, &mut nodes, &ready.net, task, 2) {
-        Ok(r) => Ok(Some(told_of(&mut nodes, r))),
+        Ok(r) => Ok(Some(results_of(&mut nodes, r))),
         Err(OpFault::StepsOut) => Ok(None),
         Err(OpFault::OutOfMemory) => Err("no memory".into()),
     }
@@ -226,7 +226,7 @@ fn task_of(
     })
 }
 
-/// A net by its text, a task, its choices, its exact need, and what has to be told.
+/// A net by its text, a task, its choices, its exact need, and what has to be reported.
 type Case = (
     &'static str,
     bool,
@@ -363,12 +363,12 @@ fn has_results(
     requires con_reads { ReadBelow 2 task.now.con }
 {
     for steps in 0..40 {
-        match told_with(alloc, ready, task, steps)? {
-            Some(told) => {
-                if told.strong != strong || told.contradictory != contradictory {
+        match results_with(alloc, ready, task, steps)? {
+            Some(reported) => {
+                if reported.strong != strong || reported.contradictory != contradictory {
                     return Ok(false);
                 }
-                if told.used > steps {
+                if reported.used > steps {
                     return Ok(false);
                 }
             }

@@ -6,7 +6,8 @@ use Rattle.std.proofs.lemmas.List.{get_or_default}
 use Rattle.std.proofs.lemmas.List.Elements.{All-contains, All-head, All-tail}
 use Rattle.bool_expr.specs.Value.{flips, value_of}
 use Rattle.net_core.specs.Run.{Cut}
-use Rattle.net_core.specs.Work.{Function, SymbolicCut, sum}
+use Rattle.ste_base.specs.Functions.{Function}
+use Rattle.net_core.specs.Work.{SymbolicCut, sum}
 use Rattle.net_core.proofs.GateSets.{sum_cons}
 use Rattle.ste_model.specs.declared.task.Assertion.{Assertion}
 use Rattle.ste_model.specs.declared.task.Quint.{Quint}

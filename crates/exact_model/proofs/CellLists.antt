@@ -101,7 +101,7 @@ input_in net task t id l m h =
 abbrev pub Fills : List Cell → Type 0
 Fills cells = (bits : List Bool) → length bits ≡ length cells → (f : ℕ → ℕ → Bool) × (bits_at cells f ≡ bits)
 
--- two lists that a test tells apart
+-- two lists that a test distinguishes
 join : (p : ℕ → ℕ → Bool) (xs ys : List Cell) → All (λ c. p c.time c.net ≡ true) xs → All (λ c. p c.time c.net ≡ false) ys → Fills xs → Fills ys → Fills (xs ++ ys)
 join p xs ys on off fill_xs fill_ys bits long =
     let total = length-append xs ys in

@@ -15,7 +15,7 @@ use Rattle.net_core.specs.Flat.{HasOneDriver, IsInRange}
 use Rattle.net_core.specs.OneRun.{IsGivenRun}
 use Rattle.net_core.specs.Run.{IsInitial, IsSettled, IsUndriven, MayStart}
 use Rattle.net_core.specs.Source.{source_of}
-use Rattle.net_core.specs.Work.{Function}
+use Rattle.ste_base.specs.Functions.{Function}
 use Rattle.net_core.proofs.OneTime.{Facts, facts}
 use Rattle.net_core.proofs.Runs.{one_run}
 use Rattle.ste_model.specs.declared.task.Assertion.{Assertion}

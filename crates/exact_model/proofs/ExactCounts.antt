@@ -17,8 +17,9 @@ use Rattle.net_core.specs.declared.raw.Latch.{Latch}
 use Rattle.net_core.specs.declared.raw.RawNet.{RawNet}
 use Rattle.net_core.specs.Cover.{some_matches}
 use Rattle.net_core.specs.Run.{MayStart, gate_bit}
-use Rattle.net_core.specs.Work.{Function, SymbolicCut, always, conjunction, negation, sum, sums}
-use Rattle.ste_model.specs.Expressions.{SymbolicValue, joined, symbolic_step, symbolic_value}
+use Rattle.ste_base.specs.Functions.{Function}
+use Rattle.net_core.specs.Work.{SymbolicCut, always, conjunction, negation, sum, sums}
+use Rattle.ste_model.specs.Expressions.{SymbolicValue, joined_parts, symbolic_step, symbolic_value}
 use Rattle.ste_model.specs.Holds.{IsTaskRun}
 use Rattle.ste_model.specs.Samples.{and_gate, id_of, one, variable}
 use Rattle.ste_model.specs.Work.{over_times}
@@ -47,7 +48,7 @@ works zero = record { value = always; work = always ∷ [] }
 works (suc zero) = record { value = variable_function 0; work = variable_function 0 ∷ [] }
 works (suc (suc zero)) = record { value = variable_function 1; work = variable_function 1 ∷ [] }
 works (suc (suc (suc zero))) = opposite_value (record { value = variable_function 0; work = variable_function 0 ∷ [] })
-works (suc (suc (suc (suc n)))) = joined conjunction always (record { value = variable_function 0; work = variable_function 0 ∷ [] } ∷ record { value = variable_function 1; work = variable_function 1 ∷ [] } ∷ [])
+works (suc (suc (suc (suc n)))) = joined_parts conjunction always (record { value = variable_function 0; work = variable_function 0 ∷ [] } ∷ record { value = variable_function 1; work = variable_function 1 ∷ [] } ∷ [])
 
 abbrev functions : ℕ → Function
 functions zero = always
@@ -88,7 +89,7 @@ two a b c d e f = ap (λ x. x ∷ b ∷ []) e ∙ ap (λ x. c ∷ x ∷ []) f
 and_works : (e : Expr) → IsAnd e (variable 0) (variable 1) → symbolic_value e ≡ works 4
 and_works e (parts, is, same) =
     ap symbolic_value (is ∙ sym (tree.rolls-All parts)) ∙ fold-roll-Expr SymbolicValue symbolic_step _
-    ∙ ap (joined conjunction always) (ap (map symbolic_value) same ∙ two (symbolic_value (variable 0)) (symbolic_value (variable 1)) (works 1) (works 2) p_works q_works)
+    ∙ ap (joined_parts conjunction always) (ap (map symbolic_value) same ∙ two (symbolic_value (variable 0)) (symbolic_value (variable 1)) (works 1) (works 2) p_works q_works)
 
 and_is : (e : Expr) → IsAnd e (variable 0) (variable 1) → (bits : List Bool) → value_of e bits ≡ functions 4 bits
 and_is e (parts, is, same) bits =

@@ -1,11 +1,12 @@
--- The functions of the exact results tell the exact findings.
+-- The functions of the exact results give the exact findings.
 use Rattle.std.proofs.Common.{◌≡◌, ℕ, zero, suc, ◌+◌, ◌<◌, ◌≤◌, Bool, true, false, List, [], ◌∷◌, ◌++◌, take, drop, length, get_or, arith, refl, sym, ◌∙◌, ap, subst, inl, inr}
 use Rattle.std.specs.Prelude.{All, IsTrue, ◌↔◌, ◌||◌}
 use Rattle.std.proofs.lemmas.Bool.{and_from, and_parts, both_ways, not-true, not_from_false, or_cases, or_left, or_right}
 use Rattle.std.proofs.lemmas.List.{length-append, length-map}
 use Rattle.std.proofs.Math.Seq.{drop-append_seam, take-length}
 use Rattle.net_core.specs.declared.raw.RawNet.{RawNet}
-use Rattle.net_core.specs.Work.{Function, sum}
+use Rattle.ste_base.specs.Functions.{Function}
+use Rattle.net_core.specs.Work.{sum}
 use Rattle.ste_model.specs.declared.task.Assertion.{Assertion}
 use Rattle.ste_model.specs.declared.task.Quint.{Quint}
 use Rattle.ste_model.specs.Asked.{cuts_at, depth}
@@ -139,7 +140,7 @@ module _ (net : RawNet) (vars : ℕ) (task : Assertion) (bit : ℕ → ℕ → F
 pub exact_results_are_findings : ExactResultsAreFindings
 exact_results_are_findings = record { strong = strong_is; contradictory = contradictory_is }
 
--- whether some assignment is exactly strong can be told
+-- whether some assignment is exactly strong can be decided
 verdict_by : (net : RawNet) (vars : ℕ) (task : Assertion) (told : Bool) → (IsTrue told ↔ SomeAssignment vars (IsExactlyStrong net task)) → (verdict : Verdict) × IsExactVerdictOf net vars task verdict
 verdict_by net vars task true tells = (Strong, tells.0 refl)
 verdict_by net vars task false tells = (Pass, λ some. absurd (cc (tells.1 some)))

@@ -12,7 +12,8 @@ use Rattle.net_core.specs.declared.cover.Lit.TheVariants.{Zero, One, Any}
 use Rattle.net_core.specs.declared.raw.Gate.{Gate}
 use Rattle.net_core.specs.declared.raw.RawNet.{RawNet}
 use Rattle.net_core.specs.Flat.{IsInRange}
-use Rattle.net_core.specs.Work.{Function, SymbolicCut, conjunction, disjunction, product}
+use Rattle.ste_base.specs.Functions.{Function}
+use Rattle.net_core.specs.Work.{SymbolicCut, conjunction, disjunction, product}
 use Rattle.ste_model.specs.declared.task.Assertion.{Assertion}
 use Rattle.ste_model.specs.declared.task.Quint.{Quint}
 use Rattle.ste_model.specs.Asked.{depth}

@@ -1,4 +1,4 @@
--- One variable more behind those that functions read doubles each bit, and makes no node.
+-- One more variable behind those that functions read doubles each bit, and makes no node.
 use Rattle.std.proofs.Common.{◌≡◌, ℕ, zero, suc, ◌+◌, ◌≤◌, Bool, true, false, not, cond, List, [], ◌∷◌, ◌++◌, map, take, drop, length, arith, refl, sym, ◌∙◌, ap}
 use Rattle.std.specs.Prelude.{All, ◌||◌}
 use Rattle.std.specs.List.{filter, list_any}
@@ -7,7 +7,7 @@ use Rattle.std.proofs.lemmas.List.{length-append, length-drop, length-map, lengt
 use Rattle.std.proofs.lemmas.List.Elements.{All-head, All-tail, filter-append}
 use Rattle.dd_nodes.specs.Functions.{bits_of, cofactor, cofactors, is_constant, node_count, prefixes, same_bits}
 use Rattle.dd_nodes.proofs.Counts.{bits-same, same_bits-tells}
-use Rattle.net_core.specs.Work.{Function}
+use Rattle.ste_base.specs.Functions.{Function}
 use Rattle.exact_model.specs.Wider.{IsOfFirst, WiderHasAsManyNodes}
 
 -- each bit twice

@@ -28,10 +28,10 @@ use Rattle.ste_model.specs.Asked.{asked_at, cuts_at, depth, weakened_at}
 use Rattle.ste_model.specs.Assignments.{IsBefore}
 use Rattle.ste_model.specs.Found.{IsContradictory, IsEmptySomewhere, IsStrong, IsTableOf, IsWeak}
 use Rattle.ste_model.specs.Runs.{run_of}
-use Rattle.ste_model.specs.Shown.{IsFilled, IsFirst, IsOpen, IsPrinted, IsQuintBindable}
-use Rattle.ste_model.proofs.Due.{due_breaks}
+use Rattle.ste_model.specs.Shown.{IsFilled, IsFirstBit, IsOpen, IsPrinted, IsQuintBindable}
+use Rattle.ste_model.proofs.Due.{due_breaks, weak_open}
 use Rattle.ste_model.proofs.Tables.{some_table}
-use Rattle.ste_model.proofs.Verdicts.{findings_are_told}
+use Rattle.ste_model.proofs.Verdicts.{findings_are_decided}
 use Rattle.exact_model.specs.Bindable.{BindableIsFree, IsBoundOver, PrintedIsLeast}
 use Rattle.exact_model.specs.Choices.{Cell, bits_at, choices, is_first_choice, is_free, starts_free}
 use Rattle.exact_model.specs.Exact.{IsAllowed, IsCounterexample, IsExactlyContradictory, IsExactlyStrong}
@@ -92,7 +92,7 @@ first_zero true init.Zero either = refl
 first_zero true init.One either = absurd (cc (either false refl))
 first_zero true init.Free either = refl
 
-begun : (reset : Bool) (latch : Latch) (cuts : List Cut) (bit : Bool) → IsLeft cuts latch.output.0 bit → MayStart reset latch bit → IsFirst reset latch cuts (begin reset latch cuts) × MayStart reset latch (begin reset latch cuts)
+begun : (reset : Bool) (latch : Latch) (cuts : List Cut) (bit : Bool) → IsLeft cuts latch.output.0 bit → MayStart reset latch bit → IsFirstBit reset latch cuts (begin reset latch cuts) × MayStart reset latch (begin reset latch cuts)
 unfolding begin
 begun reset latch cuts bit left may = by (asked_or cuts latch.output.0)
   where
@@ -100,7 +100,7 @@ begun reset latch cuts bit left may = by (asked_or cuts latch.output.0)
     id = latch.output.0
 
     by : (o : (IsOpen cuts latch.output.0 × (asked_bit cuts latch.output.0 ≡ false)) ⊎ ((b : Bool) → IsLeft cuts latch.output.0 b → asked_bit cuts latch.output.0 ≡ b))
-        → IsFirst reset latch cuts (elim o [ inl none ↦ first_bit reset latch.init false | inr one ↦ asked_bit cuts latch.output.0 ])
+        → IsFirstBit reset latch cuts (elim o [ inl none ↦ first_bit reset latch.init false | inr one ↦ asked_bit cuts latch.output.0 ])
         × MayStart reset latch (elim o [ inl none ↦ first_bit reset latch.init false | inr one ↦ asked_bit cuts latch.output.0 ])
     by (inl none) = (
       record { asked = open_left cuts latch.output.0 (first_bit reset latch.init false) none.0; rest = λ h either. first_zero reset latch.init either },
@@ -110,25 +110,6 @@ begun reset latch cuts bit left may = by (asked_or cuts latch.output.0)
       record { asked = subst (IsLeft cuts latch.output.0) (sym (one bit left)) left; rest = λ h either. one false (open_left cuts latch.output.0 false h) },
       subst (MayStart reset latch) (sym (one bit left)) may,
     )
-
--- ---- latch outputs that are weakened at time 0
-
--- a bindable antecedent asks nothing, at time 0, of a latch output that is weakened then
-weak_open : (net : RawNet) (bits : List Bool) (weak : List Weakening) (id : ℕ) (quints : List Quint)
-    → ¬ IsUndriven net id → is_weakened (weakened_at weak 0) id ≡ true
-    → All (IsQuintBindable net weak) quints → IsOpen (cuts_at quints bits 0) id
-weak_open net bits weak id [] driven e all k d l = absurd (omega arith)
-weak_open net bits weak id (quint ∷ quints) driven e all zero d l = λ on at.
-    elim (all 0 quint (omega arith)) [
-      | inl free ↦ driven (subst (IsUndriven net) at free)
-      | inr latch ↦
-          let off : is_weakened (weakened_at weak 0) id ≡ false =
-          subst (λ (i : ℕ). is_weakened (weakened_at weak 0) i ≡ false) at latch.2 in
-          cc (e, off)
-    ]
-weak_open net bits weak id (quint ∷ quints) driven e all (suc k) d l =
-    weak_open net bits weak id quints driven e (λ i a m. all (suc i) a (omega arith))
-    k d (omega arith)
 
 -- ---- the printed run
 
@@ -175,7 +156,7 @@ module _ (net : RawNet) (task : Assertion) (bits : List Bool) (bound : IsBoundOv
       (bit, open_left (cuts 0) id bit none, may_start task.reset latch.init false)
 
   begins : 0 < depth task
-      → All (λ latch. IsFirst task.reset latch (cuts 0) (begin task.reset latch (cuts 0))
+      → All (λ latch. IsFirstBit task.reset latch (cuts 0) (begin task.reset latch (cuts 0))
       × MayStart task.reset latch (begin task.reset latch (cuts 0))) net.latches
   begins l k d m =
       let latch = get_or net.latches k d in
@@ -200,7 +181,7 @@ module _ (net : RawNet) (task : Assertion) (bits : List Bool) (bound : IsBoundOv
         starts = λ l k d m. subst (MayStart task.reset (get_or net.latches k d)) (sym (starts l k d m)) (begins l k d m).1;
       };
       sources = λ t id l m none. subst (IsFilled (cuts t) id) (sym (made.1.sources t id l m none)) (is_filled t id l m);
-      starts = λ l k d m. subst (IsFirst task.reset (get_or net.latches k d) (cuts 0)) (sym (starts l k d m)) (begins l k d m).0;
+      starts = λ l k d m. subst (IsFirstBit task.reset (get_or net.latches k d) (cuts 0)) (sym (starts l k d m)) (begins l k d m).0;
     },
   )
 
@@ -234,7 +215,7 @@ empty_or_not net task bits bound false tells none =
 
 to_contradictory : (net : RawNet) (task : Assertion) (bits : List Bool) → IsBoundOver net task → IsExactlyContradictory net task bits → IsContradictory net task bits
 to_contradictory net task bits bound none =
-    let told = findings_are_told.contradictory net (length bits) task bound.settled in
+    let told = findings_are_decided.contradictory net (length bits) task bound.settled in
     empty_or_not net task bits bound (told.0 bits) (told.1 bits refl) none
 
 strong_unless : (net : RawNet) (task : Assertion) (bits : List Bool) → IsBoundOver net task → ¬ IsWeak net task bits → IsExactlyStrong net task bits → IsStrong net task bits

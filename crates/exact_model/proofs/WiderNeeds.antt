@@ -16,18 +16,19 @@ use Rattle.net_core.specs.declared.cover.Lit.{Lit}
 use Rattle.net_core.specs.declared.cover.Lit.TheVariants as lit
 use Rattle.net_core.specs.declared.raw.Gate.{Gate}
 use Rattle.net_core.specs.declared.raw.RawNet.{RawNet}
-use Rattle.net_core.specs.Work.{Function, SymbolicCut, always, chain, conjunction, disjunction, negation, never, product, products, sum, sums, whole}
+use Rattle.ste_base.specs.Functions.{Function}
+use Rattle.net_core.specs.Work.{SymbolicCut, always, chain, conjunction, disjunction, negation, never, product, products, sum, sums, whole}
 use Rattle.ste_model.specs.declared.task.Assertion.{Assertion}
 use Rattle.ste_model.specs.declared.task.Quint.{Quint}
 use Rattle.ste_model.specs.Asked.{depth}
-use Rattle.ste_model.specs.Expressions.{SymbolicValue, all_work, exclusive_disjunction, joined, reads, reads_step, symbolic_step, symbolic_value}
+use Rattle.ste_model.specs.Expressions.{SymbolicValue, all_work, exclusive_disjunction, joined_parts, reads, reads_step, symbolic_step, symbolic_value}
 use Rattle.ste_model.specs.Need.{ReadBelow}
 use Rattle.ste_model.specs.Work.{has_time, over_times, quints_work, symbolic_cut, symbolic_cuts_at}
 use Rattle.ste_model.proofs.Alike.{Same, count_same}
 use Rattle.ste_model.proofs.Values.{functions_are_values}
 use Rattle.exact_model.specs.Choices.{choices}
 use Rattle.exact_model.specs.ExactWork.{all_broken, all_differ, bit_functions, counter_where, cover_functions, differs, exact_work, exactly_contradictory_where, exactly_strong_where, gates_functions, is_broken, literal_factors, met_where, row_factors, rows_functions, some_choices}
-use Rattle.exact_model.specs.Wider.{IsOfFirst, WiderNeedsAsMany, widened}
+use Rattle.exact_model.specs.Wider.{IsOfFirst, WiderNeedsAsMany, bits_over_more}
 use Rattle.exact_model.proofs.ExactNeeds.{one_exact_need, same_some_bits, work_same}
 use Rattle.exact_model.proofs.MoreVariables.{take_take, wider_has_as_many_nodes}
 
@@ -90,7 +91,7 @@ module _ (n : ℕ) where
   works_first [] all = none
   works_first (part ∷ parts) all = both part.work (all_work parts) (All-head IsValueOfFirst part parts all).1 (works_first parts (All-tail IsValueOfFirst part parts all))
 
-  joined_first : (join : Function → Function → Function) (start : Function) (parts : List SymbolicValue) → Keeps join → IsOfFirst n start → All IsValueOfFirst parts → IsValueOfFirst (joined join start parts)
+  joined_first : (join : Function → Function → Function) (start : Function) (parts : List SymbolicValue) → Keeps join → IsOfFirst n start → All IsValueOfFirst parts → IsValueOfFirst (joined_parts join start parts)
   joined_first join start parts keeps h all =
       let fs = map (λ (part : SymbolicValue). part.value) parts in
       let value = whole_first join keeps start fs h (values_first parts all) in (
@@ -305,7 +306,7 @@ take_whole (suc n) (b ∷ bits) l = ap (λ rest. b ∷ rest) (take_whole n bits 
 pub wider_needs_as_many : WiderNeedsAsMany
 wider_needs_as_many net vars task bit need more sound exact is =
     let n : ℕ = vars + length (choices net task) in
-    let wide : ℕ → ℕ → Function = widened n bit in
+    let wide : ℕ → ℕ → Function = bits_over_more n bit in
     let first : (t id : ℕ) → IsOfFirst n (wide t id) = λ t id bits l. ap (bit t id) (sym (take_take n n bits (omega arith))) in
     let same : (t id : ℕ) → Same n (wide t id) (bit t id) = λ t id. record { at = λ bits l. ap (bit t id) (take_whole n bits l) } in
     wider_has_as_many_nodes n more (exact_work net vars task wide) (work_first n net vars task (omega arith) sound.reads_ant sound.reads_con wide first)

@@ -5,7 +5,7 @@ use Rattle.dd_nodes.specs.Functions.{node_count}
 use Rattle.net_core.specs.declared.raw.RawNet.{RawNet}
 use Rattle.net_core.specs.Flat.{HasOneDriver, IsInRange}
 use Rattle.net_core.specs.Run.{IsSettled}
-use Rattle.net_core.specs.Work.{Function}
+use Rattle.ste_base.specs.Functions.{Function}
 use Rattle.ste_model.specs.declared.task.Assertion.{Assertion}
 use Rattle.ste_model.specs.Assignments.{Tells}
 use Rattle.exact_model.specs.Choices.{choices}
@@ -25,7 +25,7 @@ abbrev pub exact_kept : RawNet → ℕ → Assertion → (ℕ → ℕ → Functi
 exact_kept net vars task bit =
     exactly_strong_where net vars task bit ∷ exactly_contradictory_where net vars task bit ∷ []
 
--- Law: in a sound net the functions of the results tell the exact findings.
+-- Law: in a sound net the functions of the results give the exact findings.
 pub record ExactResultsAreFindings : Type 0 where
   pub strong : (net : RawNet) (vars : ℕ) (task : Assertion) (bit : ℕ → ℕ → Function) →
       IsSoundFor net vars task → AreExactBits net vars task bit →

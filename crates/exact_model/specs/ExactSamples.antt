@@ -8,7 +8,8 @@ use Rattle.dd_nodes.specs.Functions.{node_count}
 use Rattle.net_core.specs.declared.cover.Lit.TheVariants.{Zero, One as OneLit, Any}
 use Rattle.net_core.specs.declared.raw.Init.TheVariants.{One}
 use Rattle.net_core.specs.declared.raw.RawNet.{RawNet}
-use Rattle.net_core.specs.Work.{Function, always, conjunction, disjunction, negation}
+use Rattle.ste_base.specs.Functions.{Function}
+use Rattle.net_core.specs.Work.{always, conjunction, disjunction, negation}
 use Rattle.ste_model.specs.declared.task.Assertion.{Assertion}
 use Rattle.ste_model.specs.declared.task.Quint.{Quint}
 use Rattle.ste_model.specs.Samples.{and_gate, id_of, one, quint, variable}
@@ -51,7 +52,8 @@ nor_gate = record {
   outputs = id_of 2 ∷ [];
   gates = record { inputs = id_of 0 ∷ id_of 1 ∷ []; output = id_of 2; cover = 0 } ∷ [];
   latches = [];
-  covers = record { inputs = 2; on = false; rows = (OneLit ∷ Any ∷ []) ∷ (Any ∷ OneLit ∷ []) ∷ [] } ∷ [];
+  covers = record { inputs = 2; on = false; rows = (OneLit ∷ Any ∷ []) ∷ (Any ∷ OneLit ∷ []) ∷ [] }
+      ∷ [];
 }
 
 -- y = a | b | c, where a, b and c are nets 0, 1 and 2, and y is net 3
@@ -131,7 +133,8 @@ abbrev pub or_bits : ℕ → ℕ → Function
 or_bits t zero = variable_function 0
 or_bits t (suc zero) = variable_function 1
 or_bits t (suc (suc zero)) = variable_function 2
-or_bits t (suc (suc (suc id))) = disjunction (disjunction (variable_function 0) (variable_function 1)) (variable_function 2)
+or_bits t (suc (suc (suc id))) =
+    disjunction (disjunction (variable_function 0) (variable_function 1)) (variable_function 2)
 
 -- with reset the latch is 1 at time 0
 abbrev pub reset_task : Assertion

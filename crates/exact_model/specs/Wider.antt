@@ -4,7 +4,7 @@
 use Rattle.std.specs.Prelude.{◌≡◌, ◌≤◌, ◌+◌, ℕ, Bool, List, All, length, take}
 use Rattle.dd_nodes.specs.Functions.{node_count}
 use Rattle.net_core.specs.declared.raw.RawNet.{RawNet}
-use Rattle.net_core.specs.Work.{Function}
+use Rattle.ste_base.specs.Functions.{Function}
 use Rattle.ste_model.specs.declared.task.Assertion.{Assertion}
 use Rattle.exact_model.specs.Choices.{choices}
 use Rattle.exact_model.specs.Exact.{IsSoundFor}
@@ -22,8 +22,8 @@ WiderHasAsManyNodes =
     node_count (n + more) fs ≡ node_count n fs
 
 -- the bits of runs as functions of more variables, which read the first n alone
-abbrev pub widened : ℕ → (ℕ → ℕ → Function) → ℕ → ℕ → Function
-widened n bit t id bits = bit t id (take n bits)
+abbrev pub bits_over_more : ℕ → (ℕ → ℕ → Function) → ℕ → ℕ → Function
+bits_over_more n bit t id bits = bit t id (take n bits)
 
 -- Law: over more variables than an assertion has with its choices, its exact work functions have as
 -- many nodes as it needs steps.
@@ -32,4 +32,4 @@ WiderNeedsAsMany =
     (net : RawNet) (vars : ℕ) (task : Assertion) (bit : ℕ → ℕ → Function) (need more : ℕ) →
     IsSoundFor net vars task → AreExactBits net vars task bit → IsExactNeed net vars task need →
     node_count (vars + length (choices net task) + more)
-    (exact_work net vars task (widened (vars + length (choices net task)) bit)) ≡ need
+    (exact_work net vars task (bits_over_more (vars + length (choices net task)) bit)) ≡ need

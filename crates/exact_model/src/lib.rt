@@ -17,7 +17,7 @@ pub fn exact_pass_is_holding()
     ensures { ExactPassIsHolding }
 {}
 
-/// An exact report that is no pass tells a run that meets the antecedent and breaks the consequent,
+/// An exact report that is no pass shows a run that meets the antecedent and breaks the consequent,
 /// and the first place where it does.
 pub fn exact_failure_breaks()
     ensures { ExactFailureBreaks }
@@ -44,7 +44,7 @@ pub fn width_is_greatest()
     ensures { WidthIsGreatest }
 {}
 
-/// The functions of the exact results tell under which assignments an assertion is exactly strong
+/// The functions of the exact results give under which assignments an assertion is exactly strong
 /// and exactly contradictory.
 pub fn exact_results_are_findings()
     ensures { ExactResultsAreFindings }
@@ -55,14 +55,14 @@ pub fn one_exact_need()
     ensures { OneExactNeed }
 {}
 
-/// Seven small assertions need 6, 5, 25, 11, 11, 2 and 7 steps, and the kept functions of one have 4
-/// nodes.
+/// Seven small assertions need 6, 5, 25, 11, 11, 2 and 7 steps, and the kept functions of one have
+/// 4 nodes.
 pub fn exact_samples_are_counted()
     ensures { ExactSamplesAreCounted }
 {}
 
-/// What passes by sets of bits, or is contradictory everywhere, passes exactly; what is contradictory
-/// by sets is exactly so; and what is exactly strong is strong or weak by sets.
+/// What passes by sets of bits, or is contradictory everywhere, passes exactly; what is
+/// contradictory by sets is exactly so; and what is exactly strong is strong or weak by sets.
 pub fn sets_are_safe()
     ensures { SetsAreSafe }
 {}
@@ -89,7 +89,8 @@ pub fn wider_has_as_many_nodes()
     ensures { WiderHasAsManyNodes }
 {}
 
-/// Over more variables the exact work functions of an assertion have as many nodes as it needs steps.
+/// Over more variables the exact work functions of an assertion have as many nodes as it needs
+/// steps.
 pub fn wider_needs_as_many()
     ensures { WiderNeedsAsMany }
 {}

@@ -11,7 +11,7 @@ use Rattle.hierarchy.specs.declared.fault.NetFault.TheVariants.{GateTooWide}
 use Rattle.hierarchy.specs.Faults.{HasFaultBeforeInstances, IsFree, is_too_wide}
 use Rattle.hierarchy.specs.Instances.{had_by, model_at}
 use Rattle.hierarchy.specs.Lines.{GateLine, gate_lines, gate_of}
-use Rattle.hierarchy.specs.Reach.{Reaches, end_of, uses}
+use Rattle.hierarchy.specs.Reach.{Reaches, led_to, uses}
 use Rattle.hierarchy.proofs.Free.{no_fault}
 use Rattle.hierarchy.proofs.Levels.{model_of_path, place_of}
 use Rattle.hierarchy.proofs.Members.{In, filter_map_in, in_at, in_get}
@@ -62,9 +62,9 @@ module _ (models : List Model) (free : IsFree (HasFaultBeforeInstances models)) 
 
   -- the gates of an instance's model
   narrow_path : (path : List ℕ) (model : Model) → model_at models path ≡ Some model → AreNarrow (gate_lines model)
-  narrow_path path model has = by (end_of (uses models) 0 path) refl (sym (model_of_path models (free_before models free).unknown_model path) ∙ has)
+  narrow_path path model has = by (led_to (uses models) 0 path) refl (sym (model_of_path models (free_before models free).unknown_model path) ∙ has)
     where
-      by : (o : Option ℕ) → end_of (uses models) 0 path ≡ o → option_and_then (slice_get models) o ≡ Some model → AreNarrow (gate_lines model)
+      by : (o : Option ℕ) → led_to (uses models) 0 path ≡ o → option_and_then (slice_get models) o ≡ Some model → AreNarrow (gate_lines model)
       by None is e = absurd (cc)
       by (Some number) is e = λ k d low. narrow_line number model (get_or (gate_lines model) k d) (path, is) e (in_at (gate_lines model) k d low)
 

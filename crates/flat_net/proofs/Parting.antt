@@ -12,7 +12,7 @@ use Rattle.hierarchy.specs.Faults.{HasFaultBeforeInstances, HasUnknownModel, IsF
 use Rattle.hierarchy.specs.Instances.{had_by, instances, model_at}
 use Rattle.hierarchy.specs.Lines.{GateLine, gate_lines, gate_of, signal_words}
 use Rattle.hierarchy.specs.Nets.{nets}
-use Rattle.hierarchy.specs.Sizes.{IsShallow, all_words, size}
+use Rattle.hierarchy.specs.Sizes.{IsShallow, words_of_signals, size}
 use Rattle.hierarchy.proofs.Refused.{AreFreeBefore, free_before}
 use Rattle.instances.specs.declared.table.Row.{Row}
 use Rattle.instances.specs.Numbers.{AreRows}
@@ -46,17 +46,17 @@ gates_few (item ∷ items) = by (gate_of item.what) refl (gates_few items) (leng
     by None e again l = omega (arith, again, l)
     by (Some gate) e again l = let w = one_word item.what gate e in omega (arith, again, l, w)
 
-had_few : (m : Option Model) → length (had_by gate_lines m) ≤ suc (length (had_by all_words m))
+had_few : (m : Option Model) → length (had_by gate_lines m) ≤ suc (length (had_by words_of_signals m))
 had_few None = omega arith
 had_few (Some m) = let g = gates_few m.items in omega (arith, g)
 
 -- the gates of all instances are at most the size
 module _ (models : List Model) where
-  lines_few : (paths : List (List ℕ)) → length (flat_map (λ path. had_by gate_lines (model_at models path)) paths) ≤ sum_by (λ path. suc (length (had_by all_words (model_at models path)))) paths
+  lines_few : (paths : List (List ℕ)) → length (flat_map (λ path. had_by gate_lines (model_at models path)) paths) ≤ sum_by (λ path. suc (length (had_by words_of_signals (model_at models path)))) paths
   lines_few [] = omega arith
   lines_few (path ∷ paths) =
       let a = length-append (had_by gate_lines (model_at models path)) (flat_map (λ p. had_by gate_lines (model_at models p)) paths) in
-      let b = sum_by-cons (λ p. suc (length (had_by all_words (model_at models p)))) path paths in
+      let b = sum_by-cons (λ p. suc (length (had_by words_of_signals (model_at models p)))) path paths in
       let c = lines_few paths in
       let d = had_few (model_at models path) in
       omega (arith, a, b, c, d)

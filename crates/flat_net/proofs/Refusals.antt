@@ -26,7 +26,7 @@ use Rattle.flat_net.specs.private.Passes.{AreInstances, Instance, IsInstance, no
 use Rattle.flat_net.proofs.Flattened.{input_signal, node_is, top_inputs, zip_flat_map}
 use Rattle.flat_net.specs.declared.clocks.Clock.{Clock}
 use Rattle.flat_net.specs.declared.clocks.Clocks.{Clocks}
-use Rattle.flat_net.specs.private.Drivers.{Driver, clock_at, clocks_in, clocks_with, driver_at, drivers_in, driven_fault, marked, mixed, mixed_fault, no_clocks, twice}
+use Rattle.flat_net.specs.private.Drivers.{Driver, clock_at, clocks_in, clocks_with, driver_at, drivers_in, driven_fault, marks_with, first_mixed, mixed_fault, no_clocks, first_driven_twice}
 
 -- the driver is that of a line in an instance
 record IsDriver (models : List Model) (names : List (List ℕ)) (driver : Driver) (at : List ℕ × DriverLine) : Type 0 where
@@ -59,7 +59,7 @@ set_mark marks n k low = by (nat_eq k n) refl
 one_mark : (count : ℕ) (marks : List Bool) (driven : List ℕ) (n : ℕ) → n < count → AreMarks count marks driven → AreMarks count (slice_set marks n true) (n ∷ driven)
 one_mark count marks driven n low h = (length-set marks n true ∙ h.0, λ k low'. set_mark marks n k (let l = h.0 in omega (arith, l, low)) ∙ ap (λ b. nat_eq k n || b) (h.1 k low'))
 
-marked_is : (count : ℕ) (nodes : List NodeId) (marks : List Bool) → length marks ≡ count → All (λ node. node.0 < count) nodes → (length (marked marks nodes) ≡ count) × ((k : ℕ) → slice_index_or (marked marks nodes) k false ≡ (list_any (nat_eq k) (map (λ (node : NodeId). node.0) nodes) || slice_index_or marks k false))
+marked_is : (count : ℕ) (nodes : List NodeId) (marks : List Bool) → length marks ≡ count → All (λ node. node.0 < count) nodes → (length (marks_with marks nodes) ≡ count) × ((k : ℕ) → slice_index_or (marks_with marks nodes) k false ≡ (list_any (nat_eq k) (map (λ (node : NodeId). node.0) nodes) || slice_index_or marks k false))
 marked_is count [] marks long low = (long, λ k. refl)
 marked_is count (node ∷ nodes) marks long low =
     let here : node.0 < count = low 0 node (omega arith) in
@@ -80,7 +80,7 @@ no_marks zero k = refl
 no_marks (suc count) zero = refl
 no_marks (suc count) (suc k) = no_marks count k
 
-first_marks : (count : ℕ) (nodes : List NodeId) → All (λ node. node.0 < count) nodes → AreMarks count (marked (replicate count false) nodes) (map (λ (node : NodeId). node.0) nodes)
+first_marks : (count : ℕ) (nodes : List NodeId) → All (λ node. node.0 < count) nodes → AreMarks count (marks_with (replicate count false) nodes) (map (λ (node : NodeId). node.0) nodes)
 first_marks count nodes low =
     let r = marked_is count nodes (replicate count false) (length-replicate count) low in
     (r.0, λ k low'. r.1 k ∙ ap (λ b. list_any (nat_eq k) (map (λ (node : NodeId). node.0) nodes) || b) (no_marks count k) ∙ last (list_any (nat_eq k) (map (λ (node : NodeId). node.0) nodes)))
@@ -93,7 +93,7 @@ first_marks count nodes low =
     last true = refl
     last false = refl
 
-twice_is : (models : List Model) (names : List (List ℕ)) (drivers : List Driver) (ats : List (List ℕ × DriverLine)) (marks : List Bool) (driven : List ℕ) → AreMarks (length names) marks driven → AllZip (IsDriver models names) drivers ats → option_map (driven_fault names) (twice marks drivers) ≡ driven_twice models driven ats
+twice_is : (models : List Model) (names : List (List ℕ)) (drivers : List Driver) (ats : List (List ℕ × DriverLine)) (marks : List Bool) (driven : List ℕ) → AreMarks (length names) marks driven → AllZip (IsDriver models names) drivers ats → option_map (driven_fault names) (first_driven_twice marks drivers) ≡ driven_twice models driven ats
 twice_is models names [] [] marks driven m z = refl
 twice_is models names [] (at ∷ ats) marks driven m z = absurd z
 twice_is models names (d ∷ drivers) [] marks driven m z = absurd z
@@ -103,7 +103,7 @@ twice_is models names (d ∷ drivers) (at ∷ ats) marks driven m z =
     let again = twice_is models names drivers ats (slice_set marks d.net true) (number_at models at.0 at.1.output ∷ driven) (subst (λ n. AreMarks (length names) (slice_set marks d.net true) (n ∷ driven)) z.0.net (one_mark (length names) marks driven d.net z.0.low m)) z.1 in
     by (slice_index_or marks d.net false) (list_any (nat_eq (number_at models at.0 at.1.output)) driven) tested fault again
   where
-    by : (a b : Bool) → a ≡ b → driven_fault names d ≡ DrivenTwice at.1.line (name_at models at.0 at.1.output) → option_map (driven_fault names) (twice (slice_set marks d.net true) drivers) ≡ driven_twice models (number_at models at.0 at.1.output ∷ driven) ats → option_map (driven_fault names) (cond a (Some d) (twice (slice_set marks d.net true) drivers)) ≡ cond b (Some (DrivenTwice at.1.line (name_at models at.0 at.1.output))) (driven_twice models (number_at models at.0 at.1.output ∷ driven) ats)
+    by : (a b : Bool) → a ≡ b → driven_fault names d ≡ DrivenTwice at.1.line (name_at models at.0 at.1.output) → option_map (driven_fault names) (first_driven_twice (slice_set marks d.net true) drivers) ≡ driven_twice models (number_at models at.0 at.1.output ∷ driven) ats → option_map (driven_fault names) (cond a (Some d) (first_driven_twice (slice_set marks d.net true) drivers)) ≡ cond b (Some (DrivenTwice at.1.line (name_at models at.0 at.1.output))) (driven_twice models (number_at models at.0 at.1.output ∷ driven) ats)
     by true true e fault again = ap Some fault
     by false false e fault again = again
     by true false e fault again = absurd (true≢false e)
@@ -142,7 +142,7 @@ abbrev mixed_at : List Model → List ℕ × (ℕ × LatchLine) → NetFault
 mixed_at models at = MixedClocks at.1.0 (name_at models at.0 at.1.1.output)
 
 mixed_is : (models : List Model) (names : List (List ℕ)) (clocks : List Clock) (ats : List (List ℕ × (ℕ × LatchLine))) (before : Clocks) → AllZip (IsClock models names) clocks ats →
-    option_map (mixed_fault names) (mixed before clocks) ≡ option_map (λ at. MixedClocks at.1.0 (name_at models at.0 at.1.1.output)) (find (λ at. are_apart beq (option_or before.rising (slice_get (filter_map type_of ats) 0)) (type_of at) || are_apart nat_eq (option_or before.control (slice_get (filter_map (control_net models) ats) 0)) (control_net models at)) ats)
+    option_map (mixed_fault names) (first_mixed before clocks) ≡ option_map (λ at. MixedClocks at.1.0 (name_at models at.0 at.1.1.output)) (find (λ at. are_apart beq (option_or before.rising (slice_get (filter_map type_of ats) 0)) (type_of at) || are_apart nat_eq (option_or before.control (slice_get (filter_map (control_net models) ats) 0)) (control_net models at)) ats)
 mixed_is models names [] [] before z = refl
 mixed_is models names [] (at ∷ ats) before z = absurd z
 mixed_is models names (c ∷ clocks) [] before z = absurd z
@@ -164,13 +164,13 @@ mixed_is models names (c ∷ clocks) (at ∷ ats) before z =
     ∙ ap (λ o. option_map (mixed_at models) (find (λ a. are_apart beq (option_or before.rising (slice_get (filter_map type_of (at ∷ ats)) 0)) (type_of a) || are_apart nat_eq o (control_net models a)) ats)) next_control)
   where
     by : (type : Option Bool) (control : Option ℕ) (a b : Bool) → a ≡ are_apart beq type (type_of at) → b ≡ are_apart nat_eq control (control_net models at) → mixed_fault names c ≡ MixedClocks at.1.0 (name_at models at.0 at.1.1.output) →
-        option_map (mixed_fault names) (mixed (clocks_with before c) clocks) ≡ option_map (mixed_at models) (find (λ x. are_apart beq type (type_of x) || are_apart nat_eq control (control_net models x)) ats) →
-        option_map (mixed_fault names) (cond (a || b) (Some c) (mixed (clocks_with before c) clocks)) ≡ option_map (mixed_at models) (cond (are_apart beq type (type_of at) || are_apart nat_eq control (control_net models at)) (Some at) (find (λ x. are_apart beq type (type_of x) || are_apart nat_eq control (control_net models x)) ats))
+        option_map (mixed_fault names) (first_mixed (clocks_with before c) clocks) ≡ option_map (mixed_at models) (find (λ x. are_apart beq type (type_of x) || are_apart nat_eq control (control_net models x)) ats) →
+        option_map (mixed_fault names) (cond (a || b) (Some c) (first_mixed (clocks_with before c) clocks)) ≡ option_map (mixed_at models) (cond (are_apart beq type (type_of at) || are_apart nat_eq control (control_net models at)) (Some at) (find (λ x. are_apart beq type (type_of x) || are_apart nat_eq control (control_net models x)) ats))
     by type control a b e f fault again = on (a || b) (are_apart beq type (type_of at) || are_apart nat_eq control (control_net models at)) (ap (λ x. x || b) e ∙ ap (λ x. are_apart beq type (type_of at) || x) f) fault again
       where
         on : (p q : Bool) → p ≡ q → mixed_fault names c ≡ MixedClocks at.1.0 (name_at models at.0 at.1.1.output) →
-            option_map (mixed_fault names) (mixed (clocks_with before c) clocks) ≡ option_map (mixed_at models) (find (λ x. are_apart beq type (type_of x) || are_apart nat_eq control (control_net models x)) ats) →
-            option_map (mixed_fault names) (cond p (Some c) (mixed (clocks_with before c) clocks)) ≡ option_map (mixed_at models) (cond q (Some at) (find (λ x. are_apart beq type (type_of x) || are_apart nat_eq control (control_net models x)) ats))
+            option_map (mixed_fault names) (first_mixed (clocks_with before c) clocks) ≡ option_map (mixed_at models) (find (λ x. are_apart beq type (type_of x) || are_apart nat_eq control (control_net models x)) ats) →
+            option_map (mixed_fault names) (cond p (Some c) (first_mixed (clocks_with before c) clocks)) ≡ option_map (mixed_at models) (cond q (Some at) (find (λ x. are_apart beq type (type_of x) || are_apart nat_eq control (control_net models x)) ats))
         on true true e fault again = ap Some fault
         on false false e fault again = again
         on true false e fault again = absurd (true≢false e)
@@ -272,13 +272,13 @@ module _ (models : List Model) (shallow : IsShallow models) (names : List (List 
   module _ (covers : List Cover) (all : List Instance) (are : AreInstances models covers all) where
     -- the drivers that are found twice are those of the hierarchy
     pub driven_is : (first : Instance) → IsInstance models covers first [] → (inputs : List NodeId) → inputs ≡ map (node_in first) (inputs_of first.model) →
-        option_map (driven_fault names) (twice (marked (replicate (length names) false) inputs) (flat_map drivers_in all)) ≡ driven_twice models (input_numbers models) (drivers models)
+        option_map (driven_fault names) (first_driven_twice (marks_with (replicate (length names) false) inputs) (flat_map drivers_in all)) ≡ driven_twice models (input_numbers models) (drivers models)
     driven_is first is inputs ins =
         let flat = zip_flat_map (IsInstance models covers) (IsDriver models names) drivers_in (λ path. map (λ line. (path, line)) (had_by driver_lines (model_at models path))) (λ instance path at. instance_drivers covers instance path at) all (instances models) are in
         let numbers : map (λ (node : NodeId). node.0) inputs ≡ input_numbers models = ap (λ l. map (λ (node : NodeId). node.0) l) ins ∙ top_inputs models covers first is in
         let marks = first_marks (length names) inputs (low_inputs inputs first is ins) in
-        twice_is models names (flat_map drivers_in all) (drivers models) (marked (replicate (length names) false) inputs) (input_numbers models)
-        (subst (λ l. AreMarks (length names) (marked (replicate (length names) false) inputs) l) numbers marks) flat
+        twice_is models names (flat_map drivers_in all) (drivers models) (marks_with (replicate (length names) false) inputs) (input_numbers models)
+        (subst (λ l. AreMarks (length names) (marks_with (replicate (length names) false) inputs) l) numbers marks) flat
       where
         low_inputs : (inputs : List NodeId) (first : Instance) → IsInstance models covers first [] → inputs ≡ map (node_in first) (inputs_of first.model) → All (λ node. node.0 < length names) inputs
         low_inputs inputs first is ins = subst (λ l. All (λ (node : NodeId). node.0 < length names) l) (sym ins) (each (inputs_of first.model) (λ word h. input_signal first.model word h))
@@ -293,7 +293,7 @@ module _ (models : List Model) (shallow : IsShallow models) (names : List (List 
             each (word ∷ words) within (suc k) d low = each words (λ x h. within x (inr h)) k d (omega arith)
 
     -- the latches that are mixed are those of the hierarchy
-    pub mixed_clocks_is : option_map (mixed_fault names) (mixed no_clocks (flat_map clocks_in all)) ≡ mixed_clocks models (in_instances numbered_latches models)
+    pub mixed_clocks_is : option_map (mixed_fault names) (first_mixed no_clocks (flat_map clocks_in all)) ≡ mixed_clocks models (in_instances numbered_latches models)
     mixed_clocks_is =
         mixed_is models names (flat_map clocks_in all) (in_instances numbered_latches models) no_clocks
         (zip_flat_map (IsInstance models covers) (IsClock models names) clocks_in (λ path. map (λ line. (path, line)) (had_by numbered_latches (model_at models path))) (λ instance path at. instance_clocks covers instance path at) all (instances models) are)
@@ -301,21 +301,21 @@ module _ (models : List Model) (shallow : IsShallow models) (names : List (List 
 -- what the two refusals say of the hierarchy
 module _ (models : List Model) (covers : List Cover) (all : List Instance) (first : Instance) (names : List (List ℕ)) (inputs : List NodeId)
     (ins : inputs ≡ map (node_in first) (inputs_of first.model)) (shallow : IsShallow models) (named : names ≡ map own_name (nets models)) (are : AreInstances models covers all) (is : IsInstance models covers first []) where
-  pub driven_free : twice (marked (replicate (length names) false) inputs) (flat_map drivers_in all) ≡ None → IsFree (HasDrivenTwice models)
+  pub driven_free : first_driven_twice (marks_with (replicate (length names) false) inputs) (flat_map drivers_in all) ≡ None → IsFree (HasDrivenTwice models)
   driven_free none fault h = let e = driven_is models shallow names named covers all are first is inputs ins in let no = ap (λ o. option_map (driven_fault names) o) none in absurd (apart (sym no ∙ e ∙ h))
     where
       apart : {X : Type 0} {x : X} → None ≡ Some x → ⊥
       apart e = cc
 
-  pub driven_found : (fault : NetFault) → option_map (driven_fault names) (twice (marked (replicate (length names) false) inputs) (flat_map drivers_in all)) ≡ Some fault → Else (HasDrivenTwice models) (HasMixedClocks models) fault
+  pub driven_found : (fault : NetFault) → option_map (driven_fault names) (first_driven_twice (marks_with (replicate (length names) false) inputs) (flat_map drivers_in all)) ≡ Some fault → Else (HasDrivenTwice models) (HasMixedClocks models) fault
   driven_found fault e = inl (sym (driven_is models shallow names named covers all are first is inputs ins) ∙ e)
 
-  pub mixed_free : twice (marked (replicate (length names) false) inputs) (flat_map drivers_in all) ≡ None → mixed no_clocks (flat_map clocks_in all) ≡ None → IsFree (Else (HasDrivenTwice models) (HasMixedClocks models))
+  pub mixed_free : first_driven_twice (marks_with (replicate (length names) false) inputs) (flat_map drivers_in all) ≡ None → first_mixed no_clocks (flat_map clocks_in all) ≡ None → IsFree (Else (HasDrivenTwice models) (HasMixedClocks models))
   mixed_free none same = else_free (HasDrivenTwice models) (HasMixedClocks models) (driven_free none)
       (λ fault h. let e = mixed_clocks_is models shallow names named covers all are in let no = ap (λ o. option_map (mixed_fault names) o) same in absurd (apart (sym no ∙ e ∙ h)))
     where
       apart : {X : Type 0} {x : X} → None ≡ Some x → ⊥
       apart e = cc
 
-  pub mixed_found : twice (marked (replicate (length names) false) inputs) (flat_map drivers_in all) ≡ None → (fault : NetFault) → option_map (mixed_fault names) (mixed no_clocks (flat_map clocks_in all)) ≡ Some fault → Else (HasDrivenTwice models) (HasMixedClocks models) fault
+  pub mixed_found : first_driven_twice (marks_with (replicate (length names) false) inputs) (flat_map drivers_in all) ≡ None → (fault : NetFault) → option_map (mixed_fault names) (first_mixed no_clocks (flat_map clocks_in all)) ≡ Some fault → Else (HasDrivenTwice models) (HasMixedClocks models) fault
   mixed_found none fault e = inr (driven_free none, sym (mixed_clocks_is models shallow names named covers all are) ∙ e)

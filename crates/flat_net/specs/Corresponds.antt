@@ -1,4 +1,5 @@
--- Law: flat runs and hierarchical runs correspond one to one, net by net; and the bits of the one from those of the other.
+-- Law: flat runs and hierarchical runs correspond one to one, net by net; and the bits of the one
+-- from those of the other.
 use Rattle.std.specs.Prelude.{◌≡◌, ◌<◌, ℕ, [], List, Some, Bool, All, Contains, slice_index_or}
 use Rattle.net_core.specs.Run.{IsRun, MayStart}
 use Rattle.net_core.specs.declared.raw.RawNet.{RawNet}
@@ -20,12 +21,14 @@ flat_bits models run t id =
 abbrev pub signal_bits : List Model → (ℕ → ℕ → Bool) → List ℕ → List ℕ → ℕ → Bool
 signal_bits models bit path signal t = bit t (number_at models path signal)
 
--- Runs of length n of the two kinds correspond: each makes one of the other kind, and both ways together lead back, to the
--- same bit of each signal of an instance, and of each net. What their latches start with corresponds too.
+-- Runs of length n of the two kinds correspond: each makes one of the other kind, and both ways
+-- together lead back, to the same bit of each signal of an instance, and of each net. What their
+-- latches start with corresponds too.
 pub record Corresponds (models : List Model) (net : RawNet) (n : ℕ) : Type 0 where
   pub to_flat : (run : List ℕ → List ℕ → ℕ → Bool) →
       IsHierarchicalRun models n run → IsRun net n (flat_bits models run)
-  pub to_hierarchy : (bit : ℕ → ℕ → Bool) → IsRun net n bit → IsHierarchicalRun models n (signal_bits models bit)
+  pub to_hierarchy : (bit : ℕ → ℕ → Bool) → IsRun net n bit →
+      IsHierarchicalRun models n (signal_bits models bit)
   pub there_and_back : (run : List ℕ → List ℕ → ℕ → Bool) → IsHierarchicalRun models n run →
       (path : List ℕ) (model : Model) → model_at models path ≡ Some model →
       (signal : List ℕ) → Contains (signals model) signal → (t : ℕ) → t < n →
@@ -42,4 +45,5 @@ pub record Corresponds (models : List Model) (net : RawNet) (n : ℕ) : Type 0 w
 -- Law: where no path is longer than 64 numbers, runs of a hierarchy and of its flat net correspond.
 abbrev pub RunsCorrespond : Type 0
 RunsCorrespond =
-    (models : List Model) (net : RawNet) → IsShallow models → IsFlat models net → (n : ℕ) → Corresponds models net n
+    (models : List Model) (net : RawNet) → IsShallow models → IsFlat models net → (n : ℕ) →
+    Corresponds models net n

@@ -1,5 +1,5 @@
--- Meaning. The flat net of a hierarchy. Gates and latches are numbered by instance and by line. A control has no effect on its
--- latch. Source: this project's own choice.
+-- Meaning. The flat net of a hierarchy. Gates and latches are numbered by instance and by line. A
+-- control has no effect on its latch. Source: this project's own choice.
 use Rattle.std.specs.Prelude.{◌≡◌, ℕ, List, Some, length, map, slice_get}
 use Rattle.std.specs.List.{AllZip}
 use Rattle.net_core.specs.declared.raw.Gate.{Gate}
@@ -10,9 +10,11 @@ use Rattle.hierarchy.specs.Lines.{GateLine, LatchLine}
 use Rattle.hierarchy.specs.Nets.{gates, input_numbers, latches, nets, number_at, output_numbers}
 
 -- The gate of the net is that of a line in an instance. Which number its cover has is left open.
-pub record IsGateOf (models : List Model) (net : RawNet) (gate : Gate) (at : List ℕ × GateLine) : Type 0 where
+pub record IsGateOf (models : List Model) (net : RawNet) (gate : Gate) (at : List ℕ × GateLine) :
+    Type 0 where
   pub output : gate.output.0 ≡ number_at models at.0 at.1.output
-  pub inputs : map (λ input. input.0) gate.inputs ≡ map (λ input. number_at models at.0 input) at.1.inputs
+  pub inputs : map (λ input. input.0) gate.inputs ≡ map (λ input. number_at models at.0 input)
+      at.1.inputs
   pub cover : slice_get net.covers gate.cover ≡ Some at.1.cover
 
 -- the latch of the net is that of a line in an instance

@@ -6,7 +6,7 @@ ghost use Rattle.flat_net.specs.declared.clocks.Clock.{Clock};
 ghost use Rattle.hierarchy.specs.declared.fault.NetFault.TheVariants.{OutOfMemory};
 ghost use Rattle.hierarchy.specs.Faults.{are_apart};
 ghost use Rattle.hierarchy.specs.Lines.{is_rising, latch_of};
-ghost use Rattle.flat_net.specs.private.Drivers.{clock_at, clocks_in, clocks_with, mixed, mixed_fault, mixes, no_clocks};
+ghost use Rattle.flat_net.specs.private.Drivers.{clock_at, clocks_in, clocks_with, first_mixed, mixed_fault, mixes, no_clocks};
 ghost use Rattle.flat_net.specs.private.Passes.{node_in};
 
 use crate::instance::{Instance, node_in};
@@ -100,7 +100,7 @@ fn is_mixed(clocks: &Clocks, latch: &Clock) -> bool
     types_differ(clocks.rising, latch.rising) || controls_differ(clocks.control, latch.control)
 }
 
-/// What there is with one latch more.
+/// What there is with one more latch.
 fn clocks_with(clocks: &Clocks, latch: &Clock) -> Clocks
     ensures { result ≡ clocks_with clocks.now latch.now }
 {
@@ -130,9 +130,9 @@ fn mixed_fault(latch: &Clock, names: &[Name]) -> NetFault
 /// before, and adds what the others have. `names` has the nets' own names, by number.
 fn refuse_in(instance: &Instance, names: &[Name], clocks: &mut Clocks) -> Result<(), NetFault>
     ensures ok { OnOk result ((rest : List Clock) →
-        mixed clocks.new rest ≡ mixed clocks.old (clocks_in instance.now ++ rest)) }
+        first_mixed clocks.new rest ≡ first_mixed clocks.old (clocks_in instance.now ++ rest)) }
     ensures err { IfErr result (λ fault. (fault ≡ OutOfMemory) ⊎ ((rest : List Clock) →
-        option_map (mixed_fault names.now) (mixed clocks.old (clocks_in instance.now ++ rest))
+        option_map (mixed_fault names.now) (first_mixed clocks.old (clocks_in instance.now ++ rest))
         ≡ Some fault)) }
 {
     for item in instance.model.items.as_slice() {
@@ -150,9 +150,9 @@ fn refuse_in(instance: &Instance, names: &[Name], clocks: &mut Clocks) -> Result
 /// whose control is on another net than the first control. `names` has the nets' own names, by
 /// number.
 pub(crate) fn refuse_mixed_clocks(instances: &[Instance], names: &[Name]) -> Result<(), NetFault>
-    ensures ok { OnOk result (mixed no_clocks (flat_map clocks_in instances.now) ≡ None) }
+    ensures ok { OnOk result (first_mixed no_clocks (flat_map clocks_in instances.now) ≡ None) }
     ensures err { IfErr result (λ fault. (fault ≡ OutOfMemory) ⊎ (option_map (mixed_fault names.now)
-        (mixed no_clocks (flat_map clocks_in instances.now)) ≡ Some fault)) }
+        (first_mixed no_clocks (flat_map clocks_in instances.now)) ≡ Some fault)) }
 {
     let mut clocks = Clocks {
         rising: None,

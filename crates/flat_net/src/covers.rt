@@ -21,7 +21,7 @@ pub(crate) struct Covers {
 }
 
 /// A copy of these rows.
-fn rows_copied(alloc: Global, rows: &[net_core::Row]) -> Result<Items<net_core::Row>, AllocError>
+fn copy_rows(alloc: Global, rows: &[net_core::Row]) -> Result<Items<net_core::Row>, AllocError>
     ensures { IfOk result (λ copy. copy ≡ rows.now) }
 {
     let mut copy = Items::new(alloc);
@@ -32,13 +32,13 @@ fn rows_copied(alloc: Global, rows: &[net_core::Row]) -> Result<Items<net_core::
 }
 
 /// A copy of a cover.
-fn cover_copied(alloc: Global, cover: &Cover) -> Result<Cover, AllocError>
+fn copy_cover(alloc: Global, cover: &Cover) -> Result<Cover, AllocError>
     ensures { IfOk result (λ copy. copy ≡ cover.now) }
 {
     Ok(Cover {
         inputs: cover.inputs,
         on: cover.on,
-        rows: rows_copied(alloc, cover.rows.as_slice())?,
+        rows: copy_rows(alloc, cover.rows.as_slice())?,
     })
 }
 
@@ -49,7 +49,7 @@ fn add_covers(alloc: Global, covers: &mut Items<Cover>, model: &Model) -> Result
 {
     for item in model.items.as_slice() {
         if let What::Names { cover, .. } = &item.what {
-            covers.push(cover_copied(alloc, cover)?)?;
+            covers.push(copy_cover(alloc, cover)?)?;
         }
     }
     Ok(())

@@ -4,7 +4,7 @@ ghost use Rattle.std.specs.Prelude.{◌≡◌, ◌⊎◌, ◌++◌, [], ℕ, Lis
 ghost use Rattle.std.proofs.Common.{replicate};
 ghost use Rattle.hierarchy.specs.Lines.{driver_on};
 ghost use Rattle.hierarchy.specs.declared.fault.NetFault.TheVariants.{DrivenTwice, OutOfMemory};
-ghost use Rattle.flat_net.specs.private.Drivers.{Driver, driven_fault, drivers_in, marked, twice};
+ghost use Rattle.flat_net.specs.private.Drivers.{Driver, driven_fault, drivers_in, marks_with, first_driven_twice};
 
 use crate::instance::{Instance, node_in};
 use blif_syntax::What;
@@ -12,7 +12,7 @@ use hierarchy::NetFault;
 use std::alloc::{AllocError, Global};
 use ste_base::{Name, NodeId};
 
-/// Marks a net, and tells whether it was marked before.
+/// Marks a net, and says whether it was marked before.
 #[tactic(auto, using(crate::proofs::Marks::set_behind))]
 fn mark(marks: &mut Vec<bool>, node: NodeId) -> bool
     ensures was { result ≡ slice_index_or marks.old.items node.0 false }
@@ -28,7 +28,7 @@ fn mark(marks: &mut Vec<bool>, node: NodeId) -> bool
 
 /// Marks these nets.
 fn mark_all(marks: &mut Vec<bool>, nodes: &[NodeId])
-    ensures { marks.new.items ≡ marked marks.old.items nodes.now }
+    ensures { marks.new.items ≡ marks_with marks.old.items nodes.now }
 {
     for node in nodes {
         let _ = mark(marks, *node);
@@ -64,9 +64,11 @@ fn driven_by(what: &What) -> Option<&Name>
 /// there; the nets of all its drivers are marked. `names` has the nets' own names, by number.
 fn refuse_in(instance: &Instance, names: &[Name], marks: &mut Vec<bool>) -> Result<(), NetFault>
     ensures ok { OnOk result ((rest : List Driver) →
-        twice marks.new.items rest ≡ twice marks.old.items (drivers_in instance.now ++ rest)) }
+        first_driven_twice marks.new.items rest ≡ first_driven_twice marks.old.items
+        (drivers_in instance.now ++ rest)) }
     ensures err { IfErr result (λ fault. (fault ≡ OutOfMemory) ⊎ ((rest : List Driver) →
-        option_map (driven_fault names.now) (twice marks.old.items (drivers_in instance.now ++ rest))
+        option_map (driven_fault names.now)
+        (first_driven_twice marks.old.items (drivers_in instance.now ++ rest))
         ≡ Some fault)) }
 {
     for item in instance.model.items.as_slice() {
@@ -88,10 +90,12 @@ pub(crate) fn refuse_driven_twice(
     inputs: &[NodeId],
     names: &[Name],
 ) -> Result<(), NetFault>
-    ensures ok { OnOk result (twice (marked (replicate (length names.now) false) inputs.now)
+    ensures ok { OnOk result
+        (first_driven_twice (marks_with (replicate (length names.now) false) inputs.now)
         (flat_map drivers_in instances.now) ≡ None) }
     ensures err { IfErr result (λ fault. (fault ≡ OutOfMemory)
-        ⊎ (option_map (driven_fault names.now) (twice (marked (replicate (length names.now) false)
+        ⊎ (option_map (driven_fault names.now) (first_driven_twice
+        (marks_with (replicate (length names.now) false)
         inputs.now) (flat_map drivers_in instances.now)) ≡ Some fault)) }
 {
     let mut marks = vec![in alloc; false; names.len()]?;

@@ -163,8 +163,8 @@ fn net_of_parts(
     }
 }
 
-/// The flat net, with the names of its nets, of a hierarchy without a fault that can be told before
-/// any instance is made, or the fault that the numbers of nets show.
+/// The flat net, with the names of its nets, of a hierarchy without a fault that can be found
+/// before any instance is made, or the fault that the numbers of nets show.
 fn flat_behind(alloc: Global, models: &[Model]) -> Result<(RawNet, NetNames), NetFault>
     requires some { 0 < length models.now }
     requires covered { AreCovered models.now }
@@ -209,7 +209,7 @@ fn flat_behind(alloc: Global, models: &[Model]) -> Result<(RawNet, NetNames), Ne
 /// of all instances are numbered in preorder, and gates and latches stand by instance and line; a
 /// bound formal is on its actual's net. Each cover has to be sound, with as many inputs as its line
 /// names. An error is the fault that the hierarchy is refused for, with its line and name, of the
-/// first kind for which there is one, or want of memory.
+/// first kind for which there is one, or out of memory.
 pub fn flatten(alloc: Global, models: &Models) -> Result<(RawNet, NetNames), NetFault>
     requires { AreCovered models.now.models }
 
@@ -227,7 +227,7 @@ pub fn flatten(alloc: Global, models: &Models) -> Result<(RawNet, NetNames), Net
     // The names are those of its nets.
     ensures names { IfOk result (λ made. AreNamesOf models.now.models made.1) }
 
-    // Ok exactly where there is no fault, and otherwise the first of them, or want of memory.
+    // Ok exactly where there is no fault, and otherwise the first of them, or out of memory.
     ensures ok { OnOk result (IsFree (IsRefusal models.now.models)) }
     ensures err { IfErr result (λ fault. (fault ≡ OutOfMemory)
         ⊎ IsRefusal models.now.models fault) }

@@ -1,4 +1,4 @@
-//! What the passes over instances stand on; begin with `parts_of`.
+//! What the passes over instances work on; begin with `parts_of`.
 
 ghost use Rattle.std.specs.Prelude.{◌≡◌, ◌<◌, IfOk, length, map};
 ghost use Rattle.blif_syntax.specs.Covered.{AreCovered};
@@ -16,7 +16,7 @@ use instances::{Numbered, Row, instance_numbers, instance_rows};
 use std::alloc::{AllocError, Global};
 use ste_base::Name;
 
-/// What the passes over instances stand on: the signals of each model, the instances, for these the
+/// What the passes over instances work on: the signals of each model, the instances, for these the
 /// numbers of their signals' nets with the nets' own names, and the covers.
 #[derive(Drop)]
 pub(crate) struct Parts {
@@ -37,7 +37,7 @@ fn all_signals(alloc: Global, models: &[Model]) -> Result<Vec<IndexSet<Name>>, A
     Ok(sets)
 }
 
-/// The parts of a hierarchy without a fault that can be told before any instance is made. `names`
+/// The parts of a hierarchy without a fault that can be found before any instance is made. `names`
 /// has the names of all models.
 pub(crate) fn parts_of(
     alloc: Global,

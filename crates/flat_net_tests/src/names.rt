@@ -52,7 +52,8 @@ const BOUND_TEXTS: &[(&[u8], &[u8])] = &[
     (b"7/x", b"3"),
     (b"y", b"4"),
     (b"m", b"5"),
-    // Signals of subcircuits: bound formals by their inner names, and others; the first is 6 on, by first mention.
+    // Signals of subcircuits: bound formals by their inner names, and others; the first is 6 on, by
+    // first mention.
     (b"0/p", b"0"),
     (b"0/r", b"5"),
     (b"1/p", b"5"),
@@ -130,7 +131,7 @@ fn names_of(alloc: Global, text: &[u8]) -> Result<Option<NetNames>, AllocError>
 }
 
 /// The number of the net that a text names, in decimal digits; nothing where it names none.
-fn resolved(alloc: Global, names: &NetNames, text: &[u8]) -> Result<Vec<u8>, AllocError> {
+fn number_text(alloc: Global, names: &NetNames, text: &[u8]) -> Result<Vec<u8>, AllocError> {
     match names.resolve(text) {
         Some(NodeId(number)) => Ok(format!(in alloc; "{number}")?.into_bytes()),
         None => Ok(Vec::new(alloc)),
@@ -141,7 +142,7 @@ fn resolved(alloc: Global, names: &NetNames, text: &[u8]) -> Result<Vec<u8>, All
 fn resolved_behind(alloc: Global, names: &NetNames, behind: &[u8]) -> Result<Vec<u8>, AllocError> {
     let mut text = b"0/".repeat(alloc, 60)?;
     text.extend_from_slice(behind)?;
-    resolved(alloc, names, text.as_slice())
+    number_text(alloc, names, text.as_slice())
 }
 
 /// Adds a model that uses the next so often.
@@ -225,7 +226,7 @@ fn compare_texts(
 ) -> Result<(), AllocError> {
     assert_eq!(rt; names.top().bytes(), b"top".as_slice());
     for (text, want) in texts {
-        let got = resolved(alloc, names, *text)?;
+        let got = number_text(alloc, names, *text)?;
         assert_eq!(rt; got.as_slice(), *want, "at {text:?}");
     }
     Ok(())

@@ -4,7 +4,7 @@
 ghost use Rattle.std.specs.Prelude.{◌≤◌, length};
 
 use crate::names::BOUND;
-use crate::shown::{refused, shown};
+use crate::shown::{fault_text, shown};
 use blif_lines::logical_lines;
 use blif_syntax::read_models;
 use flat_net::flatten;
@@ -12,8 +12,8 @@ use std::alloc::{AllocError, Global};
 use std::process::Abort;
 use std::test::Fail;
 
-/// Netlists of one model, and what is made of each: the names of the nets, the inputs, the outputs, the gates with their
-/// covers, and the latches.
+/// Netlists of one model, and what is made of each: the names of the nets, the inputs, the outputs,
+/// the gates with their covers, and the latches.
 const LINES: &[(&[u8], &[u8])] = &[
     // Each kind of line alone.
     (b".model m\n", b"||||"),
@@ -89,7 +89,8 @@ const LINES: &[(&[u8], &[u8])] = &[
     ),
 ];
 
-/// Netlists of one model, and the kind of the fault of each, with its line and name; or what is made of it.
+/// Netlists of one model, and the kind of the fault of each, with its line and name; or what is
+/// made of it.
 const REFUSED: &[(&[u8], &[u8])] = &[
     // A signal that is driven twice: the second driver, or the first one of an input.
     (
@@ -175,7 +176,8 @@ const INSTANCES: &[(&[u8], &[u8])] = &[
         b".model top\n.outputs y\n.subckt r d=y q=y\n.end\n.model r\n.inputs d\n.outputs q\n.latch d q 1\n.end\n",
         b" y|| 0|| (0 > 0 1)",
     ),
-    // A formal of `.clock` or `.outputs` that is not bound is an inner net; a model that is not used is left out.
+    // A formal of `.clock` or `.outputs` that is not bound is an inner net; a model that is not
+    // used is left out.
     (
         b".model top\n.subckt n\n.end\n.model n\n.clock c\n.outputs o\n.names c o\n1 1\n.end\n\
           .model unused\n.names x\n.names x\n",
@@ -204,7 +206,8 @@ const INSTANCES: &[(&[u8], &[u8])] = &[
         b".model top\n.latch a b re c\n.subckt n k=z\n.end\n.model n\n.inputs k\n.latch d e re k\n",
         b"mixed clocks 7 0/e",
     ),
-    // Driven twice goes before mixed clocks, and a fault that can be told before any instance is made before both.
+    // Driven twice goes before mixed clocks, and a fault that can be found before any instance is
+    // made before both.
     (
         b".model m\n.latch a b re c 0\n.latch d b fe c 0\n",
         b"driven twice 3 b",
@@ -217,7 +220,8 @@ const INSTANCES: &[(&[u8], &[u8])] = &[
         b".model m\n.names q\n.names q\n.subckt m\n",
         b"recursive 4 m",
     ),
-    // Instances below instances, with formals that are bound twice over, and names with slashes in them.
+    // Instances below instances, with formals that are bound twice over, and names with slashes in
+    // them.
     (
         BOUND,
         b" a 0/b 0/0/q 7/x y m 0/s/t 0/b 0/0/x 0/0/q 0/1/x 0/1/q 1/s/t 1/b 1/0/x 1/0/q 1/1/x 1/1/q| 0 1 2 3| 4| (0 > 8 c0 1 1) (8 > 9 c1 1 1) (9 > 7 c2 1 1) (7 > 10 c0 1 1) (10 > 11 c1 1 1) (11 > 5 c2 1 1) (5 > 14 c0 1 1) (14 > 15 c1 1 1) (15 > 13 c2 1 1) (13 > 16 c0 1 1) (16 > 17 c1 1 1) (17 > 4 c2 1 1)|",
@@ -226,7 +230,7 @@ const INSTANCES: &[(&[u8], &[u8])] = &[
 
 /// What is made of a text.
 #[tactic(auto, using(blif_syntax::proofs::Fit::words_fit))]
-fn made(alloc: Global, text: &[u8]) -> Result<Vec<u8>, AllocError>
+fn net_or_fault_text(alloc: Global, text: &[u8]) -> Result<Vec<u8>, AllocError>
     requires { length text.now ≤ 67108864 }
 {
     let lines = logical_lines(alloc, text)?;
@@ -235,7 +239,7 @@ fn made(alloc: Global, text: &[u8]) -> Result<Vec<u8>, AllocError>
     };
     match flatten(alloc, &models) {
         Ok((net, names)) => shown(alloc, &net, &names),
-        Err(fault) => refused(alloc, &fault),
+        Err(fault) => fault_text(alloc, &fault),
     }
 }
 
@@ -243,7 +247,7 @@ fn made(alloc: Global, text: &[u8]) -> Result<Vec<u8>, AllocError>
 fn compare(rt: &impl Abort, alloc: Global, table: &[(&[u8], &[u8])]) -> Result<(), AllocError> {
     for (text, want) in table {
         assert!(rt; text.len() <= 67_108_864);
-        let got = made(alloc, *text)?;
+        let got = net_or_fault_text(alloc, *text)?;
         assert_eq!(rt; got.as_slice(), *want, "at {text:?}");
     }
     Ok(())

@@ -103,7 +103,7 @@ fn line_fault(alloc: Global, kind: &[u8], line: u32, name: &Name) -> Result<Vec<
 }
 
 /// A fault.
-pub(crate) fn refused(alloc: Global, fault: &NetFault) -> Result<Vec<u8>, AllocError> {
+pub(crate) fn fault_text(alloc: Global, fault: &NetFault) -> Result<Vec<u8>, AllocError> {
     match fault {
         NetFault::UnknownModel { line, name } => line_fault(alloc, b"unknown model", *line, name),
         NetFault::Recursive { line, name } => line_fault(alloc, b"recursive", *line, name),

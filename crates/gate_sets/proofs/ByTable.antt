@@ -6,7 +6,8 @@ use Rattle.std.proofs.lemmas.List.{drop-append-le, get_or-drop, get_or-take, len
 use Rattle.std.proofs.lemmas.List.Elements.{All-head, All-map, All-tail}
 use Rattle.ste_base.specs.declared.id.NodeId.{NodeId}
 use Rattle.dd_nodes.specs.declared.node.Ref.{Ref}
-use Rattle.dd_nodes.specs.Diagram.{Function, IsCofactor, IsFrom, child}
+use Rattle.ste_base.specs.Functions.{Function}
+use Rattle.dd_nodes.specs.Diagram.{IsCofactor, IsFrom, child}
 use Rattle.dd_nodes.specs.Stores.{Keeps, Means, Store, function}
 use Rattle.dd_nodes.specs.Functions.{IsCofactorOf}
 use Rattle.dd_nodes.specs.Spending.{Has, Spends}
@@ -22,11 +23,11 @@ use Rattle.dual_rail.specs.declared.rails.Rails.{Rails}
 use Rattle.dual_rail.specs.Rail.{AreRails, AreRefs, Built, HasFunction, HasSet}
 use Rattle.dual_rail.proofs.Works.{SoFar, Built-answer, Built-covers, Built-good, Built-made, Rails-keep, So-start, behind, first, here, more}
 use Rattle.gate_sets.specs.declared.net_rails.NetRails.{NetRails}
-use Rattle.gate_sets.specs.declared.table.Tables.{Tables}
-use Rattle.gate_sets.specs.declared.met.Entry.{Entry}
-use Rattle.gate_sets.specs.declared.met.Met.{Met}
+use Rattle.gate_sets.specs.declared.truth_table.TruthTables.{TruthTables}
+use Rattle.gate_sets.specs.declared.gate_memo.Entry.{Entry}
+use Rattle.gate_sets.specs.declared.gate_memo.GateMemo.{GateMemo}
 use Rattle.gate_sets.specs.NetSets.{AreNetRefs, HaveInputs, net_at, sets_at}
-use Rattle.gate_sets.specs.private.Tables.{AreAlike, AreBothTold, AreFrom, AreMet, HasSetOrNot, IsEntry, IsFull, choice_of_rails, entry_operands, half_rails, in_table, own_set_of, rails_of, set_by_tables, some_choice, table_choice}
+use Rattle.gate_sets.specs.private.TruthTables.{AreAlike, AreBothDecided, AreFrom, AreMet, HasSetOrNot, IsEntry, IsFull, choice_of_rails, entry_operands, half_rails, in_table, own_set_of, rails_of, set_by_tables, some_choice, table_choice}
 
 -- ---- a stack of references
 
@@ -176,7 +177,7 @@ choice_kept table s t ops ds dt k refs =
     λ i bits. some_choice (in_table table) (same i) bits
 
 -- and their sets by tables
-set_kept : (tables : Tables) (s t : Store) (ops : List Rails) → IsGood s → IsGood t → Keeps s t → All (AreRefs s) ops → set_by_tables tables t ops ≡ set_by_tables tables s ops
+set_kept : (tables : TruthTables) (s t : Store) (ops : List Rails) → IsGood s → IsGood t → Keeps s t → All (AreRefs s) ops → set_by_tables tables t ops ≡ set_by_tables tables s ops
 set_kept tables s t ops ds dt k refs =
     let zero : choice_of_rails tables.can0 t ops ≡ choice_of_rails tables.can0 s ops = choice_kept tables.can0 s t ops ds dt k refs in
     let one : choice_of_rails tables.can1 t ops ≡ choice_of_rails tables.can1 s ops = choice_kept tables.can1 s t ops ds dt k refs in
@@ -304,7 +305,7 @@ module _ (s : Store) (v : ℕ) (ops : List Rails) (ds : IsGood s) (o : AreOpen s
         at_bit true bits l = sym (high.value bits l)
         at_bit false bits l = sym (low.value bits l)
 
-  module _ (tables : Tables) where
+  module _ (tables : TruthTables) where
     abbrev whole : SymbolicSet
     whole = set_by_tables tables s ops
 
@@ -351,7 +352,7 @@ module _ (s : Store) (v : ℕ) (ops : List Rails) (ds : IsGood s) (o : AreOpen s
 -- ---- both calls
 
 -- what a call is asked of the references with the variable fixed
-pub half_asked : (s x y : Store) (v : ℕ) (b : Bool) (ops shown : List Rails) (met : Met) → IsGood s → AreOpen s v ops → x ≡ s → y ≡ s → shown ≡ half_of x v b ops → length ops ≤ 6 → AreMet s (length ops) met
+pub half_asked : (s x y : Store) (v : ℕ) (b : Bool) (ops shown : List Rails) (met : GateMemo) → IsGood s → AreOpen s v ops → x ≡ s → y ≡ s → shown ≡ half_of x v b ops → length ops ≤ 6 → AreMet s (length ops) met
     → (length shown ≤ 6) × All (AreRefs y) shown × All (IsFull y) shown × AreMet y (length shown) met
 half_asked s x y v b ops shown met ds o e e' is few m =
     let here : shown ≡ half_of s v b ops = is ∙ ap (λ (z : Store). half_of z v b ops) e in
@@ -363,12 +364,12 @@ half_asked s x y v b ops shown met ds o e e' is few m =
     )
 
 -- what was met for references with the variable fixed was met for as many
-pub met_back : (x t : Store) (v : ℕ) (b : Bool) (ops shown : List Rails) (met : Met) → shown ≡ half_of x v b ops → AreMet t (length shown) met → AreMet t (length ops) met
+pub met_back : (x t : Store) (v : ℕ) (b : Bool) (ops shown : List Rails) (met : GateMemo) → shown ≡ half_of x v b ops → AreMet t (length shown) met → AreMet t (length ops) met
 met_back x t v b ops shown met is m =
     let long : length shown ≡ length ops = ap length is ∙ length-map ops (half_rails x.held v b) in
     subst (λ (n : ℕ). AreMet t n met) long m
 
-module _ (s : Store) (v : ℕ) (ops : List Rails) (ds : IsGood s) (o : AreOpen s v ops) (tables : Tables) where
+module _ (s : Store) (v : ℕ) (ops : List Rails) (ds : IsGood s) (o : AreOpen s v ops) (tables : TruthTables) where
   abbrev all_set : SymbolicSet
   all_set = set_by_tables tables s ops
 
@@ -455,29 +456,29 @@ entry_keeps s t n operands e ds dt k h = record {
 }
 
 -- what was met is so in a later store
-pub Met-keeps : (s t : Store) (n : ℕ) (m : Met) → IsGood s → IsGood t → Keeps s t → AreMet s n m → AreMet t n m
-Met-keeps s t n m ds dt k met = λ i d lt. entry_keeps s t n m.operands.items (slice_index_or m.entries.items i d) ds dt k (met i d lt)
+pub GateMemo-keeps : (s t : Store) (n : ℕ) (m : GateMemo) → IsGood s → IsGood t → Keeps s t → AreMet s n m → AreMet t n m
+GateMemo-keeps s t n m ds dt k met = λ i d lt. entry_keeps s t n m.operands.items (slice_index_or m.entries.items i d) ds dt k (met i d lt)
 
 -- nothing was met
-pub none_met : (s : Store) (n : ℕ) (m : Met) → m.entries.items ≡ [] → AreMet s n m
+pub none_met : (s : Store) (n : ℕ) (m : GateMemo) → m.entries.items ≡ [] → AreMet s n m
 none_met s n m e = subst (All (IsEntry s n m.operands.items)) (sym e) (λ i d lt. absurd (omega arith))
 
 -- ---- settled references
 
 -- what is found for the settled references is found for the first ones
-pub settled_found : (s t : Store) (before after : Tables) (old new : List Rails) (result : Result (Option Rails) OpFault) → IsGood s → AreAlike before after old new → All (IsFull s) old
+pub settled_found : (s t : Store) (before after : TruthTables) (old new : List Rails) (result : Result (Option Rails) OpFault) → IsGood s → AreAlike before after old new → All (IsFull s) old
     → Built (both_of (set_by_tables after s new)) (HasSetOrNot (set_by_tables after s new)) s t result → Built (both_of (set_by_tables before s old)) (HasSetOrNot (set_by_tables before s old)) s t result
 settled_found s t before after old new result ds a full m =
     found_same (set_by_tables after s new) (set_by_tables before s old) s t result (λ bits l. sym (a.zero s ds full bits l)) (λ bits l. sym (a.one s ds full bits l)) m
 
--- what is told of references is found
-pub told_found : (s : Store) (tables : Tables) (ops shown : List Rails) (r : Rails) → IsGood s → shown ≡ ops → AreBothTold tables shown r → All (AreRefs s) ops → All (IsFull s) ops → Built (both_of (set_by_tables tables s ops)) (HasSetOrNot (set_by_tables tables s ops)) s s (Ok (Some r))
+-- what references decide is found
+pub told_found : (s : Store) (tables : TruthTables) (ops shown : List Rails) (r : Rails) → IsGood s → shown ≡ ops → AreBothDecided tables shown r → All (AreRefs s) ops → All (IsFull s) ops → Built (both_of (set_by_tables tables s ops)) (HasSetOrNot (set_by_tables tables s ops)) s s (Ok (Some r))
 told_found s tables ops shown r ds is here refs full =
-    let told : AreBothTold tables ops r = subst (λ (rs : List Rails). AreBothTold tables rs r) is here in
+    let told : AreBothDecided tables ops r = subst (λ (rs : List Rails). AreBothDecided tables rs r) is here in
     Built-made (both_of (set_by_tables tables s ops)) (HasSetOrNot (set_by_tables tables s ops)) s s (Some r) (So-start (both_of (set_by_tables tables s ops)) s) (record { zero = told.zero s ds refs full; one = told.one s ds refs full })
 
 -- what was met is found
-pub met_found : (s : Store) (tables : Tables) (ops shown : List Rails) (met : Met) (r : Rails) → shown ≡ ops → AreMet s (length ops) met → (AreMet s (length shown) met → AreRails s (set_by_tables tables s shown) r)
+pub met_found : (s : Store) (tables : TruthTables) (ops shown : List Rails) (met : GateMemo) (r : Rails) → shown ≡ ops → AreMet s (length ops) met → (AreMet s (length shown) met → AreRails s (set_by_tables tables s shown) r)
     → Built (both_of (set_by_tables tables s ops)) (HasSetOrNot (set_by_tables tables s ops)) s s (Ok (Some r))
 met_found s tables ops shown met r is m rails =
     let has = rails (subst (λ (rs : List Rails). AreMet s (length rs) met) (sym is) m) in
@@ -485,7 +486,7 @@ met_found s tables ops shown met r is m rails =
     (subst (λ (rs : List Rails). AreRails s (set_by_tables tables s rs) r) is has)
 
 -- what is found is put to what was met
-pub met_put : (s t : Store) (tables : Tables) (old ops shown : List Rails) (before after : Met) (result : Option Rails) (r : Rails) → IsGood s → IsGood t → shown ≡ ops → length ops ≡ length old → AreMet t (length ops) before → All (AreRefs s) ops
+pub met_put : (s t : Store) (tables : TruthTables) (old ops shown : List Rails) (before after : GateMemo) (result : Option Rails) (r : Rails) → IsGood s → IsGood t → shown ≡ ops → length ops ≡ length old → AreMet t (length ops) before → All (AreRefs s) ops
     → result ≡ Some r → Built (both_of (set_by_tables tables s ops)) (HasSetOrNot (set_by_tables tables s ops)) s t (Ok result)
     → (AreMet t (length shown) before → All (AreRefs t) shown → AreRails t (set_by_tables tables t shown) r → AreMet t (length shown) after) → AreMet t (length old) after
 met_put s t tables old ops shown before after result r ds dt is long met refs some made put =
@@ -500,7 +501,7 @@ met_put s t tables old ops shown before after result r ds dt is long met refs so
     (subst (λ (rs : List Rails). AreRails t (set_by_tables tables t rs) r) (sym is) rails))
 
 -- what a call finds in a store that is another
-pub found_at : (s y t : Store) (tables : Tables) (ops : List Rails) (result : Result (Option Rails) OpFault) → y ≡ s → Built (both_of (set_by_tables tables y ops)) (HasSetOrNot (set_by_tables tables y ops)) y t result
+pub found_at : (s y t : Store) (tables : TruthTables) (ops : List Rails) (result : Result (Option Rails) OpFault) → y ≡ s → Built (both_of (set_by_tables tables y ops)) (HasSetOrNot (set_by_tables tables y ops)) y t result
     → Built (both_of (set_by_tables tables s ops)) (HasSetOrNot (set_by_tables tables s ops)) s t result
 found_at s y t tables ops result e m = subst (λ (z : Store). Built (both_of (set_by_tables tables z ops)) (HasSetOrNot (set_by_tables tables z ops)) z t result) e m
 
@@ -530,7 +531,7 @@ module _ (s : Store) (nets : List NetRails) (inputs : List NodeId) (ops : List R
         let m = have k d lt in (m.zero.value bits l, m.one.value bits l))
 
     -- a call for the references is one for the sets
-    pub call_made : (tables : Tables) (t : Store) (result : Result (Option Rails) OpFault)
+    pub call_made : (tables : TruthTables) (t : Store) (result : Result (Option Rails) OpFault)
         → Built (both_of (set_by_tables tables s ops)) (HasSetOrNot (set_by_tables tables s ops)) s t result
         → Built (table_choice tables.can0 (sets_at sets inputs) ∷ table_choice tables.can1 (sets_at sets inputs) ∷ [])
         (HasSetOrNot (record { zero = table_choice tables.can0 (sets_at sets inputs); one = table_choice tables.can1 (sets_at sets inputs) })) s t result

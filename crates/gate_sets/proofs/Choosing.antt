@@ -13,7 +13,8 @@ use Rattle.dd_nodes.proofs.Walks.{from_constant}
 use Rattle.dd_ops.proofs.Terminal.{one_bit, zero_bit}
 use Rattle.net_core.specs.declared.cover.Lit.{Lit}
 use Rattle.net_core.specs.declared.cover.Lit.TheVariants.{Zero, One, Any}
-use Rattle.net_core.specs.Work.{Function, SymbolicSet, AreWide, always, conjunction, disjunction, factor, factors, gate_set, never, product, row_products, sum, whole}
+use Rattle.ste_base.specs.Functions.{Function}
+use Rattle.net_core.specs.Work.{SymbolicSet, AreWide, always, conjunction, disjunction, factor, factors, gate_set, never, product, row_products, sum, whole}
 use Rattle.gate_sets.specs.declared.choices.Choices.{Choices}
 use Rattle.gate_sets.specs.declared.net_rails.NetRails.{NetRails}
 use Rattle.gate_sets.specs.declared.words.Digits.TheVariants.{Sets}
@@ -152,7 +153,7 @@ apart zero (suc b) la lb ne = refl
 apart (suc a) zero la lb ne = refl
 apart (suc a) (suc b) la lb ne = absurd (ne (omega (arith, la, lb)))
 
--- the set that the words tell is the gate's
+-- the set that the words give is the gate's
 pub choice_net : (s : Store) → IsGood s → (sets : ℕ → SymbolicSet) (nets : List NetRails) (inputs : List NodeId) (on off : List (List Lit)) (c : Choices) (choice : ℕ) (r : NetRails) → AreWide on (length inputs) → AreWide off (length inputs)
     → AreChoices on off c → IsChoice nets inputs choice → choice < 64 → HaveInputs s sets nets inputs → r.can0.0 ≡ bit_at c.can0 choice → r.can1.0 ≡ bit_at c.can1 choice → r.some.0 ≡ max r.can0.0 r.can1.0
     → (IsTrue r.known → r.can0.0 ≢ r.can1.0) → AreNetRails s (gate_set on off (sets_at sets inputs)) r

@@ -6,8 +6,8 @@ use Rattle.std.proofs.lemmas.List.Elements.{All-push, All-weaker}
 use Rattle.dd_nodes.specs.Stores.{Store}
 use Rattle.dual_rail.specs.declared.rails.Rails.{Rails}
 use Rattle.dual_rail.specs.Rail.{AreRails, AreRefs}
-use Rattle.gate_sets.specs.declared.met.Entry.{Entry}
-use Rattle.gate_sets.specs.private.Tables.{IsEntry, entry_operands, set_by_tables}
+use Rattle.gate_sets.specs.declared.gate_memo.Entry.{Entry}
+use Rattle.gate_sets.specs.private.TruthTables.{IsEntry, entry_operands, set_by_tables}
 
 -- references that stand in a list stand there still where more are behind it
 operands_stay : (n : ℕ) (xs ys : List Rails) (e : Entry) → e.begin + n ≤ length xs → entry_operands n (xs ++ ys) e ≡ entry_operands n xs e

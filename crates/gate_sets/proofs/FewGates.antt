@@ -1,4 +1,4 @@
--- Gates that go by their tables: what is found there is the set that the rows give.
+-- Gates by their tables: what is found there is the set that the rows give.
 use Rattle.std.proofs.Common.{◌≡◌, ◌≢◌, ℕ, zero, suc, Bool, true, false, List, [], ◌∷◌, length, refl, sym, ◌∙◌, ap, subst, arith, Option, Some, None, Result}
 use Rattle.std.specs.Prelude.{◌&&◌, ◌||◌}
 use Rattle.std.proofs.lemmas.List.Elements.{All-head, All-tail, Contains-append_left, Contains-append_right}
@@ -14,8 +14,8 @@ use Rattle.net_core.proofs.GateSets.{product_cons, sum_cons}
 use Rattle.dual_rail.specs.declared.rails.Rails.{Rails}
 use Rattle.dual_rail.specs.Rail.{Built}
 use Rattle.dual_rail.proofs.Works.{Built-covers, Built-good}
-use Rattle.gate_sets.specs.declared.table.Tables.{Tables}
-use Rattle.gate_sets.specs.private.Tables.{AreTables, HasSetOrNot, in_table, some_choice, table_choice}
+use Rattle.gate_sets.specs.declared.truth_table.TruthTables.{TruthTables}
+use Rattle.gate_sets.specs.private.TruthTables.{AreTables, HasSetOrNot, in_table, some_choice, table_choice}
 use Rattle.gate_sets.proofs.Ordered.{total}
 use Rattle.gate_sets.proofs.Pairs.{sum_in}
 use Rattle.gate_sets.proofs.SomeChoice.{choice_alike, choice_none, choice_or}
@@ -73,7 +73,7 @@ total_by_table rows ws n table long wide told bits =
     total_is_choice rows ws (subst (AreWide rows) (sym long) wide) bits
     ∙ choice_alike (some_matches rows) (in_table table) ws bits (λ choice l. sym (told choice (l ∙ long)))
 
-module _ (on off : List (List Lit)) (ws : List SymbolicSet) (n : ℕ) (tables : Tables) (long : length ws ≡ n) (wide_on : AreWide on n) (wide_off : AreWide off n) (told : AreTables on off n tables) where
+module _ (on off : List (List Lit)) (ws : List SymbolicSet) (n : ℕ) (tables : TruthTables) (long : length ws ≡ n) (wide_on : AreWide on n) (wide_off : AreWide off n) (told : AreTables on off n tables) where
   -- the sums of the rows are where the tables have a choice
   zero_same : (bits : List Bool) → total off ws bits ≡ table_choice tables.can0 ws bits
   zero_same bits = total_by_table off ws n tables.can0 long wide_off told.zero bits

@@ -6,7 +6,8 @@ use Rattle.std.specs.Prelude.{IsSome, if◌then◌else◌}
 use Rattle.dd_nodes.specs.declared.node.Node.{Node}
 use Rattle.ste_base.specs.declared.id.NodeId.{NodeId}
 use Rattle.dd_nodes.specs.declared.node.Ref.{Ref}
-use Rattle.dd_nodes.specs.Diagram.{Function, IsCofactor}
+use Rattle.ste_base.specs.Functions.{Function}
+use Rattle.dd_nodes.specs.Diagram.{IsCofactor}
 use Rattle.dd_nodes.specs.Stores.{function, Store, IsRef, Keeps, Means, node_of}
 use Rattle.dd_nodes.specs.Functions.{IsCofactorOf}
 use Rattle.dd_nodes.specs.Spending.{Has, Spends}

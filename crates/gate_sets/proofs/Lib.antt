@@ -16,6 +16,6 @@ pub mod WordBits
 pub mod Choosing
 pub mod FewGates
 pub mod SomeChoice
-pub mod Tables
+pub mod TruthTables
 pub mod ByTable
 pub mod Entries

@@ -4,7 +4,7 @@ use Rattle.std.proofs.lemmas.List.{drop_more, length-map}
 use Rattle.std.proofs.lemmas.List.Elements.{Contains-append_left, Contains-append_right}
 use Rattle.ste_base.specs.declared.id.NodeId.{NodeId}
 use Rattle.dd_nodes.specs.declared.node.Ref.{Ref}
-use Rattle.dd_nodes.specs.Diagram.{Function}
+use Rattle.ste_base.specs.Functions.{Function}
 use Rattle.dd_nodes.specs.Stores.{Store, Means}
 use Rattle.dd_nodes.specs.Spending.{Spends}
 use Rattle.dd_nodes.proofs.Stores.{IsGood}

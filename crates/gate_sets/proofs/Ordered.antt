@@ -6,7 +6,8 @@ use Rattle.std.proofs.lemmas.List.{get_or-drop, drop-drop}
 use Rattle.std.proofs.lemmas.List.Elements.{All-head, All-tail}
 use Rattle.ste_base.specs.declared.id.NodeId.{NodeId}
 use Rattle.dd_nodes.specs.declared.node.Ref.{Ref}
-use Rattle.dd_nodes.specs.Diagram.{Function, IsCofactor, IsFrom}
+use Rattle.ste_base.specs.Functions.{Function}
+use Rattle.dd_nodes.specs.Diagram.{IsCofactor, IsFrom}
 use Rattle.dd_nodes.specs.Stores.{Store, Keeps, Means, function, node_of}
 use Rattle.dd_nodes.proofs.Walks.{fixed, bit-fixed, drop-fixed, from_function, length-fixed, length-up_to, up_to, value-held}
 use Rattle.dd_nodes.proofs.Stores.{IsGood}

@@ -3,7 +3,7 @@ use Rattle.std.proofs.Common.{◌≡◌, ℕ, zero, suc, ◌<◌, Bool, true, fa
 use Rattle.std.specs.Prelude.{All, ◌&&◌, ◌||◌}
 use Rattle.std.proofs.lemmas.List.Elements.{All-head, All-tail}
 use Rattle.net_core.specs.Work.{SymbolicSet}
-use Rattle.gate_sets.specs.private.Tables.{some_choice}
+use Rattle.gate_sets.specs.private.TruthTables.{some_choice}
 
 -- the same choices
 pub choice_alike : (p q : List Bool → Bool) (ws : List SymbolicSet) (bits : List Bool) → ((choice : List Bool) → length choice ≡ length ws → p choice ≡ q choice) → some_choice p ws bits ≡ some_choice q ws bits

@@ -110,7 +110,7 @@ row_goes_on digits row lit word more place choice all l is bits before =
     ∙ min_in (bit_at word choice) (lit_bit digits lit (choice / base_of digits ^ place)) (row_bit digits rest (choice / base_of digits ^ (place + 1)))
     ∙ ap (min (bit_at word choice)) (sym whole) ∙ before
 
--- behind the last literal the word tells all
+-- behind the last literal the word says all
 pub row_ends : (digits : Digits) (row : List Lit) (word place choice all : ℕ) → length row ≤ place → min (bit_at word choice) (row_bit digits (drop place row) (choice / base_of digits ^ place)) ≡ all → bit_at word choice ≡ all
 row_ends digits row word place choice all le before =
     let small = bit_small word choice in

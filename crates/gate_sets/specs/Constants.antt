@@ -10,4 +10,5 @@ AreConstant r = (r.can0.0 < 2) × (r.can1.0 < 2)
 
 -- these nets are at most three, and their sets are constants
 abbrev pub HaveChoice : List NetRails → List NodeId → Type 0
-HaveChoice nets inputs = (length inputs ≤ 3) × All (λ input. AreConstant (net_at nets input.0)) inputs
+HaveChoice nets inputs =
+    (length inputs ≤ 3) × All (λ input. AreConstant (net_at nets input.0)) inputs

@@ -11,8 +11,8 @@ use Rattle.gate_sets.specs.declared.net_rails.NetRails.{NetRails}
 abbrev pub IsKnown : ℕ → SymbolicSet → Type 0
 IsKnown vars w = (bits : List Bool) → length bits ≡ vars → w.zero bits ≡ not (w.one bits)
 
--- the references are those of the set: where it has 0, where it has 1, and where it has a bit; a flag that it has
--- exactly one is right
+-- the references are those of the set: where it has 0, where it has 1, and where it has a bit; a
+-- flag that it has exactly one is right
 pub record AreNetRails (s : Store) (w : SymbolicSet) (r : NetRails) : Type 0 where
   pub zero : Means s w.zero r.can0
   pub one : Means s w.one r.can1
@@ -38,7 +38,8 @@ pub record AreFlagged (s : Store) (w : SymbolicSet) (r : FlaggedRails) : Type 0 
 -- the rails are constants, or held, and the flag is right
 pub record AreFlaggedRefs (s : Store) (r : FlaggedRails) : Type 0 where
   pub rails : AreRefs s r.rails
-  pub known : IsTrue r.known → IsKnown s.vars (record { zero = function s r.rails.can0; one = function s r.rails.can1 })
+  pub known : IsTrue r.known →
+      IsKnown s.vars (record { zero = function s r.rails.can0; one = function s r.rails.can1 })
 
 abbrev pub HasFlagged : SymbolicSet → Store → FlaggedRails → Type 0
 HasFlagged w s r = AreFlagged s w r
@@ -49,7 +50,13 @@ HasNetSet w s r = AreNetRails s w r
 
 -- the references of a net in a list, one for each net; both bits for a number that is no net
 abbrev pub net_at : List NetRails → ℕ → NetRails
-net_at nets id = slice_index_or nets id (record { can0 = record { 0 = 1 }; can1 = record { 0 = 1 }; some = record { 0 = 1 }; known = false })
+net_at nets id =
+    slice_index_or nets id (record {
+      can0 = record { 0 = 1 };
+      can1 = record { 0 = 1 };
+      some = record { 0 = 1 };
+      known = false;
+    })
 
 -- the sets of these nets, in order
 abbrev pub sets_at : (ℕ → SymbolicSet) → List NodeId → List SymbolicSet
@@ -57,4 +64,5 @@ sets_at sets inputs = map (λ input. sets input.0) inputs
 
 -- these nets have their sets
 abbrev pub HaveInputs : Store → (ℕ → SymbolicSet) → List NetRails → List NodeId → Type 0
-HaveInputs s sets nets inputs = All (λ input. AreNetRails s (sets input.0) (net_at nets input.0)) inputs
+HaveInputs s sets nets inputs =
+    All (λ input. AreNetRails s (sets input.0) (net_at nets input.0)) inputs

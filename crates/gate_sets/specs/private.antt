@@ -5,5 +5,5 @@ pub mod Pieces
 pub mod Ordered
 pub mod Numbers
 pub mod Choices
-pub mod Tables
+pub mod TruthTables
 pub mod Words

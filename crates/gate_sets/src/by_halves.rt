@@ -3,7 +3,8 @@
 //! and `sum_by_halves` sums it; `rows_sum` in `sums.rt` asks for both.
 
 ghost use Rattle.std.specs.Prelude.{◌≡◌, ◌≢◌, ◌↔◌, ◌+◌, ◌<◌, ◌≤◌, ◌∷◌, [], ℕ, List, All, IfOk, IfSome, IsTrue, OnOk, drop, length, map, take, if◌then◌else◌};
-ghost use Rattle.dd_nodes.specs.Diagram.{Function, IsFrom};
+ghost use Rattle.ste_base.specs.Functions.{Function};
+ghost use Rattle.dd_nodes.specs.Diagram.{IsFrom};
 ghost use Rattle.dd_ops.specs.Answer.{Answer};
 ghost use Rattle.dd_ops.specs.Splitting.{Splits};
 ghost use Rattle.std.specs.List.{flat_map, list_any};
@@ -109,8 +110,8 @@ fn full_rows(alloc: Global, rows: &RowList, width: usize) -> Result<Option<Vec<L
     Ok(Some(full))
 }
 
-/// The literals of the rows of a long list without `-`, row behind row, where there are inputs, and they are variables
-/// in order, or free; none where they are not, or the list is another.
+/// The literals of the rows of a long list without `-`, row behind row, where there are inputs, and
+/// they are variables in order, or free; none where they are not, or the list is another.
 pub fn rows_to_halve<N: Nodes>(
     alloc: Global,
     nodes: &mut N,
@@ -178,7 +179,8 @@ fn begins_with(row: &[Lit], bit: bool) -> bool
     }
 }
 
-/// The constant 1 where some row begins with a literal that admits the bit, and else the constant 0.
+/// The constant 1 where some row begins with a literal that admits the bit, and else the constant
+/// 0.
 fn some_admits(rows: &[&[Lit]], bit: bool) -> Ref
     ensures { result ≡ (if list_any (begins_with bit) (map (λ row. row.now) rows.now)
         then Ref.TRUE else Ref.FALSE) }
@@ -201,7 +203,8 @@ fn without_first<'a>(row: &'a [Lit]) -> &'a [Lit]
     }
 }
 
-/// Adds to a stack, of its rows from a place on, those that begin with a literal that admits the bit, each without it.
+/// Adds to a stack, of its rows from a place on, those that begin with a literal that admits the
+/// bit, each without it.
 fn add_half(stack: &mut Vec<&[Lit]>, begin: usize, bit: bool) -> Result<(), AllocError>
     requires { begin ≤ length stack.old.items }
     ensures kept { OnOk result (take (length stack.old.items) stack.new.items ≡ stack.old.items) }
@@ -242,9 +245,9 @@ pub(crate) fn split_at<N: Nodes>(nodes: &mut N, var: u32, lo: Ref, hi: Ref) -> R
     Ok(nodes.mk(var, lo, hi)?)
 }
 
-/// The sum of the products of the rows of a stack, from a place on, over inputs that are variables in order, or free.
-/// Each node that is made is one of the sum's own, and calls are as deep as there are inputs. The stack lends room for
-/// halves; it is left as it was.
+/// The sum of the products of the rows of a stack, from a place on, over inputs that are variables
+/// in order, or free. Each node that is made is one of the sum's own, and calls are as deep as
+/// there are inputs. The stack lends room for halves; it is left as it was.
 fn sum_of<N: Nodes>(
     nodes: &mut N,
     stack: &mut Vec<&[Lit]>,
@@ -296,9 +299,9 @@ fn sum_of<N: Nodes>(
     split_at(nodes, var, lo, hi)
 }
 
-/// The sum of the products of the rows whose literals these are, over inputs that are variables in order, or free. Each
-/// node that is made is one of the sum's own. Each row is looked at once for each input, and calls are as deep as there
-/// are inputs.
+/// The sum of the products of the rows whose literals these are, over inputs that are variables in
+/// order, or free. Each node that is made is one of the sum's own. Each row is looked at once for
+/// each input, and calls are as deep as there are inputs.
 pub fn sum_by_halves<N: Nodes>(
     alloc: Global,
     nodes: &mut N,

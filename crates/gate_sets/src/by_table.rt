@@ -1,27 +1,29 @@
 //! Gates of three to six inputs, by truth tables: both rails in one recursion over the variables,
 //! which makes no node but the result's own, and gives up after 1,024 steps. Begin with `by_table`;
-//! what a table says alone is in `table.rt`, what was found on the way in `met.rt`.
+//! what a table says alone is in `truth_table.rt`, what was found on the way in `gate_memo.rt`.
 
 ghost use Rattle.std.specs.Prelude.{◌≡◌, ◌≤◌, ◌<◌, ◌+◌, ◌∷◌, [], ℕ, All, IfOk, OnOk, drop, length, map, take};
-ghost use Rattle.dd_nodes.specs.Diagram.{Function, IsFrom, child};
+ghost use Rattle.ste_base.specs.Functions.{Function};
+ghost use Rattle.dd_nodes.specs.Diagram.{IsFrom, child};
 ghost use Rattle.dd_nodes.specs.Stores.{IsRef, Keeps};
 ghost use Rattle.dd_ops.specs.Splitting.{Splits};
 ghost use Rattle.dual_rail.specs.Rail.{AreRefs, Built, HasSet};
 ghost use Rattle.net_core.specs.Work.{SymbolicSet};
 ghost use Rattle.gate_sets.specs.NetSets.{AreNetRefs, HaveInputs, net_at, sets_at};
-ghost use Rattle.gate_sets.specs.private.Tables.{AreAlike, AreFrom, AreMet, HasSetOrNot, IsFull, choice_of_rails, half_rails, rails_of, set_by_tables, table_choice};
+ghost use Rattle.gate_sets.specs.private.TruthTables.{AreAlike, AreFrom, AreMet, HasSetOrNot, IsFull, choice_of_rails, half_rails, rails_of, set_by_tables, table_choice};
 
 use crate::by_halves::split_at;
-use crate::met::{Met, slot_of};
+use crate::gate_memo::{GateMemo, slot_of};
 use crate::net_rails::NetRails;
-use crate::table::{Tables, settle, told};
+use crate::truth_table::{TruthTables, decided_set, settle};
 use dd_nodes::{Nodes, Ref};
 use dd_ops::OpFault;
 use dual_rail::Rails;
 use std::alloc::{AllocError, Global};
 use ste_base::NodeId;
 
-/// The first variable that a reference reads, or the given one where that comes before it, or there is none.
+/// The first variable that a reference reads, or the given one where that comes before it, or there
+/// is none.
 fn first_of<N: Nodes>(nodes: &mut N, r: Ref, least: u32) -> u32
     requires refs { IsRef (N.store nodes.old) r }
     ensures store { N.store nodes.new ≡ N.store nodes.old }
@@ -98,7 +100,7 @@ fn operands_from(stack: &Vec<Rails>, begin: usize) -> &[Rails]
 }
 
 /// The same as `settle` for the references of a stack from a place on.
-fn settle_from(tables: Tables, stack: &mut Vec<Rails>, begin: usize) -> Tables
+fn settle_from(tables: TruthTables, stack: &mut Vec<Rails>, begin: usize) -> TruthTables
     requires begin { begin ≤ length stack.old.items }
     requires few { length (drop begin stack.old.items) ≤ 6 }
     ensures kept { take begin stack.new.items ≡ take begin stack.old.items }
@@ -125,17 +127,18 @@ fn split_set<N: Nodes>(nodes: &mut N, var: u32, lo: Rails, hi: Rails) -> Result<
     Ok(Rails { can0, can1 })
 }
 
-/// The set of a gate with these tables, whose inputs have the sets of the references of a stack from a place on, none of which
-/// is empty anywhere; none where it takes recursion deeper than this, or more steps of it in all. Each node that is made is
-/// one of the set's own. The stack lends room for halves, and what it holds from that place on is lost; `met` is asked for
-/// what it has, and gets what is found.
+/// The set of a gate with these tables, whose inputs have the sets of the references of a stack
+/// from a place on, none of which is empty anywhere; none where it takes recursion deeper than
+/// this, or more steps of it in all. Each node that is made is one of the set's own. The stack
+/// lends room for halves, and what it holds from that place on is lost; `met` is asked for what it
+/// has, and gets what is found.
 #[cycle(halving)]
 fn sum_of<N: Nodes>(
     nodes: &mut N,
-    tables: Tables,
+    tables: TruthTables,
     stack: &mut Vec<Rails>,
     begin: usize,
-    met: &mut Met,
+    met: &mut GateMemo,
     depth: u32,
     left: &mut u32,
 ) -> Result<Option<Rails>, OpFault>
@@ -155,11 +158,11 @@ fn sum_of<N: Nodes>(
         (N.store nodes.old) (N.store nodes.new) result }
 {
     let tables = settle_from(tables, stack, begin);
-    if let Some(r) = told(tables, operands_from(stack, begin)) {
+    if let Some(r) = decided_set(tables, operands_from(stack, begin)) {
         return Ok(Some(r));
     }
     let slot = slot_of(tables, operands_from(stack, begin));
-    if let Some(r) = met.found(slot, tables, operands_from(stack, begin)) {
+    if let Some(r) = met.find(slot, tables, operands_from(stack, begin)) {
         return Ok(Some(r));
     }
     let var = first_variable(nodes, operands_from(stack, begin));
@@ -174,16 +177,16 @@ fn sum_of<N: Nodes>(
     Ok(Some(r))
 }
 
-/// The same where none of the references reads a variable before this one: from the sets with it 0 and 1. The stack is left
-/// as it was.
+/// The same where none of the references reads a variable before this one: from the sets with it 0
+/// and 1. The stack is left as it was.
 #[cycle(halving)]
 fn sum_at<N: Nodes>(
     nodes: &mut N,
-    tables: Tables,
+    tables: TruthTables,
     stack: &mut Vec<Rails>,
     begin: usize,
     var: u32,
-    met: &mut Met,
+    met: &mut GateMemo,
     depth: u32,
     left: &mut u32,
 ) -> Result<Option<Rails>, OpFault>
@@ -223,12 +226,12 @@ fn sum_at<N: Nodes>(
 /// How many steps of the recursion are taken for a gate before its rows are gone through.
 const MOST_STEPS: u32 = 1024;
 
-/// Scratch that the recursion by tables takes, and that is used again at the next gate: a stack of inputs' sets with their
-/// halves, and what was found. What it holds between gates says nothing.
+/// Scratch that the recursion by tables takes, and that is used again at the next gate: a stack of
+/// inputs' sets with their halves, and what was found. What it holds between gates says nothing.
 #[derive(Drop)]
 pub struct Scratch {
     pub stack: Vec<Rails>,
-    pub met: Met,
+    pub met: GateMemo,
 }
 
 impl Scratch {
@@ -236,7 +239,7 @@ impl Scratch {
     pub fn none(alloc: Global) -> Scratch {
         Scratch {
             stack: Vec::new(alloc),
-            met: Met::none(alloc),
+            met: GateMemo::none(alloc),
         }
     }
 }
@@ -265,7 +268,7 @@ fn put_operands(
 /// The same as `by_table` where the stack holds the inputs' sets already, and nothing is met.
 fn set_of<N: Nodes>(
     nodes: &mut N,
-    tables: Tables,
+    tables: TruthTables,
     scratch: &mut Scratch,
     nets: &[NetRails],
     inputs: &[NodeId],
@@ -302,12 +305,13 @@ fn set_of<N: Nodes>(
     )
 }
 
-/// The set of a gate by its tables, where its inputs have these sets, none of which is empty anywhere: where it can be 0, and
-/// where it can be 1; none where this takes too many steps of the recursion. Each node that is made is one of the set's own.
+/// The set of a gate by its tables, where its inputs have these sets, none of which is empty
+/// anywhere: where it can be 0, and where it can be 1; none where this takes too many steps of the
+/// recursion. Each node that is made is one of the set's own.
 pub fn by_table<N: Nodes>(
     alloc: Global,
     nodes: &mut N,
-    tables: Tables,
+    tables: TruthTables,
     scratch: &mut Scratch,
     nets: &[NetRails],
     inputs: &[NodeId],

@@ -23,9 +23,10 @@ pub const CHOICES: usize = 64;
 /// The most inputs of a cover with choices.
 const MOST_INPUTS: u32 = 3;
 
-/// For a cover of at most three inputs, whether its gate can be 0, and whether it can be 1, for each choice of constant
-/// sets of the inputs: a bit of a word for each choice. The digits of a choice to the base 4, from the lowest on, are the
-/// sets of the inputs, from the first on: 1 where a set has 0, and 2 more where it has 1.
+/// For a cover of at most three inputs, whether its gate can be 0, and whether it can be 1, for
+/// each choice of constant sets of the inputs: a bit of a word for each choice. The digits of a
+/// choice to the base 4, from the lowest on, are the sets of the inputs, from the first on: 1 where
+/// a set has 0, and 2 more where it has 1.
 #[derive(Clone, Copy, Drop)]
 pub struct Choices {
     pub can0: u64,
@@ -33,8 +34,8 @@ pub struct Choices {
 }
 
 impl Choices {
-    /// The choices of a cover with so many inputs, by the rows that match where it is 1, and where it is 0. Where there are
-    /// more than three inputs the words say nothing.
+    /// The choices of a cover with so many inputs, by the rows that match where it is 1, and where
+    /// it is 0. Where there are more than three inputs the words say nothing.
     pub fn of(width: u32, on: &[Row], off: &[Row]) -> Choices
         requires on { AreWide on.now width }
         requires off { AreWide off.now width }
@@ -83,7 +84,8 @@ fn digit(nets: &[NetRails], input: NodeId) -> usize
     }
 }
 
-/// The choice which the sets of these nets are, where they are at most three, and constants; else no number below 64.
+/// The choice which the sets of these nets are, where they are at most three, and constants; else
+/// no number below 64.
 pub fn choice_of(nets: &[NetRails], inputs: &[NodeId]) -> usize
     requires { All (λ input. input.0 < length nets.now) inputs.now }
     ensures choice { result < 64 → IsChoice nets.now inputs.now result }

@@ -5,11 +5,11 @@ ghost use Rattle.net_core.specs.declared.cover.Cover.{Cover as ACover};
 ghost use Rattle.net_core.specs.Source.{source_of};
 ghost use Rattle.gate_sets.specs.Lists.{rows_of};
 ghost use Rattle.gate_sets.specs.private.Choices.{AreTold};
-ghost use Rattle.gate_sets.specs.private.Tables.{HaveTables};
+ghost use Rattle.gate_sets.specs.private.TruthTables.{HaveTables};
 
 use crate::choices::Choices;
 use crate::rows::{CoverRows, GateRows};
-use crate::table::Tables;
+use crate::truth_table::TruthTables;
 use net_core::{Cover, Gate, Latch, Net, Source};
 use std::marker::Model;
 use ste_base::NodeId;
@@ -81,7 +81,7 @@ impl<'a> Compiled<'a> {
     }
 
     /// The tables of both lists of a cover, by its number.
-    pub(crate) fn tables(&self, number: usize) -> Tables
+    pub(crate) fn tables(&self, number: usize) -> TruthTables
         requires { number < length self.now.raw.covers }
         ensures { (cover : ACover) → slice_get self.now.raw.covers number ≡ Some cover
             → HaveTables (rows_of cover) result }

@@ -1,4 +1,4 @@
-//! What is clear of the sets of a gate's inputs; begin with `filling_of`.
+//! What is known of the sets of a gate's inputs; begin with `filling_of`.
 
 ghost use Rattle.std.specs.Prelude.{◌≡◌, ◌≢◌, ◌<◌, ◌↔◌, All, IsTrue, length};
 ghost use Rattle.gate_sets.specs.declared.filling.Filling.TheVariants.{MayBeEmpty, TwoValued};
@@ -8,7 +8,8 @@ use crate::net_rails::NetRails;
 use dd_nodes::Ref;
 use ste_base::NodeId;
 
-/// What is clear of the sets of several nets, under every assignment. Each case promises what those before it do.
+/// What is known of the sets of several nets, under every assignment. Each case promises what those
+/// before it do.
 #[derive(Clone, Copy, PartialEq, Eq, Drop)]
 pub enum Filling {
     /// Nothing: a set may be empty.
@@ -35,7 +36,7 @@ impl Filling {
     }
 }
 
-/// What is clear of these nets.
+/// What is known of these nets.
 pub fn filling_of(nets: &[NetRails], inputs: &[NodeId]) -> Filling
     requires { All (λ input. input.0 < length nets.now) inputs.now }
     ensures { AreFilled result nets.now inputs.now }

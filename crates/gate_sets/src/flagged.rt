@@ -29,7 +29,7 @@ pub fn is_constant(r: Rails) -> bool
     }
 }
 
-/// Whether it is clear that the set has exactly one bit, which it has where `known` says so.
+/// Whether the set is known to have exactly one bit: it has one where `known` says so.
 pub fn is_clear(known: bool, r: Rails) -> bool
     ensures { IsTrue result → (s : Store) (w : SymbolicSet)
         → IsDiagram s.held s.vars → AreRails s w r → (IsTrue known → IsKnown s.vars w)

@@ -24,7 +24,8 @@ use net_core::Lit;
 use std::alloc::Global;
 use ste_base::NodeId;
 
-/// The literals of the only row of a list over two inputs; none where there are more rows, or the second literal is `-`.
+/// The literals of the only row of a list over two inputs; none where there are more rows, or the
+/// second literal is `-`.
 pub fn only_pair(rows: &RowList) -> Option<(Lit, Lit)>
     requires { rows.now.width ≡ 2 }
     ensures row { IfSome result (λ p. rows.now.list ≡ (p.0 ∷ p.1 ∷ []) ∷ []) }
@@ -36,7 +37,8 @@ pub fn only_pair(rows: &RowList) -> Option<(Lit, Lit)>
     }
 }
 
-/// From a row of two literals: where both admit some bit of their inputs, and where one of them refuses some bit.
+/// From a row of two literals: where both admit some bit of their inputs, and where one of them
+/// refuses some bit.
 pub fn pair<N: Nodes>(
     ops: &Ops,
     nodes: &mut N,
@@ -62,8 +64,9 @@ pub fn pair<N: Nodes>(
     Ok(Rails { can0, can1 })
 }
 
-/// Where one of two literals refuses some bit, `can1` being where both admit some. Where each input has exactly one bit,
-/// and one literal decides alone, nothing is called; nor is it where both refuse constants.
+/// Where one of two literals refuses some bit, `can1` being where both admit some. Where each input
+/// has exactly one bit, and one literal decides alone, nothing is called; nor is it where both
+/// refuse constants.
 fn refused_by_pair<N: Nodes>(
     ops: &Ops,
     nodes: &mut N,
@@ -127,9 +130,10 @@ pub fn only_exclusive(rows: &RowList) -> Option<(Lit, Lit)>
     }
 }
 
-/// The set of an exclusive OR of two inputs that each have exactly one bit, by the literals of its first row: where what the
-/// first one asks differs from what the second one refuses, and where it differs from what the second one asks. Where the
-/// first one asks for a constant nothing is called.
+/// The set of an exclusive OR of two inputs that each have exactly one bit, by the literals of its
+/// first row: where what the first one asks differs from what the second one refuses, and where it
+/// differs from what the second one asks. Where the first one asks for a constant nothing is
+/// called.
 pub fn exclusive<N: Nodes>(
     ops: &Ops,
     nodes: &mut N,
@@ -167,8 +171,8 @@ pub fn exclusive<N: Nodes>(
     Ok(Rails { can0, can1 })
 }
 
-/// Where some row of a list matches, and where none does, of inputs that each have exactly one bit: one sum, and its
-/// negation.
+/// Where some row of a list matches, and where none does, of inputs that each have exactly one bit:
+/// one sum, and its negation.
 fn by_list<N: Nodes>(
     alloc: Global,
     ops: &Ops,
@@ -194,8 +198,8 @@ fn by_list<N: Nodes>(
     Ok(Rails { can0, can1 })
 }
 
-/// The set that a gate gives, where each input has exactly one bit everywhere: the sum of its shorter list of rows, and the
-/// negation of this.
+/// The set that a gate gives, where each input has exactly one bit everywhere: the sum of its
+/// shorter list of rows, and the negation of this.
 pub fn by_shorter<N: Nodes>(
     alloc: Global,
     ops: &Ops,

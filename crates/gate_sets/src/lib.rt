@@ -11,15 +11,15 @@ pub mod choices;
 pub mod compiled;
 pub mod filling;
 pub mod flagged;
+pub mod gate_memo;
 mod gates;
-pub mod met;
 pub mod net_rails;
 mod one_row;
 pub mod piece;
 pub mod row_list;
 pub mod rows;
 mod sums;
-pub mod table;
+pub mod truth_table;
 pub mod ways;
 pub mod words;
 

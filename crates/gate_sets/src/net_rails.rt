@@ -11,8 +11,9 @@ use dd_nodes::Ref;
 use dual_rail::Rails;
 use net_core::Lit;
 
-/// The set of a net: it has 0 where `can0` is 1, 1 where `can1` is 1, and some bit where `some` is 1. For nearly all nets
-/// `some` is the constant 1. A net that is `known` has exactly one bit under each assignment.
+/// The set of a net: it has 0 where `can0` is 1, 1 where `can1` is 1, and some bit where `some` is
+/// 1. For nearly all nets `some` is the constant 1. A net that is `known` has exactly one bit under
+/// each assignment.
 #[derive(Clone, Copy, PartialEq, Eq, Drop)]
 pub struct NetRails {
     pub can0: Ref,

@@ -2,7 +2,7 @@
 //! of sums. `only_rising` finds such a cover, and `by_row` gives the set.
 
 ghost use Rattle.std.specs.Prelude.{◌≡◌, ◌≤◌, ◌<◌, ◌∷◌, ◌++◌, [], ℕ, List, All, IfOk, IfSome, IsTrue, length, drop};
-ghost use Rattle.dd_nodes.specs.Diagram.{Function};
+ghost use Rattle.ste_base.specs.Functions.{Function};
 ghost use Rattle.dd_nodes.specs.Stores.{IsRef, Keeps, Means};
 ghost use Rattle.net_core.specs.Cases.{has_only_any};
 ghost use Rattle.net_core.specs.Work.{SymbolicSet, never, row_products, rows_work, sum};
@@ -82,7 +82,7 @@ fn add_refused<N: Nodes>(
 }
 
 /// Where some literal of the row refuses some bit of its input.
-fn refused<N: Nodes>(
+fn refused_sum<N: Nodes>(
     ops: &Ops,
     nodes: &mut N,
     row: &[Lit],
@@ -106,8 +106,8 @@ fn refused<N: Nodes>(
     Ok(sum)
 }
 
-/// Where the only row of a list matches, and where it does not. `products` lends room for the products of its first
-/// literals.
+/// Where the only row of a list matches, and where it does not. `products` lends room for the
+/// products of its first literals.
 pub fn by_row<N: Nodes>(
     alloc: Global,
     ops: &Ops,
@@ -135,6 +135,6 @@ pub fn by_row<N: Nodes>(
         (N.store nodes.old) (N.store nodes.new) result }
 {
     let can1 = rows_sum(alloc, ops, nodes, rows, products, nets, inputs)?;
-    let can0 = refused(ops, nodes, row, nets, inputs)?;
+    let can0 = refused_sum(ops, nodes, row, nets, inputs)?;
     Ok(Rails { can0, can1 })
 }

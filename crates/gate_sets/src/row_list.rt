@@ -13,8 +13,9 @@ use std::alloc::{AllocError, Global};
 use std::marker::Model;
 use ste_base::Items;
 
-/// A list of rows over so many inputs. Contracts see the rows; what is stored of a row is its literals behind those that
-/// it shares with the row before, up to the last one that is no `-`: 4 bytes for each such literal and 4 for the row.
+/// A list of rows over so many inputs. Contracts see the rows; what is stored of a row is its
+/// literals behind those that it shares with the row before, up to the last one that is no `-`: 4
+/// bytes for each such literal and 4 for the row.
 #[derive(Drop)]
 pub struct RowList {
     width: u32,
@@ -33,7 +34,7 @@ impl Model for RowList {
 }
 
 /// The number of first literals, at most `most`, that both rows share.
-fn shared(a: &[Lit], b: &[Lit], most: usize) -> usize
+fn shared_width(a: &[Lit], b: &[Lit], most: usize) -> usize
     requires left { most ≤ length a.now }
     requires right { most ≤ length b.now }
     ensures within { result ≤ most }
@@ -48,7 +49,7 @@ fn shared(a: &[Lit], b: &[Lit], most: usize) -> usize
 }
 
 /// The number of literals up to the last one that is no `-`.
-fn trimmed(row: &[Lit]) -> usize
+fn width_without_any(row: &[Lit]) -> usize
     ensures within { result ≤ length row.now }
     ensures blank { (k : ℕ) → result ≤ k → slice_index_or row.now k Any ≡ Any }
 {
@@ -73,8 +74,8 @@ fn put_all(pieces: &mut Items<Piece>, row: &[Lit], from: usize, to: usize) -> Re
     Ok(())
 }
 
-/// Adds a row that begins with `from` literals of the row before, and gives the number of literals with which the next
-/// one begins.
+/// Adds a row that begins with `from` literals of the row before, and gives the number of literals
+/// with which the next one begins.
 fn add_row(
     pieces: &mut Items<Piece>,
     row: &[Lit],
@@ -90,9 +91,9 @@ fn add_row(
         → IfOk result (λ kept.
         LeadTo width pieces.new (done ++ row.now ∷ []) (take kept next.now) false) }
 {
-    let end = trimmed(row).max(from);
+    let end = width_without_any(row).max(from);
     put_all(pieces, row, from, end)?;
-    let kept = shared(row, next, end);
+    let kept = shared_width(row, next, end);
     pieces.push(Piece::Close(kept as u16))?;
     Ok(kept)
 }

@@ -1,6 +1,6 @@
 //! What is made once of all covers of a net; begin with `GateRows`. Of each cover it has both lists
-//! of rows (`RowList`), the words of constants (`choices.rt`) and the truth tables (`table.rt`);
-//! covers that are the same share them.
+//! of rows (`RowList`), the words of constants (`choices.rt`) and the truth tables
+//! (`truth_table.rt`); covers that are the same share them.
 
 ghost use Rattle.std.specs.Prelude.{◌≡◌, ◌≤◌, ◌<◌, map, All, IfOk, IsTrue, length};
 ghost use Rattle.std.proofs.Props.{props};
@@ -10,29 +10,31 @@ ghost use Rattle.net_core.specs.Work.{AreWide};
 ghost use Rattle.gate_sets.specs.Lists.{rows_of};
 ghost use Rattle.gate_sets.specs.private.Choices.{AreTold};
 ghost use Rattle.gate_sets.specs.private.Numbers.{kind_at};
-ghost use Rattle.gate_sets.specs.private.Tables.{HaveTables};
+ghost use Rattle.gate_sets.specs.private.TruthTables.{HaveTables};
 
 use crate::choices::Choices;
 use crate::row_list::RowList;
-use crate::table::Tables;
+use crate::truth_table::TruthTables;
 use net_core::{Cover, Lit, Net, Row, other_rows};
 use std::alloc::{AllocError, Global};
 use std::marker::Model;
 use ste_base::Items;
 
-/// Both lists of rows of a cover: the rows that match where its bit is 1, and those that match where it is 0.
+/// Both lists of rows of a cover: the rows that match where its bit is 1, and those that match
+/// where it is 0.
 #[derive(Drop)]
 pub struct CoverRows {
     pub on: RowList,
     pub off: RowList,
 }
 
-/// Both lists of rows of a cover, the set of its gate for each choice of constants, and its tables. Contracts see the lists.
+/// Both lists of rows of a cover, the set of its gate for each choice of constants, and its tables.
+/// Contracts see the lists.
 #[derive(Drop)]
 struct Kind {
     rows: CoverRows,
     choices: Choices,
-    tables: Tables,
+    tables: TruthTables,
     ghost tabled: { HaveTables rows tables } by { Prim.hlevel props },
     ghost told: { AreTold rows choices } by { Prim.hlevel props },
 }
@@ -61,16 +63,17 @@ impl Kind {
     }
 
     /// The tables of both lists.
-    fn tables(&self) -> Tables
+    fn tables(&self) -> TruthTables
         ensures { HaveTables self.now result }
     {
         self.tables
     }
 }
 
-/// Both lists of rows of every cover of a net, by the cover's number. The rows that a cover leaves out are found once,
-/// and all gates of the cover share them, as do covers that are the same, mostly: a netlist from a tool has a cover for
-/// each of its gates. Contracts see both lists of each cover.
+/// Both lists of rows of every cover of a net, by the cover's number. The rows that a cover leaves
+/// out are found once, and all gates of the cover share them, as do covers that are the same,
+/// mostly: a netlist from a tool has a cover for each of its gates. Contracts see both lists of
+/// each cover.
 #[derive(Drop)]
 pub struct GateRows {
     kinds: Items<Kind>,
@@ -91,10 +94,11 @@ impl Model for GateRows {
 /// So many places for covers that were met.
 const PLACES: usize = 251;
 
-/// How many rows of a cover, and literals of a row, its place is told by.
+/// How many rows of a cover, and literals of a row, its place depends on.
 const TOLD_BY: usize = 8;
 
-/// Both lists of rows over so many inputs, with the set of a gate for each choice of constants, and the tables.
+/// Both lists of rows over so many inputs, with the set of a gate for each choice of constants, and
+/// the tables.
 fn kind_of(alloc: Global, width: u32, on: &[Row], off: &[Row]) -> Result<Kind, AllocError>
     requires width { width ≤ 1000 }
     requires on { AreWide on.now width }
@@ -105,7 +109,7 @@ fn kind_of(alloc: Global, width: u32, on: &[Row], off: &[Row]) -> Result<Kind, A
     }) }
 {
     let choices = Choices::of(width, on, off);
-    let tables = Tables::of(width, on, off);
+    let tables = TruthTables::of(width, on, off);
     let on = RowList::of(alloc, width, on)?;
     let off = RowList::of(alloc, width, off)?;
     let rows = CoverRows { on, off };
@@ -208,7 +212,8 @@ impl GateRows {
         self.kinds.as_slice()[self.numbers.as_slice()[cover]].rows()
     }
 
-    /// The set of a gate of a cover, by its number, for each choice of constants. It takes no memory.
+    /// The set of a gate of a cover, by its number, for each choice of constants. It takes no
+    /// memory.
     pub(crate) fn choices(&self, cover: usize) -> Choices
         requires { cover < length self.now.covers }
         ensures { AreTold (kind_at self.now.covers cover) result }
@@ -217,7 +222,7 @@ impl GateRows {
     }
 
     /// The tables of both lists of a cover, by its number. It takes no memory.
-    pub(crate) fn tables(&self, cover: usize) -> Tables
+    pub(crate) fn tables(&self, cover: usize) -> TruthTables
         requires { cover < length self.now.covers }
         ensures { HaveTables (kind_at self.now.covers cover) result }
     {

@@ -1,8 +1,8 @@
-//! Sums of the products of rows, piece by piece of a list; begin with `rows_sum`. Long lists go by
-//! halves (`by_halves.rt`).
+//! Sums of the products of rows, piece by piece of a list; begin with `rows_sum`. Long lists are
+//! summed by halves (`by_halves.rt`).
 
 ghost use Rattle.std.specs.Prelude.{◌≡◌, ◌≤◌, ◌<◌, ◌∷◌, [], ℕ, List, length, take, All, IfOk, slice_index_or};
-ghost use Rattle.dd_nodes.specs.Diagram.{Function};
+ghost use Rattle.ste_base.specs.Functions.{Function};
 ghost use Rattle.dd_nodes.specs.Stores.{IsRef, Keeps, Means};
 ghost use Rattle.net_core.specs.declared.cover.Lit.{Lit};
 ghost use Rattle.net_core.specs.declared.cover.Lit.TheVariants.{Any};
@@ -42,7 +42,7 @@ fn times<N: Nodes>(
 }
 
 /// The product of a row of which only `-` are left from `from` on.
-fn filled<N: Nodes>(
+fn row_product<N: Nodes>(
     ops: &Ops,
     nodes: &mut N,
     all: Ref,
@@ -74,7 +74,7 @@ fn filled<N: Nodes>(
 }
 
 /// The sum so far with the product of a row of which only `-` are left.
-fn closed<N: Nodes>(
+fn add_row_product<N: Nodes>(
     ops: &Ops,
     nodes: &mut N,
     sum: Ref,
@@ -102,7 +102,7 @@ fn closed<N: Nodes>(
         (HasFunction (disjunction f (product (factors row (sets_at sets inputs.now)))))
         (N.store nodes.old) (N.store nodes.new) result }
 {
-    let whole = filled(ops, nodes, all, from, nets, inputs)?;
+    let whole = row_product(ops, nodes, all, from, nets, inputs)?;
     either(ops, nodes, sum, whole)
 }
 
@@ -138,7 +138,7 @@ fn row_by_row<N: Nodes>(
                 products[begun] = all;
             }
             Piece::Close(kept) => {
-                sum = closed(ops, nodes, sum, products[begun], begun, nets, inputs)?;
+                sum = add_row_product(ops, nodes, sum, products[begun], begun, nets, inputs)?;
                 begun = kept as usize;
             }
         }
@@ -146,9 +146,9 @@ fn row_by_row<N: Nodes>(
     Ok(sum)
 }
 
-/// The sum of the products of the rows: where some choice from the inputs' sets is matched by some row. The inputs are
-/// nets by number. `products` lends room for the products of the first literals of a row. A long list without `-` over
-/// variables in order is summed by halves.
+/// The sum of the products of the rows: where some choice from the inputs' sets is matched by some
+/// row. The inputs are nets by number. `products` lends room for the products of the first literals
+/// of a row. A long list without `-` over variables in order is summed by halves.
 pub fn rows_sum<N: Nodes>(
     alloc: Global,
     ops: &Ops,

@@ -17,7 +17,7 @@ ghost use Rattle.gate_sets.specs.Lists.{rows_of};
 ghost use Rattle.gate_sets.specs.NetSets.{AreNetRails, AreNetRefs, HaveInputs, net_at, sets_at};
 ghost use Rattle.gate_sets.specs.Constants.{HaveChoice};
 ghost use Rattle.gate_sets.specs.private.Refused.{is_rising};
-ghost use Rattle.gate_sets.specs.private.Tables.{AreTables, HaveTables};
+ghost use Rattle.gate_sets.specs.private.TruthTables.{AreTables, HaveTables};
 
 use crate::by_table::{Scratch, by_table};
 use crate::choices::{CHOICES, choice_of};
@@ -27,7 +27,7 @@ use crate::gates::{by_rows, by_shorter, exclusive, only_exclusive, only_pair, pa
 use crate::net_rails::NetRails;
 use crate::one_row::{by_row, only_rising};
 use crate::rows::CoverRows;
-use crate::table::{MOST_INPUTS, Tables};
+use crate::truth_table::{MOST_INPUTS, TruthTables};
 use dd_nodes::{Nodes, Ref};
 use dd_ops::{OpFault, Ops};
 use dual_rail::Rails;
@@ -35,7 +35,8 @@ use net_core::{Cover, Gate, Lit};
 use std::alloc::Global;
 use ste_base::NodeId;
 
-/// The set that a gate of this cover gives. Of the ways of this list the first one is taken that fits:
+/// The set that a gate of this cover gives. Of the ways of this list the first one is taken that
+/// fits:
 ///
 /// | Way | Where | What it takes | File |
 /// |---|---|---|---|
@@ -47,16 +48,16 @@ use ste_base::NodeId;
 /// | shorter | none or several inputs of two values | a sum and a negation | `gates.rt` |
 /// | rows | any other | two sums | `gates.rt` |
 ///
-/// Where an input may be empty only constants and rows fit. A sum of rows goes by halves where its list is long, has no `-`
-/// and its inputs are variables in order, else row by row (`sums.rt`). `products` lends room for the products of the first
-/// literals of a row.
+/// Where an input may be empty only constants and rows fit. A sum of rows is made by halves where
+/// its list is long, has no `-` and its inputs are variables in order, else row by row (`sums.rt`).
+/// `products` lends room for the products of the first literals of a row.
 fn cover_set<N: Nodes>(
     alloc: Global,
     ops: &Ops,
     nodes: &mut N,
     cover: &Cover,
     rows: &CoverRows,
-    tables: Tables,
+    tables: TruthTables,
     products: &mut [Ref],
     scratch: &mut Scratch,
     nets: &[NetRails],
@@ -111,7 +112,8 @@ fn cover_set<N: Nodes>(
     by_sums(alloc, ops, nodes, rows, products, nets, inputs, filling)
 }
 
-/// The set that a gate gives whose cover has this row alone, with ones but for its last literal, where no input is empty.
+/// The set that a gate gives whose cover has this row alone, with ones but for its last literal,
+/// where no input is empty.
 fn rising_gate<N: Nodes>(
     alloc: Global,
     ops: &Ops,
@@ -149,14 +151,14 @@ fn rising_gate<N: Nodes>(
     })
 }
 
-/// The set that a gate of few inputs gives, none of which is empty anywhere: by its tables where few steps tell it, else by
-/// sums of the rows of its cover.
+/// The set that a gate of few inputs gives, none of which is empty anywhere: by its tables where
+/// few steps give it, else by sums of the rows of its cover.
 fn few_gate<N: Nodes>(
     alloc: Global,
     ops: &Ops,
     nodes: &mut N,
     rows: &CoverRows,
-    tables: Tables,
+    tables: TruthTables,
     products: &mut [Ref],
     scratch: &mut Scratch,
     nets: &[NetRails],
@@ -192,7 +194,8 @@ fn few_gate<N: Nodes>(
     }
 }
 
-/// Whether a gate of so many inputs goes by tables first: one of more than two, whose cover has several rows.
+/// Whether a gate of so many inputs is tried by tables first: one of more than two, whose cover has
+/// several rows.
 fn is_few(inputs: usize, cover: &Cover, rows: &CoverRows) -> bool
     ensures few { IsTrue result → inputs ≤ 6 }
     ensures on { IsTrue result → rows.now.on.list ≢ [] }
@@ -205,8 +208,9 @@ fn is_few(inputs: usize, cover: &Cover, rows: &CoverRows) -> bool
         && 0 < rows.off.size()
 }
 
-/// The set that a gate gives, by sums of the rows of its cover: of the shorter list, where each of two inputs or more has
-/// exactly one bit, else of both. One input's rails are at hand, so that nothing is called for a buffer or an inverter.
+/// The set that a gate gives, by sums of the rows of its cover: of the shorter list, where each of
+/// two inputs or more has exactly one bit, else of both. One input's rails are held already, so
+/// that nothing is called for a buffer or an inverter.
 fn by_sums<N: Nodes>(
     alloc: Global,
     ops: &Ops,
@@ -240,8 +244,8 @@ fn by_sums<N: Nodes>(
     by_rows(alloc, ops, nodes, rows, products, nets, inputs)
 }
 
-/// The set that a gate of a net gives, before any cut of its output, where its inputs have these sets, and so much is clear of
-/// them.
+/// The set that a gate of a net gives, before any cut of its output, where its inputs have these
+/// sets, and so much is known of them.
 pub fn gate_set<N: Nodes>(
     alloc: Global,
     ops: &Ops,
@@ -277,8 +281,9 @@ pub fn gate_set<N: Nodes>(
     )
 }
 
-/// The set of a gate's output by the first way of `cover_set`, where no cut is of it: it is read from a word of the gate's
-/// cover, where the inputs are at most three, and their sets are constants. Nothing is called, whatever the rows are.
+/// The set of a gate's output by the first way of `cover_set`, where no cut is of it: it is read
+/// from a word of the gate's cover, where the inputs are at most three, and their sets are
+/// constants. Nothing is called, whatever the rows are.
 #[inline]
 pub fn constant_set(net: &Compiled, nets: &[NetRails], g: &Gate) -> Option<NetRails>
     requires width { (cover : ACover) → slice_get net.now.raw.covers g.now.cover ≡ Some cover

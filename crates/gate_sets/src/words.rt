@@ -1,16 +1,17 @@
 //! What rows say for each choice of digits for the inputs, as words of 64 bits, a bit for each
 //! choice. Begin with `rows_word`, which is one for bits, of which truth tables are made
-//! (`table.rt`), and for sets of bits, of which the words of constants are (`choices.rt`).
+//! (`truth_table.rt`), and for sets of bits, of which the words of constants are (`choices.rt`).
 
 ghost use Rattle.std.specs.Prelude.{◌≡◌, ◌≤◌, ◌<◌, ◌+◌, ◌/◌, ◌^◌, ℕ, Bool, false, not, List, All, get_or, length};
 ghost use Rattle.std.specs.Int.{bit_at};
 ghost use Rattle.gate_sets.specs.declared.words.Digits.TheVariants.{Bits, Sets};
-ghost use Rattle.gate_sets.specs.private.Tables.{in_table};
+ghost use Rattle.gate_sets.specs.private.TruthTables.{in_table};
 ghost use Rattle.gate_sets.specs.private.Words.{base_of, lit_bit, most_of, row_bit, rows_bit};
 
 use net_core::{Lit, Row};
 
-/// What the digits of a choice are: bits of the inputs, to the base 2, or sets of bits, to the base 4.
+/// What the digits of a choice are: bits of the inputs, to the base 2, or sets of bits, to the base
+/// 4.
 #[derive(Clone, Copy, PartialEq, Eq, Drop)]
 pub enum Digits {
     /// The bit of each input.

@@ -1,17 +1,18 @@
--- Meaning. Routes along hops, by the numbers of the hops, and the one that a failure shows. Source: this project's own
--- choice.
+-- Meaning. Routes along hops, by the numbers of the hops, and the one that a failure shows. Source:
+-- this project's own choice.
 use Rattle.std.specs.Prelude.{◌≡◌, ◌≢◌, ℕ, ◌<◌, ◌≤◌, List, [], ◌∷◌, length, All, IsTrue, Option, Some, None, slice_get}
 use Rattle.std.specs.declared.cmp.Ordering.TheVariants.{Greater}
 use Rattle.std.specs.Cmp.Lexicographic.{slice_cmp}
 use Rattle.std.specs.Ordering.{nat_cmp}
 use Rattle.graph_path.specs.declared.hop.Hop.{Hop}
 
--- a route from a vertex to a failure, by the numbers of its hops: the first one from this vertex, each other from where the
--- one before it leads; all are feasible, and the last one fails
+-- a route from a vertex to a failure, by the numbers of its hops: the first one from this vertex,
+-- each other from where the one before it leads; all are feasible, and the last one fails
 abbrev pub IsHopRoute : List Hop → ℕ → List ℕ → Type 0
 IsHopRoute hops vertex [] = ⊥
 IsHopRoute hops vertex (n ∷ []) =
-    (hop : Hop) × (slice_get hops n ≡ Some hop) × (hop.from ≡ vertex) × IsTrue hop.feasible × IsTrue hop.fails
+    (hop : Hop) × (slice_get hops n ≡ Some hop) × (hop.from ≡ vertex) × IsTrue hop.feasible
+    × IsTrue hop.fails
 IsHopRoute hops vertex (n ∷ m ∷ rest) =
     (hop : Hop) × (slice_get hops n ≡ Some hop) × (hop.from ≡ vertex) × IsTrue hop.feasible
     × IsHopRoute hops hop.to (m ∷ rest)

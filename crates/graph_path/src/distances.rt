@@ -18,12 +18,13 @@ pub fn may_begin(hop: Hop, far: &[Option<u32>], level: u32) -> bool
     hop.feasible && far[hop.to as usize] == Some(level - 1)
 }
 
-/// Gives the hop's first vertex this distance, where it has none and a route may begin with the hop. The answer is whether
-/// it did.
+/// Gives the hop's first vertex this distance, where it has none and a route may begin with the
+/// hop. The answer is whether it did.
 fn visit(hop: Hop, far: &mut Vec<Option<u32>>, level: u32) -> bool
     requires { hop.to < length far.old.items }
     ensures changed { IsTrue result → (slice_get far.old.items hop.from ≡ Some None)
-        × MayBegin far.old.items level hop × (far.new.items ≡ set far.old.items hop.from (Some level)) }
+        × MayBegin far.old.items level hop × (far.new.items
+        ≡ set far.old.items hop.from (Some level)) }
     ensures same { result ≡ false → far.new.items ≡ far.old.items }
     ensures kept { result ≡ false → MayBegin far.old.items level hop →
         slice_get far.old.items hop.from ≢ Some None }
@@ -72,7 +73,8 @@ fn unknown(alloc: Global, vertices: u32) -> Result<Vec<Option<u32>>, AllocError>
     Ok(far)
 }
 
-/// For each vertex the fewest hops behind the first of a route from it, where there is one: fewer than there are vertices.
+/// For each vertex the fewest hops behind the first of a route from it, where there is one: fewer
+/// than there are vertices.
 /// Level after level, backwards from the hops that fail.
 pub fn distances(alloc: Global, vertices: u32, hops: &[Hop]) -> Result<Vec<Option<u32>>, AllocError>
     requires ends { LeadToVertices vertices hops.now }

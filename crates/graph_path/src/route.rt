@@ -24,7 +24,8 @@ fn first_beginning(hops: &[Hop], far: &[Option<u32>], vertex: u32, left: u32) ->
     None
 }
 
-/// The least route from vertex 0. At each vertex it takes the least hop number of those that lead one nearer.
+/// The least route from vertex 0. At each vertex it takes the least hop number of those that lead
+/// one nearer.
 fn least_route(
     alloc: Global,
     hops: &[Hop],
@@ -60,11 +61,13 @@ fn least_route(
     }
 }
 
-/// The path that a failure shows, by the numbers of its edges: along feasible hops from vertex 0 to one that fails, with the
-/// fewest hops, and among those the least list of numbers. `None` exactly where there is no such path. It has no more hops
-/// than there are vertices. There is a hop for each edge, in order. The only error is want of memory.
+/// The path that a failure shows, by the numbers of its edges: along feasible hops from vertex 0 to
+/// one that fails, with the fewest hops, and among those the least list of numbers. `None` exactly
+/// where there is no such path. It has no more hops than there are vertices. There is a hop for
+/// each edge, in order. The only error is out of memory.
 ///
-/// It takes a turn for each level and hop, at most `vertices * hops.len()` of them, and as many for the path.
+/// It takes a turn for each level and hop, at most `vertices * hops.len()` of them, and as many for
+/// the path.
 pub fn path_of(alloc: Global, vertices: u32, hops: &[Hop]) -> Result<Option<Items<u32>>, AllocError>
     requires ends { LeadToVertices vertices hops.now }
     requires few { length hops.now ≤ 4294967296 }

@@ -24,7 +24,7 @@ use Rattle.gste_engine.specs.declared.state.State.{State}
 use Rattle.gste_engine.specs.Tables.{AreStateRefs, IsState}
 use Rattle.gste_engine.specs.declared.links.End.TheVariants.{To}
 use Rattle.gste_engine.specs.private.Links.{IsNextAt}
-use Rattle.gste_engine.specs.private.Sums.{arrivals_work, begun, begun_at, coming, never_state, no_rails, state_functions, summed_at, unreached, with_state, with_states}
+use Rattle.gste_engine.specs.private.Sums.{arrivals_work, first_table, first_state, coming, never_state, no_rails, state_functions, summed_at, unreached, with_state, with_states}
 use Rattle.gste_engine.proofs.Comings.{IsLong, arrival_in, coming_other, coming_this, with_states_push}
 use Rattle.gste_engine.proofs.Sets.{no_set, unions_none}
 use Rattle.gste_engine.proofs.StateRefs.{State-keeps, state_long, state_refs}
@@ -55,20 +55,20 @@ starts_at t net reset d = record {
 summed_later : (net : RawNet) (reset : Bool) (given : Edge → SymbolicState) (v : ℕ) → summed_at net reset given [] (suc v) ≡ never_state net
 summed_later net reset given v = ap (λ (b : Bool). with_states (never_state net) ((if b then start_state net reset ∷ [] else []) ++ [])) (ne_eqb (suc v) 0 (λ e. omega (arith, e)))
 
-pub begun_is : (net : RawNet) (reset : Bool) (given : Edge → SymbolicState) (t : Store) (vertex : ℕ) → IsGood t → IsState t (summed_at net reset given [] vertex) (begun_at net reset vertex)
-begun_is net reset given t zero gt = starts_at t net reset gt
-begun_is net reset given t (suc v) gt = subst (λ (x : SymbolicState). IsState t x (unreached net)) (sym (summed_later net reset given v)) (never_is t net gt)
+pub first_state_is : (net : RawNet) (reset : Bool) (given : Edge → SymbolicState) (t : Store) (vertex : ℕ) → IsGood t → IsState t (summed_at net reset given [] vertex) (first_state net reset vertex)
+first_state_is net reset given t zero gt = starts_at t net reset gt
+first_state_is net reset given t (suc v) gt = subst (λ (x : SymbolicState). IsState t x (unreached net)) (sym (summed_later net reset given v)) (never_is t net gt)
 
-pub begun_get : (net : RawNet) (reset : Bool) (vertices vertex : ℕ) (d : State) → vertex < vertices → get_or (begun net reset vertices) vertex d ≡ begun_at net reset vertex
-begun_get net reset vertices zero d lt =
+pub first_table_get : (net : RawNet) (reset : Bool) (vertices vertex : ℕ) (d : State) → vertex < vertices → get_or (first_table net reset vertices) vertex d ≡ first_state net reset vertex
+first_table_get net reset vertices zero d lt =
     let many : List State = replicate vertices (unreached net) in
-    get_or-set_same many 0 (begun_at net reset 0) d (let n = length-replicate vertices (unreached net) in omega (arith, n, lt))
-begun_get net reset vertices (suc v) d lt =
+    get_or-set_same many 0 (first_state net reset 0) d (let n = length-replicate vertices (unreached net) in omega (arith, n, lt))
+first_table_get net reset vertices (suc v) d lt =
     let many : List State = replicate vertices (unreached net) in
-    get_or-set_other many 0 (suc v) (begun_at net reset 0) d (λ e. omega (arith, e)) ∙ get_or-replicate vertices (suc v) (unreached net) d lt
+    get_or-set_other many 0 (suc v) (first_state net reset 0) d (λ e. omega (arith, e)) ∙ get_or-replicate vertices (suc v) (unreached net) d lt
 
-pub begun_long : (net : RawNet) (reset : Bool) (vertices : ℕ) → length (begun net reset vertices) ≡ vertices
-begun_long net reset vertices = length-set (replicate vertices (unreached net)) 0 (record { reached = record { 0 = 1 }; latches = map (first_rails reset) net.latches }) ∙ length-replicate vertices (unreached net)
+pub first_table_long : (net : RawNet) (reset : Bool) (vertices : ℕ) → length (first_table net reset vertices) ≡ vertices
+first_table_long net reset vertices = length-set (replicate vertices (unreached net)) 0 (record { reached = record { 0 = 1 }; latches = map (first_rails reset) net.latches }) ∙ length-replicate vertices (unreached net)
 
 abbrev pub no_state : State
 no_state = record { reached = record { 0 = 0 }; latches = [] }
@@ -77,15 +77,15 @@ summed_long : (net : RawNet) (reset : Bool) (v : ℕ) → IsLong net (summed_at 
 summed_long net reset zero = ap (λ (ws : List SymbolicSet). length ws) (unions_none (λ latch. constant_set (first_set reset latch)) net.latches) ∙ length-map net.latches (λ latch. constant_set (first_set reset latch))
 summed_long net reset (suc v) = ap (λ (x : SymbolicState). length x.latches) (summed_later net reset (λ edge. never_state net) v) ∙ length-map net.latches (λ latch. no_set)
 
-pub begun_refs : (net : RawNet) (reset : Bool) (vertices : ℕ) (t : Store) → IsGood t → All (AreStateRefs t net) (begun net reset vertices)
-begun_refs net reset vertices t gt = λ v d lt.
-    let n = begun_long net reset vertices in
+pub first_table_refs : (net : RawNet) (reset : Bool) (vertices : ℕ) (t : Store) → IsGood t → All (AreStateRefs t net) (first_table net reset vertices)
+first_table_refs net reset vertices t gt = λ v d lt.
+    let n = first_table_long net reset vertices in
     let l : v < vertices = omega (arith, n, lt) in
-    subst (AreStateRefs t net) (sym (begun_get net reset vertices v d l))
-    (state_refs t net (summed_at net reset (λ edge. never_state net) [] v) (begun_at net reset v) (summed_long net reset v) (begun_is net reset (λ edge. never_state net) t v gt))
+    subst (AreStateRefs t net) (sym (first_table_get net reset vertices v d l))
+    (state_refs t net (summed_at net reset (λ edge. never_state net) [] v) (first_state net reset v) (summed_long net reset v) (first_state_is net reset (λ edge. never_state net) t v gt))
 
-pub begun_at_refs : (net : RawNet) (reset : Bool) (vertex : ℕ) (t : Store) → IsGood t → AreStateRefs t net (begun_at net reset vertex)
-begun_at_refs net reset vertex t gt = state_refs t net (summed_at net reset (λ edge. never_state net) [] vertex) (begun_at net reset vertex) (summed_long net reset vertex) (begun_is net reset (λ edge. never_state net) t vertex gt)
+pub first_state_refs : (net : RawNet) (reset : Bool) (vertex : ℕ) (t : Store) → IsGood t → AreStateRefs t net (first_state net reset vertex)
+first_state_refs net reset vertex t gt = state_refs t net (summed_at net reset (λ edge. never_state net) [] vertex) (first_state net reset vertex) (summed_long net reset vertex) (first_state_is net reset (λ edge. never_state net) t vertex gt)
 
 -- ---- edges that lead elsewhere
 

@@ -1,7 +1,7 @@
 -- One more edge has been dealt with, from the sets of the nets that its consequents name.
 use Rattle.std.proofs.Common.{ℕ, ◌<◌, List, Result}
 use Rattle.std.specs.List.{AllZip}
-use Rattle.dd_nodes.specs.Diagram.{Function}
+use Rattle.ste_base.specs.Functions.{Function}
 use Rattle.dd_nodes.specs.Stores.{Store}
 use Rattle.dd_nodes.proofs.Stores.{IsGood}
 use Rattle.dd_ops.specs.declared.fault.OpFault.{OpFault}

@@ -1,4 +1,4 @@
--- What is told of an edge under one assignment: whether it is feasible, and its first consequent that fails.
+-- What is known of an edge under one assignment: whether it is feasible, and its first consequent that fails.
 use Rattle.std.proofs.Common.{◌≡◌, ◌<◌, ℕ, Bool, true, false, List, [], ◌∷◌, length, map, Option, None, Some, refl, sym, ◌∙◌, ap, subst, All}
 use Rattle.std.specs.Prelude.{◌&&◌, Any}
 use Rattle.std.specs.List.{AllZip}

@@ -2,7 +2,7 @@
 use Rattle.std.proofs.Common.{◌≡◌, ◌<◌, ℕ, Bool, true, false, List, [], ◌∷◌, length, get_or, Option, None, Some, refl, sym, ◌∙◌, subst, All, inl, inr}
 use Rattle.std.specs.Prelude.{IsTrue}
 use Rattle.std.proofs.lemmas.List.Elements.{All-cons, All-contains, All-head, All-map, All-nil, All-tail}
-use Rattle.dd_nodes.specs.Diagram.{Function}
+use Rattle.ste_base.specs.Functions.{Function}
 use Rattle.counter_run.specs.Along.{DoAgree, IsNumberedPath}
 use Rattle.net_core.specs.declared.bit_set.BitSet.{BitSet}
 use Rattle.net_core.specs.declared.raw.RawNet.{RawNet}

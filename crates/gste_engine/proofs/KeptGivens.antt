@@ -10,7 +10,8 @@ use Rattle.net_core.specs.declared.raw.Latch.{Latch}
 use Rattle.net_core.specs.declared.raw.RawNet.{RawNet}
 use Rattle.net_core.specs.Possible.{ArePossible}
 use Rattle.net_core.specs.Run.{IsSettled}
-use Rattle.net_core.specs.Work.{ArePossibleEach, Function, SymbolicSet, asked_at, set_at, some_empty}
+use Rattle.ste_base.specs.Functions.{Function}
+use Rattle.net_core.specs.Work.{ArePossibleEach, SymbolicSet, asked_under, set_at, some_empty}
 use Rattle.net_core.proofs.Possible.{one_family}
 use Rattle.ste_model.specs.declared.task.Edge.{Edge}
 use Rattle.ste_model.specs.declared.task.Graph.{Graph}
@@ -52,8 +53,8 @@ module _ (t : Store) (net : RawNet) (edge : Edge) (source given : State) (settle
 
   sets_same : (bits : List Bool) → length bits ≡ t.vars → (id : ℕ) → set_at bits (p.sets id) ≡ set_at bits (vs id)
   sets_same bits l id =
-      one_family net (map (set_at bits) p.state.latches) (asked_at bits (symbolic_asked_on edge)) settled (λ i. set_at bits (p.sets i)) (λ i. set_at bits (vs i)) (p.possible bits l)
-      (subst (λ (state : VertexState). ArePossible net state.latches (asked_at bits (symbolic_asked_on edge)) (λ i. set_at bits (vs i))) (sym (state_same bits l)) (possible bits l)) id
+      one_family net (map (set_at bits) p.state.latches) (asked_under bits (symbolic_asked_on edge)) settled (λ i. set_at bits (p.sets i)) (λ i. set_at bits (vs i)) (p.possible bits l)
+      (subst (λ (state : VertexState). ArePossible net state.latches (asked_under bits (symbolic_asked_on edge)) (λ i. set_at bits (vs i))) (sym (state_same bits l)) (possible bits l)) id
 
   family : SameFamily t.vars p.sets vs
   family id = record {

@@ -12,7 +12,7 @@ use Rattle.net_core.specs.declared.bit_set.BitSet.{BitSet}
 use Rattle.net_core.specs.declared.raw.RawNet.{RawNet}
 use Rattle.net_core.specs.Possible.{ArePossible}
 use Rattle.net_core.specs.Run.{IsSettled}
-use Rattle.net_core.specs.Work.{ArePossibleEach, SymbolicSet, asked_at, set_at}
+use Rattle.net_core.specs.Work.{ArePossibleEach, SymbolicSet, asked_under, set_at}
 use Rattle.net_core.proofs.Possible.{one_family}
 use Rattle.ste_model.specs.declared.task.Bind.{Bind}
 use Rattle.ste_model.specs.declared.task.Edge.{Edge}
@@ -46,8 +46,8 @@ module _ (t : Store) (net : RawNet) (edge : Edge) (source : State) (seen : List 
 
   sets_same : (id : ℕ) (bits : List Bool) → length bits ≡ t.vars → set_at bits (p.sets id) ≡ set_at bits (vs id)
   sets_same id bits l =
-      one_family net (map (set_at bits) p.state.latches) (asked_at bits (symbolic_asked_on edge)) settled (λ i. set_at bits (p.sets i)) (λ i. set_at bits (vs i)) (p.possible bits l)
-      (subst (λ (state : VertexState). ArePossible net state.latches (asked_at bits (symbolic_asked_on edge)) (λ i. set_at bits (vs i))) (sym (state_same bits l)) (possible bits l)) id
+      one_family net (map (set_at bits) p.state.latches) (asked_under bits (symbolic_asked_on edge)) settled (λ i. set_at bits (p.sets i)) (λ i. set_at bits (vs i)) (p.possible bits l)
+      (subst (λ (state : VertexState). ArePossible net state.latches (asked_under bits (symbolic_asked_on edge)) (λ i. set_at bits (vs i))) (sym (state_same bits l)) (possible bits l)) id
 
   -- whatever the functions of its source and its sets are
   pub nets_stay : (id : ℕ) → id < net.nets → (r : Rails) × AreRails t (vs id) r

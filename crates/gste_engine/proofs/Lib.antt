@@ -31,4 +31,4 @@ pub mod SumsStay
 pub mod Sweeps
 pub mod Starts
 pub mod Turning
-pub mod Waves
+pub mod RoundResults

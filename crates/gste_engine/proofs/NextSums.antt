@@ -11,7 +11,8 @@ use Rattle.net_core.specs.declared.raw.RawNet.{RawNet}
 use Rattle.net_core.specs.Possible.{ArePossible}
 use Rattle.net_core.specs.Run.{IsSettled}
 use Rattle.net_core.specs.Sets.{IsIn, IsWithin, first_set, neither, next_sets}
-use Rattle.net_core.specs.Work.{Function, SymbolicSet, set_at, some_empty}
+use Rattle.ste_base.specs.Functions.{Function}
+use Rattle.net_core.specs.Work.{SymbolicSet, set_at, some_empty}
 use Rattle.net_core.proofs.Possible.{itself, one_family}
 use Rattle.ste_model.specs.declared.task.Edge.{Edge}
 use Rattle.ste_model.specs.declared.task.Graph.{Graph}

@@ -3,7 +3,7 @@ use Rattle.std.proofs.Common.{◌≢◌, ℕ, ◌<◌, ◌+◌, Bool, List, leng
 use Rattle.std.specs.Prelude.{IsSome}
 use Rattle.std.specs.List.{AllPairs}
 use Rattle.dd_nodes.specs.declared.node.Ref.{Ref}
-use Rattle.dd_nodes.specs.Diagram.{Function}
+use Rattle.ste_base.specs.Functions.{Function}
 use Rattle.dd_nodes.specs.Spending.{Spends}
 use Rattle.dd_nodes.specs.Stores.{Means, Store, function}
 use Rattle.dd_nodes.proofs.Spending.{too_few}

@@ -23,14 +23,14 @@ use Rattle.ste_model.specs.GraphWork.{SymbolicState, start_state, state_at}
 use Rattle.ste_model.specs.Work.{constant_set}
 use Rattle.gste_engine.specs.declared.rounds.Progress.{Progress}
 use Rattle.gste_engine.specs.declared.rounds.Sweep.{Sweep}
-use Rattle.gste_engine.specs.declared.rounds.Wave.{Wave}
+use Rattle.gste_engine.specs.declared.rounds.EdgeResults.{EdgeResults}
 use Rattle.gste_engine.specs.declared.state.State.{State}
 use Rattle.gste_engine.specs.Tables.{AreEdgesOver, AreStateRefs, HasStates, IsGraphOver, IsState}
 use Rattle.gste_engine.specs.private.Rounds.{AreGivenFrom, AtStart, IsBetween, IsGivenFrom, IsSwept}
 use Rattle.gste_engine.specs.private.Seen.{AreSeen, IsSeenFrom}
-use Rattle.gste_engine.specs.private.Sums.{HaveFunctions, IsSumOf, begun, begun_at, never_state, summed_at, unions, unreached, with_state, with_states}
+use Rattle.gste_engine.specs.private.Sums.{HaveFunctions, IsSumOf, first_table, first_state, never_state, summed_at, unions, unreached, with_state, with_states}
 use Rattle.gste_engine.proofs.AllGiven.{ArePossibleOn, given_long, given_of, own_has, own_possible, own_sets, own_table}
-use Rattle.gste_engine.proofs.Arrivals.{begun_get, begun_is, begun_long, begun_refs, never_is}
+use Rattle.gste_engine.proofs.Arrivals.{first_table_get, first_state_is, first_table_long, first_table_refs, never_is}
 use Rattle.gste_engine.proofs.Comings.{IsLong, into, never_long}
 use Rattle.gste_engine.proofs.KeptGivens.{From-keeps, givens_zip, never_given, starts_given}
 use Rattle.gste_engine.proofs.KeptSeen.{Seen-keeps}
@@ -43,31 +43,31 @@ use Rattle.gste_engine.proofs.SumsStay.{sum_stays}
 -- ---- behind a round
 
 module _ (net : RawNet) (graph : Graph) (table : List State) (long : length table ≡ length graph.vertices) where
-  pub turn_between : (t u : Store) (wave : Wave) (sweep : Sweep) → IsGood t → IsGood u → Keeps t u → AreEdgesOver net t.vars (length graph.vertices) graph.edges → AreGivenFrom t net graph.edges table wave.givens.items → AreSeen t net graph.edges table wave.seen.items → IsInRange net → IsFrame t net wave.frame → IsSwept u net graph wave.givens.items table [] sweep
-      → IsBetween u net graph (record { table = sweep.table; givens = wave.givens; seen = wave.seen; changed = sweep.changed; flags = sweep.flags; frame = wave.frame })
-  turn_between t u wave sweep gt gu keeps over q z range framed p = record {
+  pub turn_between : (t u : Store) (edge_results : EdgeResults) (sweep : Sweep) → IsGood t → IsGood u → Keeps t u → AreEdgesOver net t.vars (length graph.vertices) graph.edges → AreGivenFrom t net graph.edges table edge_results.givens.items → AreSeen t net graph.edges table edge_results.seen.items → IsInRange net → IsFrame t net edge_results.frame → IsSwept u net graph edge_results.givens.items table [] sweep
+      → IsBetween u net graph (record { table = sweep.table; givens = edge_results.givens; seen = edge_results.seen; changed = sweep.changed; flags = sweep.flags; frame = edge_results.frame })
+  turn_between t u edge_results sweep gt gu keeps over q z range framed p = record {
     long = p.long;
     refs = p.refs;
     given = record {
       long = q.long;
       each = λ k d e f lt none before.
           let edge = get_or graph.edges k d in
-          subst (λ (x : State). IsGivenFrom u net edge x (get_or wave.givens.items k f)) (sym (p.same edge.from e (over k d lt).start none))
-          (From-keeps t u net edge (get_or table edge.from e) (get_or wave.givens.items k f) gt gu keeps (q.each k d e f lt));
+          subst (λ (x : State). IsGivenFrom u net edge x (get_or edge_results.givens.items k f)) (sym (p.same edge.from e (over k d lt).start none))
+          (From-keeps t u net edge (get_or table edge.from e) (get_or edge_results.givens.items k f) gt gu keeps (q.each k d e f lt));
     };
     seen = record {
       long = z.long;
       each = λ k d e f lt none before reached.
           let edge = get_or graph.edges k d in
           let same : get_or sweep.table.items edge.from e ≡ get_or table edge.from e = p.same edge.from e (over k d lt).start none in
-          subst (λ (x : State). IsSeenFrom u net edge x (get_or wave.seen.items k f)) (sym same)
-          (Seen-keeps t u net edge (get_or table edge.from e) (get_or wave.seen.items k f) gt gu keeps (z.each k d e f lt (λ none. reached (ap (λ (x : State). x.reached.0) same ∙ none))));
+          subst (λ (x : State). IsSeenFrom u net edge x (get_or edge_results.seen.items k f)) (sym same)
+          (Seen-keeps t u net edge (get_or table edge.from e) (get_or edge_results.seen.items k f) gt gu keeps (z.each k d e f lt (λ none. reached (ap (λ (x : State). x.reached.0) same ∙ none))));
     };
     sums = λ v d l. p.sums v d l (λ h. Contains-none v h);
     inside = p.inside;
     flags = p.flags;
     clear = λ v h. Contains-none v (p.clear v h);
-    frame = frame_keeps t u net wave.frame range gt gu keeps framed;
+    frame = frame_keeps t u net edge_results.frame range gt gu keeps framed;
   }
 
   pub turn_has : (u : Store) (givens : List State) (sweep : Sweep) (states : ℕ → SymbolicState) (sets : Edge → ℕ → SymbolicSet) → IsSettled net → AreEdgesOver net u.vars (length graph.vertices) graph.edges → HasStates states (length graph.vertices) u table → ArePossibleOn u.vars net states sets graph.edges → AreGivenFrom u net graph.edges table givens → IsSwept u net graph givens table [] sweep
@@ -161,7 +161,7 @@ module _ (net : RawNet) (bits : List Bool) where
 
 module _ (t : Store) (net : RawNet) (graph : Graph) (r : Progress) (settled : IsSettled net) (gt : IsGood t) (over : IsGraphOver net t.vars graph) (start : AtStart net graph r) where
   abbrev firsts : List State
-  firsts = begun net graph.reset (length graph.vertices)
+  firsts = first_table net graph.reset (length graph.vertices)
 
   abbrev nothing : List State
   nothing = replicate (length graph.edges) (unreached net)
@@ -170,13 +170,13 @@ module _ (t : Store) (net : RawNet) (graph : Graph) (r : Progress) (settled : Is
   starts_sum v d lt = record {
     given = λ edge. never_state net;
     are = λ k e f l to. subst (λ (x : State). IsState t (never_state net) x) (sym (get_or-replicate (length graph.edges) k (unreached net) f l)) (never_is t net gt);
-    sum = subst (λ (x : State). IsState t (summed_at net graph.reset (λ edge. never_state net) graph.edges v) x) (sym (begun_get net graph.reset (length graph.vertices) v d lt))
-        (state_moves t (summed_at net graph.reset (λ edge. never_state net) [] v) (summed_at net graph.reset (λ edge. never_state net) graph.edges v) (begun_at net graph.reset v) (λ bits l. none_summed net bits graph.reset v graph.edges) (begun_is net graph.reset (λ edge. never_state net) t v gt));
+    sum = subst (λ (x : State). IsState t (summed_at net graph.reset (λ edge. never_state net) graph.edges v) x) (sym (first_table_get net graph.reset (length graph.vertices) v d lt))
+        (state_moves t (summed_at net graph.reset (λ edge. never_state net) [] v) (summed_at net graph.reset (λ edge. never_state net) graph.edges v) (first_state net graph.reset v) (λ bits l. none_summed net bits graph.reset v graph.edges) (first_state_is net graph.reset (λ edge. never_state net) t v gt));
   }
 
   unstarted : (v : ℕ) (d : State) → v < length graph.vertices → v ≢ 0 → get_or firsts v d ≡ unreached net
   unstarted zero d lt differ = absurd (differ refl)
-  unstarted (suc v) d lt differ = begun_get net graph.reset (length graph.vertices) (suc v) d lt
+  unstarted (suc v) d lt differ = first_table_get net graph.reset (length graph.vertices) (suc v) d lt
 
   first_given : (k : ℕ) (d : Edge) (e f : State) → k < length graph.edges → ¬ Contains (0 ∷ []) (get_or graph.edges k d).from → IsGivenFrom t net (get_or graph.edges k d) (get_or firsts (get_or graph.edges k d).from e) (get_or nothing k f)
   first_given k d e f lt none =
@@ -195,8 +195,8 @@ module _ (t : Store) (net : RawNet) (graph : Graph) (r : Progress) (settled : Is
 
   pub starts_between : IsBetween t net graph r
   starts_between = record {
-    long = ap (λ (xs : List State). length xs) start.table ∙ begun_long net graph.reset (length graph.vertices);
-    refs = subst (λ (xs : List State). All (AreStateRefs t net) xs) (sym {A = List State} start.table) (begun_refs net graph.reset (length graph.vertices) t gt);
+    long = ap (λ (xs : List State). length xs) start.table ∙ first_table_long net graph.reset (length graph.vertices);
+    refs = subst (λ (xs : List State). All (AreStateRefs t net) xs) (sym {A = List State} start.table) (first_table_refs net graph.reset (length graph.vertices) t gt);
     given = record {
       long = ap (λ (xs : List State). length xs) start.givens ∙ length-replicate (length graph.edges) (unreached net);
       each = λ k d e f lt none before.
@@ -230,7 +230,7 @@ module _ (t : Store) (net : RawNet) (graph : Graph) (r : Progress) (settled : Is
       let given : AreGivenFrom t net graph.edges none nothing = starts_given t net graph none nothing settled gt (λ k d lt. (over.edges k d lt).start) refl refl in
       let n : length none ≡ length graph.vertices = length-replicate (length graph.vertices) (unreached net) in
       let zip = givens_zip t net graph.edges none nothing (tables 0) (sets 0) settled (subst (λ m. AreEdgesOver net t.vars m graph.edges) (sym n) over.edges) (record { long = refl; each = before.each }) (possible_each net t.vars graph tables sets whole 0) given in
-      let long = begun_long net graph.reset (length graph.vertices) in
+      let long = first_table_long net graph.reset (length graph.vertices) in
       let first : HasStates (summed_at net graph.reset (given_of net (tables 0) (sets 0)) graph.edges) (length graph.vertices) t firsts = record {
         long = long;
         each = λ v d lt. sum_stays t net graph nothing v (get_or firsts v d) (given_of net (tables 0) (sets 0)) (starts_sum v d (omega (arith, long, lt))) zip;

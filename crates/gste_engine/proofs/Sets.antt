@@ -1,7 +1,7 @@
 -- Unions of lists of sets, latch by latch, and their functions.
 use Rattle.std.proofs.Common.{◌≡◌, ℕ, zero, suc, ◌<◌, List, [], ◌∷◌, length, get_or, map, refl, ap, arith, Contains, inl, inr, ⊎_elim}
 use Rattle.std.specs.Prelude.{◌⊎◌}
-use Rattle.dd_nodes.specs.Diagram.{Function}
+use Rattle.ste_base.specs.Functions.{Function}
 use Rattle.dd_nodes.proofs.Members.{Contains-cons_cases, Contains-none}
 use Rattle.net_core.specs.declared.raw.Latch.{Latch}
 use Rattle.net_core.specs.Work.{SymbolicSet, disjunction, never, union}

@@ -22,7 +22,7 @@ use Rattle.gste_engine.proofs.Comings.{IsLong, coming_long, never_long, with_sta
 use Rattle.gste_engine.proofs.Lists.{zip_right, zip_weaker}
 use Rattle.gste_engine.proofs.StateRefs.{All-states-keep, State-keeps, state_refs}
 use Rattle.gste_engine.proofs.SumsStay.{Sum-keeps}
-use Rattle.gste_engine.proofs.Waves.{not_left}
+use Rattle.gste_engine.proofs.RoundResults.{not_left}
 
 -- ---- what each edge gives
 

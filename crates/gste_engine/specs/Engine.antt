@@ -1,7 +1,7 @@
 -- Meaning. What the engine's answers say of its steps and of its store.
 use Rattle.std.specs.Prelude.{◌≡◌, ◌<◌, ◌+◌, ℕ, length}
 use Rattle.dd_nodes.specs.declared.node.Ref.{Ref}
-use Rattle.dd_nodes.specs.Diagram.{Function}
+use Rattle.ste_base.specs.Functions.{Function}
 use Rattle.dd_nodes.specs.Functions.{IsCofactorOf}
 use Rattle.dd_nodes.specs.Stores.{Store, Means}
 use Rattle.net_core.specs.declared.raw.RawNet.{RawNet}
@@ -20,7 +20,9 @@ pub record IsGraphBudget (net : RawNet) (graph : Graph) (s t : Store) : Type 0 w
 -- each node of the kept functions has a reference
 abbrev pub IsGraphKept : RawNet → Graph → Store → Type 0
 IsGraphKept net graph t =
-    (tables : ℕ → ℕ → SymbolicState) (sets : ℕ → Edge → ℕ → SymbolicSet) → AreWholeRounds net t.vars graph tables sets →
+    (tables : ℕ → ℕ → SymbolicState) (sets : ℕ → Edge → ℕ → SymbolicSet) →
+    AreWholeRounds net t.vars graph tables sets →
     (f : Function) →
-    IsCofactorOf t.vars (graph_kept_functions net t.vars graph (tables (enough net graph)) (sets (enough net graph))) f →
+    IsCofactorOf t.vars (graph_kept_functions net t.vars graph (tables (enough net graph))
+    (sets (enough net graph))) f →
     (r : Ref) × Means t f r

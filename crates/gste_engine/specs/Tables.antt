@@ -1,7 +1,7 @@
 -- Meaning. What a table says of vertices, and what an edge gives, by references.
 use Rattle.std.specs.Prelude.{◌≡◌, ◌<◌, ℕ, suc, List, All, ◌++◌, length, get_or}
 use Rattle.std.specs.List.{AllZip, flat_map}
-use Rattle.dd_nodes.specs.Diagram.{Function}
+use Rattle.ste_base.specs.Functions.{Function}
 use Rattle.dd_nodes.specs.Stores.{Store, IsRef, Means}
 use Rattle.net_core.specs.declared.raw.RawNet.{RawNet}
 use Rattle.net_core.specs.Work.{SymbolicSet}
@@ -29,21 +29,24 @@ pub record AreStateRefs (t : Store) (net : RawNet) (r : State) : Type 0 where
   pub reached : IsRef t r.reached
   pub latches : All (AreRefs t) r.latches
 
--- What an edge gives, where this is the state of its source, and these are the sets of its time step: those of all nets, in
--- its frame, where it is feasible, and what it gives to its target.
-pub record IsEdgeFound (net : RawNet) (source : SymbolicState) (sets : ℕ → SymbolicSet) (t : Store) (r : EdgeFound) : Type 0 where
+-- What an edge gives, where this is the state of its source, and these are the sets of its time
+-- step: those of all nets, in its frame, where it is feasible, and what it gives to its target.
+pub record IsEdgeFound (net : RawNet) (source : SymbolicState) (sets : ℕ → SymbolicSet) (t : Store)
+    (r : EdgeFound) : Type 0 where
   pub long : length (nets_of r.frame) ≡ net.nets
   pub nets : HaveSets net sets t (nets_of r.frame)
   pub feasible : Means t (feasible_where net source sets) r.feasible
   pub next : AllZip (AreRails t) (given_by net source sets).latches r.next
 
 -- the references have the functions of a table of so many vertices, vertex by vertex
-pub record HasStates (table : ℕ → SymbolicState) (vertices : ℕ) (t : Store) (r : List State) : Type 0 where
+pub record HasStates (table : ℕ → SymbolicState) (vertices : ℕ) (t : Store)
+    (r : List State) : Type 0 where
   pub long : length r ≡ vertices
-  pub each : (vertex : ℕ) (d : State) → vertex < length r → IsState t (table vertex) (get_or r vertex d)
+  pub each : (vertex : ℕ) (d : State) → vertex < length r →
+      IsState t (table vertex) (get_or r vertex d)
 
--- an edge begins at one of so many vertices, its antecedent and its weakenings name nets of the net, and its antecedent
--- reads variables below this number
+-- an edge begins at one of so many vertices, its antecedent and its weakenings name nets of the
+-- net, and its antecedent reads variables below this number
 pub record IsEdgeOver (net : RawNet) (vars vertices : ℕ) (edge : Edge) : Type 0 where
   pub start : edge.from < vertices
   pub nets : All (λ bind. bind.node.0 < net.nets) edge.ant
@@ -62,13 +65,16 @@ pub record IsGraphOver (net : RawNet) (vars : ℕ) (graph : Graph) : Type 0 wher
 abbrev pub antecedents_work : Graph → List Function
 antecedents_work graph = flat_map (λ (edge : Edge). binds_work edge.ant) graph.edges
 
--- What the rounds have to build: the part of the work functions of a graph that is rounds, and the guards and values of the
--- antecedents.
-abbrev pub rounds_work : RawNet → Graph → (ℕ → ℕ → SymbolicState) → (ℕ → Edge → ℕ → SymbolicSet) → List Function
+-- What the rounds have to build: the part of the work functions of a graph that is rounds, and the
+-- guards and values of the antecedents.
+abbrev pub rounds_work : RawNet → Graph → (ℕ → ℕ → SymbolicState) → (ℕ → Edge → ℕ → SymbolicSet) →
+    List Function
 rounds_work net graph tables sets =
-    antecedents_work graph ++ over_times (λ n. round_work net graph (tables n) (sets n)) (suc (enough net graph))
+    antecedents_work graph ++ over_times (λ n. round_work net graph (tables n) (sets n))
+    (suc (enough net graph))
 
 -- the consequents of a graph name nets of the net, and read variables below this number
 abbrev pub AreConsequentsOver : RawNet → ℕ → Graph → Type 0
 AreConsequentsOver net vars graph =
-    All (λ edge. All (λ bind. bind.node.0 < net.nets) edge.con × BindsReadBelow vars edge.con) graph.edges
+    All (λ edge. All (λ bind. bind.node.0 < net.nets) edge.con ×
+    BindsReadBelow vars edge.con) graph.edges

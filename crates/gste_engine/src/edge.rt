@@ -2,7 +2,7 @@
 
 ghost use Rattle.std.specs.Prelude.{◌≡◌, ◌<◌, ℕ, List, All, IfOk, map};
 ghost use Rattle.std.specs.List.{AllZip};
-ghost use Rattle.dd_nodes.specs.Diagram.{Function};
+ghost use Rattle.ste_base.specs.Functions.{Function};
 ghost use Rattle.dd_nodes.specs.Stores.{IsRef, Means, Store};
 ghost use Rattle.net_core.specs.declared.raw.RawNet.{RawNet};
 ghost use Rattle.net_core.specs.Work.{ArePossibleEach, SymbolicSet};
@@ -16,7 +16,7 @@ ghost use Rattle.gste_engine.specs.Tables.{AreStateRefs, IsEdgeFound};
 ghost use Rattle.gste_engine.specs.private.Given.{given_work};
 
 use crate::binds::cuts_of;
-use crate::gate::gated_all;
+use crate::feasible_sets::feasible_sets;
 use crate::state::State;
 use dd_nodes::{Nodes, Ref};
 use dd_ops::{OpFault, Ops};
@@ -27,8 +27,8 @@ use ste_base::Items;
 use ste_model::Edge;
 use sym_step::{Frame, GateRows, renew};
 
-/// What one edge gives on a table: a frame of its time step, which has the sets of all nets, where it is feasible, and
-/// the sets of the latch inputs where it is, with no bit elsewhere.
+/// What one edge gives on a table: a frame of its time step, which has the sets of all nets, where
+/// it is feasible, and the sets of the latch inputs where it is, with no bit elsewhere.
 #[derive(Drop)]
 pub struct EdgeFound {
     pub frame: Frame,
@@ -36,19 +36,20 @@ pub struct EdgeFound {
     pub next: Items<Rails>,
 }
 
-/// A frame before a time at which the latches have the sets that a table says of a vertex, from a frame of any time.
+/// A frame before a time at which the latches have the sets that a table says of a vertex, from a
+/// frame of any time.
 fn frame_at(alloc: Global, source: &State, frame: Frame) -> Result<Frame, AllocError>
     ensures frame { IfOk result (λ begun. (s : Store) (net : RawNet)
         → IsFrame s net frame → AreStateRefs s net source.now → IsFrame s net begun) }
     ensures next { IfOk result (λ begun. (net : RawNet) → next_of net begun ≡ source.now.latches) }
 {
     let latches = source.latches.as_slice().to_vec(alloc)?;
-    Ok(frame.restarted(Items::from(latches)))
+    Ok(frame.before_first_time(Items::from(latches)))
 }
 
-/// Where the edge is feasible, and what it gives, from the frame of its time step. `empty` is where some net has no
-/// bit.
-fn given<N: Nodes>(
+/// Where the edge is feasible, and what it gives, from the frame of its time step. `empty` is where
+/// some net has no bit.
+fn found_from_frame<N: Nodes>(
     alloc: Global,
     ops: &Ops,
     nodes: &mut N,
@@ -69,7 +70,7 @@ fn given<N: Nodes>(
 {
     let clear = ops.not(nodes, empty)?;
     let feasible = both(ops, nodes, reached, clear)?;
-    let next = gated_all(alloc, ops, nodes, net.latches(), &frame, feasible)?;
+    let next = feasible_sets(alloc, ops, nodes, net.latches(), &frame, feasible)?;
     Ok(EdgeFound {
         frame,
         feasible,
@@ -77,13 +78,15 @@ fn given<N: Nodes>(
     })
 }
 
-/// What one edge gives, for all assignments at once, on a table that says this of its source, from a frame of any time: what
-/// has the same sets there is not evaluated again. `rows` are those of the net, the bindings and the weakenings name nets of it, and their
-/// variables are below the store's. Where the edge is not feasible the sets are built all the same. The consequents are not
+/// What one edge gives, for all assignments at once, on a table that says this of its source, from
+/// a frame of any time: what has the same sets there is not evaluated again. `rows` are those of
+/// the net, the bindings and the weakenings name nets of it, and their variables are below the
+/// store's. Where the edge is not feasible the sets are built all the same. The consequents are not
 /// looked at.
 ///
-/// Each node that is made is a node of the edge's work functions, and `StepsOut` comes only where all steps are spent and
-/// such a node is not held. After any error what was held stays, and the frame is gone.
+/// Each node that is made is a node of the edge's work functions, and `StepsOut` comes only where
+/// all steps are spent and such a node is not held. After any error what was held stays, and the
+/// frame is gone.
 pub fn edge_found<N: Nodes>(
     alloc: Global,
     nodes: &mut N,
@@ -125,6 +128,6 @@ pub fn edge_found<N: Nodes>(
         cuts.as_slice(),
         &mut begun,
     )?;
-    let found = given(alloc, &ops, nodes, net, source.reached, empty, begun)?;
+    let found = found_from_frame(alloc, &ops, nodes, net, source.reached, empty, begun)?;
     Ok(found)
 }

@@ -24,14 +24,16 @@ use std::alloc::{AllocError, Global};
 use ste_model::{Graph, Report};
 use sym_step::GateRows;
 
-/// The report of an assertion graph over the variables of the store, for all assignments at once, with at most `cubes` cubes
-/// in each of its lists: see `Report`. `rows` are those of the net; `IsGraphOver` and `AreConsequentsOver` say what is asked
-/// of the graph: there is a vertex, the edges' vertices are in range, their nodes are nets of the net, and their variables
-/// are below the store's. The only error is want of memory; a graph of 2^32 vertices or edges counts as such.
+/// The report of an assertion graph over the variables of the store, for all assignments at once,
+/// with at most `cubes` cubes in each of its lists: see `Report`. `rows` are those of the net;
+/// `IsGraphOver` and `AreConsequentsOver` say what is asked of the graph: there is a vertex, the
+/// edges' vertices are in range, their nodes are nets of the net, and their variables are below the
+/// store's. The only error is out of memory; a graph of 2^32 vertices or edges counts as such.
 ///
-/// The verdict is `Budget` only where all steps are spent, and fewer were left at the start than the graph needs; then
-/// nothing else is told. With every other verdict each node of the kept functions has a reference afterwards. Whatever the
-/// answer, each node that is made is a node of the work functions, and what was held stays.
+/// The verdict is `Budget` only where all steps are spent, and fewer were left at the start than
+/// the graph needs; then nothing else is reported. With every other verdict each node of the kept
+/// functions has a reference afterwards. Whatever the answer, each node that is made is a node of
+/// the work functions, and what was held stays.
 pub fn check_graph<N: Nodes>(
     alloc: Global,
     nodes: &mut N,
@@ -58,7 +60,8 @@ pub fn check_graph<N: Nodes>(
     ensures limit { (N.store nodes.new).limit ≡ (N.store nodes.old).limit }
     ensures builds { (tables : ℕ → ℕ → SymbolicState) (sets : ℕ → AnEdge → ℕ → SymbolicSet)
         → AreWholeRounds net.now.raw (N.store nodes.old).vars graph.now tables sets
-        → Builds (IsCofactorOf (N.store nodes.old).vars (graph_work net.now.raw graph.now tables sets))
+        → Builds
+        (IsCofactorOf (N.store nodes.old).vars (graph_work net.now.raw graph.now tables sets))
         (N.store nodes.old) (N.store nodes.new) }
 
     // The nodes of the kept functions are there.

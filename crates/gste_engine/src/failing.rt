@@ -1,4 +1,5 @@
-//! Where a graph fails under one assignment: the path and its failing place; begin with `path_shown`.
+//! Where a graph fails under one assignment: the path and its failing place; begin with
+//! `path_shown`.
 
 ghost use Rattle.std.specs.Prelude.{◌≡◌, ◌<◌, IfOk, length, map};
 ghost use Rattle.gate_sets.specs.Lists.{rows_of};
@@ -21,8 +22,8 @@ use ste_base::{Items, NodeId, Time};
 use ste_model::Graph;
 use sym_step::{Frame, GateRows};
 
-/// The path that a failure shows under an assignment that is found so, by the numbers of its edges. The only error is want
-/// of memory, and a graph of 2^32 vertices or edges counts as such.
+/// The path that a failure shows under an assignment that is found so, by the numbers of its edges.
+/// The only error is out of memory, and a graph of 2^32 vertices or edges counts as such.
 pub fn path_shown<N: Nodes>(
     alloc: Global,
     nodes: &mut N,
@@ -59,8 +60,8 @@ pub fn path_shown<N: Nodes>(
     }
 }
 
-/// The failing place of the path that a failure shows: the net of the first consequent of its last edge that fails so, and
-/// that edge's time step. The last edge is done once more.
+/// The failing place of the path that a failure shows: the net of the first consequent of its last
+/// edge that fails so, and that edge's time step. The last edge is done once more.
 pub fn place_on<N: Nodes>(
     alloc: Global,
     nodes: &mut N,

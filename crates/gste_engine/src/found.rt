@@ -1,8 +1,9 @@
-//! What is found of the consequents of one edge, where the edge is feasible; begin with `with_found`.
+//! What is found of the consequents of one edge, where the edge is feasible; begin with
+//! `with_found`.
 
 ghost use Rattle.std.specs.Prelude.{◌≡◌, ℕ, List, All, IfOk, length};
 ghost use Rattle.std.specs.List.{AllZip};
-ghost use Rattle.dd_nodes.specs.Diagram.{Function};
+ghost use Rattle.ste_base.specs.Functions.{Function};
 ghost use Rattle.dd_nodes.specs.Stores.{IsRef, Keeps, Means};
 ghost use Rattle.net_core.specs.Work.{SymbolicCut, SymbolicSet, conjunction, disjunction};
 ghost use Rattle.dual_rail.specs.Rail.{AreRails, AreRefs, Built, HasFunction};
@@ -16,7 +17,8 @@ use dual_rail::{Rails, both, either};
 use engine_parts::refuted;
 use sym_step::Cut;
 
-/// Where some consequent so far is found strong, where one is found weak, and where an edge is feasible.
+/// Where some consequent so far is found strong, where one is found weak, and where an edge is
+/// feasible.
 #[derive(Clone, Copy, PartialEq, Eq, Drop)]
 pub struct Findings {
     pub strong: Ref,
@@ -24,7 +26,8 @@ pub struct Findings {
     pub feasible: Ref,
 }
 
-/// The sum with where the guard is 1 and something is found, on an edge that is feasible where `gate` is 1.
+/// The sum with where the guard is 1 and something is found, on an edge that is feasible where
+/// `gate` is 1.
 fn add<N: Nodes>(
     ops: &Ops,
     nodes: &mut N,
@@ -130,8 +133,8 @@ fn find<N: Nodes>(
     })
 }
 
-/// What is found so far, with all consequents of an edge that is feasible where `gate` is 1, in order. `seen` are the sets
-/// of their nets, one by one.
+/// What is found so far, with all consequents of an edge that is feasible where `gate` is 1, in
+/// order. `seen` are the sets of their nets, one by one.
 fn find_all<N: Nodes>(
     ops: &Ops,
     nodes: &mut N,

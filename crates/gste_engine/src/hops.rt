@@ -19,7 +19,8 @@ use std::alloc::{AllocError, Global};
 use ste_model::{Edge, Graph};
 use sym_step::{Frame, GateRows};
 
-/// What is known of an edge under an assignment, from the state of its source and a frame of any time.
+/// What is known of an edge under an assignment, from the state of its source and a frame of any
+/// time.
 fn hop_of<N: Nodes>(
     alloc: Global,
     nodes: &mut N,
@@ -54,8 +55,8 @@ fn hop_of<N: Nodes>(
     })
 }
 
-/// What is known of each edge under an assignment, by number: its ends, whether it is feasible, and whether a consequent of
-/// it fails so. No node is made, and the only error is want of memory.
+/// What is known of each edge under an assignment, by number: its ends, whether it is feasible, and
+/// whether a consequent of it fails so. No node is made, and the only error is out of memory.
 pub fn hops_of<N: Nodes>(
     alloc: Global,
     nodes: &mut N,

@@ -2,7 +2,7 @@
 
 ghost use Rattle.std.specs.Prelude.{◌≡◌, ◌≢◌, ◌<◌, ℕ, List, All, length, map};
 ghost use Rattle.std.specs.List.{AllZip};
-ghost use Rattle.dd_nodes.specs.Diagram.{Function};
+ghost use Rattle.ste_base.specs.Functions.{Function};
 ghost use Rattle.dd_nodes.specs.Stores.{Means};
 ghost use Rattle.net_core.specs.Work.{ArePossibleEach, SymbolicSet};
 ghost use Rattle.dual_rail.specs.Rail.{AreRails, Built};
@@ -20,7 +20,7 @@ ghost use Rattle.gste_engine.specs.private.Seen.{AreSeen, IsSeenFrom};
 use crate::binds::cuts_of;
 use crate::edge::edge_found;
 use crate::found::{Findings, with_found};
-use crate::rounds::settled;
+use crate::rounds::settled_table;
 use crate::seen::seen_by;
 use crate::state::State;
 use dd_nodes::{Nodes, Ref};
@@ -33,14 +33,16 @@ use ste_base::Items;
 use ste_model::{Edge, Graph};
 use sym_step::{Cut, Frame, GateRows};
 
-/// The table of the round that settles, and the strong, the weak and the contradictory assignments on it.
+/// The table of the round that settles, and the strong, the weak and the contradictory assignments
+/// on it.
 #[derive(Drop)]
 pub struct Judged {
     pub table: Items<State>,
     pub results: Results,
 }
 
-/// The references of an edge's consequents. The guards and values of its antecedent are built too, and stay held.
+/// The references of an edge's consequents. The guards and values of its antecedent are built too,
+/// and stay held.
 fn asked_on<N: Nodes>(
     alloc: Global,
     ops: &Ops,
@@ -57,8 +59,8 @@ fn asked_on<N: Nodes>(
     cuts_of(alloc, ops, nodes, edge.con.as_slice())
 }
 
-/// What is found so far, with what one more edge gives. Where its source is reached somewhere, `given` and `seen` have been
-/// found of it; else it is evaluated.
+/// What is found so far, with what one more edge gives. Where its source is reached somewhere,
+/// `given` and `seen` have been found of it; else it is evaluated.
 fn with_edge<N: Nodes>(
     alloc: Global,
     nodes: &mut N,
@@ -99,10 +101,7 @@ fn with_edge<N: Nodes>(
     }
     let frame = Frame::blank(alloc, net)?;
     let made = edge_found(alloc, nodes, net, rows, edge, source, frame)?;
-    let sets = match seen_by(alloc, net, &made.frame, edge.con.as_slice()) {
-        Ok(sets) => sets,
-        Err(_) => return Err(OpFault::OutOfMemory),
-    };
+    let sets = seen_by(alloc, net, &made.frame, edge.con.as_slice())?;
     with_found(&ops, nodes, sets.as_slice(), cuts, made.feasible, found)
 }
 
@@ -167,12 +166,13 @@ fn ending<N: Nodes>(ops: &Ops, nodes: &mut N, found: Findings) -> Result<Results
     })
 }
 
-/// The least closed table of a graph, and what is found on it, for all assignments at once. Every guard and value is built.
-/// `rows` are those of the net, the bindings name nets of it, and their variables are below the store's.
+/// The least closed table of a graph, and what is found on it, for all assignments at once. Every
+/// guard and value is built. `rows` are those of the net, the bindings name nets of it, and their
+/// variables are below the store's.
 ///
-/// Each node that is made is a node of the graph's work functions, and `StepsOut` comes only where all steps are spent and
-/// such a node is not held. After any error what was held stays. Every node of the kept functions has a reference
-/// afterwards.
+/// Each node that is made is a node of the graph's work functions, and `StepsOut` comes only where
+/// all steps are spent and such a node is not held. After any error what was held stays. Every node
+/// of the kept functions has a reference afterwards.
 pub fn judge<N: Nodes>(
     alloc: Global,
     nodes: &mut N,
@@ -184,7 +184,8 @@ pub fn judge<N: Nodes>(
     requires graph { IsGraphOver net.now.raw (N.store nodes.old).vars graph.now }
     requires consequents { AreConsequentsOver net.now.raw (N.store nodes.old).vars graph.now }
 
-    // The table's references have the functions of the round that settles, and the others those of the results on it.
+    // The table's references have the functions of the round that settles, and the others those of
+    // the results on it.
     ensures { (tables : ℕ → ℕ → SymbolicState) (sets : ℕ → AnEdge → ℕ → SymbolicSet)
         → AreWholeRounds net.now.raw (N.store nodes.old).vars graph.now tables sets
         → Built (graph_work net.now.raw graph.now tables sets)
@@ -193,7 +194,7 @@ pub fn judge<N: Nodes>(
         (N.store nodes.old) (N.store nodes.new) result }
 {
     settles(net);
-    let last = settled(alloc, nodes, net, rows, graph)?;
+    let last = settled_table(alloc, nodes, net, rows, graph)?;
     let found = all_found(
         alloc,
         nodes,

@@ -1,13 +1,14 @@
-//! The symbolic engine for assertion graphs: the report of a graph over all assignments at once, on decision diagrams; rounds
-//! come to the least closed table, and on it the consequents are looked at. Begin with `check_graph`.
+//! The symbolic engine for assertion graphs: the report of a graph over all assignments at once, on
+//! decision diagrams; rounds come to the least closed table, and on it the consequents are looked
+//! at. Begin with `check_graph`.
 #![tactic(auto)]
 
 mod binds;
 pub mod edge;
 pub mod engine;
 mod failing;
+mod feasible_sets;
 mod found;
-mod gate;
 mod hops;
 mod judged;
 mod links;

@@ -23,8 +23,8 @@ fn vertex_at(edge: &Edge, end: End) -> usize
     }
 }
 
-/// For each vertex the first edge that has it at one end, and for each edge the next one with the same vertex there. The
-/// number of edges stands for none.
+/// For each vertex the first edge that has it at one end, and for each edge the next one with the
+/// same vertex there. The number of edges stands for none.
 #[derive(Drop)]
 pub struct Links {
     pub first: Vec<usize>,
@@ -32,7 +32,7 @@ pub struct Links {
 }
 
 /// No edge at any vertex, and none behind any edge.
-fn unlinked(alloc: Global, vertices: usize, edges: usize) -> Result<Links, AllocError>
+fn no_links(alloc: Global, vertices: usize, edges: usize) -> Result<Links, AllocError>
     ensures { IfOk result (λ links. HasNone vertices edges links) }
 {
     let first = vec![in alloc; edges; vertices]?;
@@ -50,7 +50,7 @@ pub fn links_of(
     requires { All (λ edge. end_of end edge < vertices) edges.now }
     ensures { IfOk result (λ links. AreLinks end vertices edges.now links) }
 {
-    let mut links = unlinked(alloc, vertices, edges.len())?;
+    let mut links = no_links(alloc, vertices, edges.len())?;
     for i in 0..edges.len() {
         let k = edges.len() - 1 - i;
         let vertex = vertex_at(&edges[k], end);

@@ -13,7 +13,7 @@ ghost use Rattle.ste_model.specs.GraphWork.{SymbolicState, given_by, symbolic_as
 ghost use Rattle.gste_engine.specs.declared.links.End.TheVariants.{From, To};
 ghost use Rattle.gste_engine.specs.Tables.{AreStateRefs, HasStates, IsGraphOver, IsState, rounds_work};
 ghost use Rattle.gste_engine.specs.private.Links.{AreLinks};
-ghost use Rattle.gste_engine.specs.private.Rounds.{AreEnds, AtStart, IsBetween, IsLast, IsProgress, IsSettledOn, IsSwept, IsTurn, IsWave, IsWithGiven, IsWithSum, edges_work, one_round_work};
+ghost use Rattle.gste_engine.specs.private.Rounds.{AreEnds, AtStart, IsBetween, IsLast, IsProgress, IsSettledOn, IsSwept, IsTurn, AreEdgeResults, IsWithGiven, IsWithSum, edges_work, one_round_work};
 ghost use Rattle.gste_engine.specs.private.Seen.{rails_of};
 ghost use Rattle.gste_engine.specs.private.Sums.{HaveFunctions, arrivals_work};
 ghost use Rattle.gste_engine.specs.private.Waiting.{IsWaiting};
@@ -23,7 +23,7 @@ use crate::links::{End, Links, links_of};
 use crate::same::same_state;
 use crate::seen::seen_by;
 use crate::state::State;
-use crate::sums::{begun, nothing_given, sum_of};
+use crate::sums::{first_table, nothing_given, sum_of};
 use crate::waiting::{Waiting, with_vertex};
 use dd_nodes::Nodes;
 use dd_ops::OpFault;
@@ -34,31 +34,33 @@ use ste_base::Items;
 use ste_model::{Edge, Graph};
 use sym_step::{Frame, GateRows};
 
-/// What each edge gives, by number, the sets of the nets that its consequents name, where it has been evaluated, and the
-/// vertices to which an edge gives something else than before; beside them the frame of the edge that was evaluated last.
+/// What each edge gives, by number, the sets of the nets that its consequents name, where it has
+/// been evaluated, and the vertices to which an edge gives something else than before; beside them
+/// the frame of the edge that was evaluated last.
 #[derive(Drop)]
-struct Wave {
+struct EdgeResults {
     givens: Vec<State>,
     seen: Vec<Items<Rails>>,
     waiting: Waiting,
     frame: Frame,
 }
 
-/// The same where the edge `k` gives this to a vertex, which waits from then on if that is something else than before.
+/// The same where the edge `k` gives this to a vertex, which waits from then on if that is
+/// something else than before.
 fn with_given(
-    wave: Wave,
+    edge_results: EdgeResults,
     k: usize,
     to: usize,
     given: State,
     seen: Items<Rails>,
-) -> Result<Wave, AllocError>
-    requires known { k < length wave.givens.items }
-    requires count { k < length wave.seen.items }
-    requires waiting { IsWaiting wave.waiting }
-    requires to { to < length wave.waiting.flags.items }
-    ensures { IfOk result (λ more. IsWithGiven wave k to given seen more) }
+) -> Result<EdgeResults, AllocError>
+    requires known { k < length edge_results.givens.items }
+    requires count { k < length edge_results.seen.items }
+    requires waiting { IsWaiting edge_results.waiting }
+    requires to { to < length edge_results.waiting.flags.items }
+    ensures { IfOk result (λ more. IsWithGiven edge_results k to given seen more) }
 {
-    let mut more = wave;
+    let mut more = edge_results;
     more.seen[k] = seen;
     if same_state(&more.givens[k], &given) {
         return Ok(more);
@@ -68,31 +70,32 @@ fn with_given(
     Ok(more)
 }
 
-/// The same with what is found of the edge `k`. What its consequents name is read from its frame, which the wave has
-/// already.
+/// The same with what is found of the edge `k`. What its consequents name is read from its frame,
+/// which the results have already.
 fn with_edge(
     alloc: Global,
     net: &Net,
     edge: &Edge,
     k: usize,
     given: State,
-    wave: Wave,
-) -> Result<Wave, AllocError>
-    requires known { k < length wave.givens.items }
-    requires count { k < length wave.seen.items }
-    requires waiting { IsWaiting wave.waiting }
-    requires to { edge.now.to < length wave.waiting.flags.items }
-    requires nets { length (nets_of wave.frame) ≡ net.now.raw.nets }
-    ensures { IfOk result (λ more. IsWithGiven wave k edge.now.to given
-        (map (rails_of (nets_of wave.frame)) edge.now.con) more) }
+    edge_results: EdgeResults,
+) -> Result<EdgeResults, AllocError>
+    requires known { k < length edge_results.givens.items }
+    requires count { k < length edge_results.seen.items }
+    requires waiting { IsWaiting edge_results.waiting }
+    requires to { edge.now.to < length edge_results.waiting.flags.items }
+    requires nets { length (nets_of edge_results.frame) ≡ net.now.raw.nets }
+    ensures { IfOk result (λ more. IsWithGiven edge_results k edge.now.to given
+        (map (rails_of (nets_of edge_results.frame)) edge.now.con) more) }
 {
-    let seen = seen_by(alloc, net, &wave.frame, edge.con.as_slice())?;
-    with_given(wave, k, edge.to as usize, given, seen)
+    let seen = seen_by(alloc, net, &edge_results.frame, edge.con.as_slice())?;
+    with_given(edge_results, k, edge.to as usize, given, seen)
 }
 
-/// What each edge gives, where those that begin at the `i`-th changed vertex are evaluated on the table. They are known for
-/// the edges from vertices that have not changed, and from those in front of this one.
-fn renewed<N: Nodes>(
+/// What each edge gives, where those that begin at the `i`-th changed vertex are evaluated on the
+/// table. They are known for the edges from vertices that have not changed, and from those in front
+/// of this one.
+fn evaluate_from<N: Nodes>(
     alloc: Global,
     nodes: &mut N,
     net: &Net,
@@ -102,8 +105,8 @@ fn renewed<N: Nodes>(
     table: &[State],
     changed: &[usize],
     i: usize,
-    known: Wave,
-) -> Result<Wave, OpFault>
+    known: EdgeResults,
+) -> Result<EdgeResults, OpFault>
     requires rows { rows.now.covers ≡ map rows_of net.now.raw.covers }
     requires graph { IsGraphOver net.now.raw (N.store nodes.old).vars graph.now }
     requires from { AreLinks From (length graph.now.vertices) graph.now.edges from.now }
@@ -111,41 +114,39 @@ fn renewed<N: Nodes>(
     requires long { length table.now ≡ length graph.now.vertices }
     requires changed { All (λ v. v < length graph.now.vertices) changed.now }
     requires inside { i < length changed.now }
-    requires known { IsWave (N.store nodes.old) net.now.raw graph.now table.now
+    requires known { AreEdgeResults (N.store nodes.old) net.now.raw graph.now table.now
         (drop i changed.now) 0 (length graph.now.edges) known }
     ensures { (states : ℕ → SymbolicState) (sets : AnEdge → ℕ → SymbolicSet)
         → HasStates states (length table.now) (N.store nodes.old) table.now
         → All (λ edge. ArePossibleEach (N.store nodes.old).vars net.now.raw
         (states edge.from).latches (symbolic_asked_on edge) (sets edge)) graph.now.edges
         → Built (edges_work net.now.raw states sets graph.now.edges)
-        (λ t wave. IsWave t net.now.raw graph.now table.now (drop (i + 1) changed.now)
-        0 (length graph.now.edges) wave)
+        (λ t r. AreEdgeResults t net.now.raw graph.now table.now (drop (i + 1) changed.now)
+        0 (length graph.now.edges) r)
         (N.store nodes.old) (N.store nodes.new) result }
 {
     settles(net);
     let edges = graph.edges.as_slice();
-    let mut wave = known;
+    let mut edge_results = known;
     let mut k = from.first[changed[i]];
     while k < edges.len() {
         let edge = &edges[k];
         let source = &table[edge.from as usize];
-        let found = edge_found(alloc, nodes, net, rows, edge, source, wave.frame)?;
-        wave.frame = found.frame;
+        let found = edge_found(alloc, nodes, net, rows, edge, source, edge_results.frame)?;
+        edge_results.frame = found.frame;
         let given = State {
             reached: found.feasible,
             latches: found.next,
         };
-        wave = match with_edge(alloc, net, edge, k, given, wave) {
-            Ok(more) => more,
-            Err(_) => return Err(OpFault::OutOfMemory),
-        };
+        edge_results = with_edge(alloc, net, edge, k, given, edge_results)?;
         k = from.next[k];
     }
-    Ok(wave)
+    Ok(edge_results)
 }
 
-/// What each edge gives on a table, where it is known for the edges from vertices that have not changed.
-fn refreshed<N: Nodes>(
+/// What each edge gives on a table, where it is known for the edges from vertices that have not
+/// changed.
+fn evaluate_changed<N: Nodes>(
     alloc: Global,
     nodes: &mut N,
     net: &Net,
@@ -154,32 +155,41 @@ fn refreshed<N: Nodes>(
     from: &Links,
     table: &[State],
     changed: &[usize],
-    known: Wave,
-) -> Result<Wave, OpFault>
+    known: EdgeResults,
+) -> Result<EdgeResults, OpFault>
     requires rows { rows.now.covers ≡ map rows_of net.now.raw.covers }
     requires graph { IsGraphOver net.now.raw (N.store nodes.old).vars graph.now }
     requires from { AreLinks From (length graph.now.vertices) graph.now.edges from.now }
     requires table { All (AreStateRefs (N.store nodes.old) net.now.raw) table.now }
     requires long { length table.now ≡ length graph.now.vertices }
     requires changed { All (λ v. v < length graph.now.vertices) changed.now }
-    requires known { IsWave (N.store nodes.old) net.now.raw graph.now table.now
+    requires known { AreEdgeResults (N.store nodes.old) net.now.raw graph.now table.now
         changed.now 0 (length graph.now.edges) known }
     ensures { (states : ℕ → SymbolicState) (sets : AnEdge → ℕ → SymbolicSet)
         → HasStates states (length table.now) (N.store nodes.old) table.now
         → All (λ edge. ArePossibleEach (N.store nodes.old).vars net.now.raw
         (states edge.from).latches (symbolic_asked_on edge) (sets edge)) graph.now.edges
         → Built (edges_work net.now.raw states sets graph.now.edges)
-        (λ t wave. IsWave t net.now.raw graph.now table.now [] 0 (length graph.now.edges) wave)
+        (λ t r. AreEdgeResults t net.now.raw graph.now table.now [] 0 (length graph.now.edges) r)
         (N.store nodes.old) (N.store nodes.new) result }
 {
     settles(net);
-    let mut wave = known;
+    let mut edge_results = known;
     for i in 0..changed.len() {
-        wave = renewed(
-            alloc, nodes, net, rows, graph, from, table, changed, i, wave,
+        edge_results = evaluate_from(
+            alloc,
+            nodes,
+            net,
+            rows,
+            graph,
+            from,
+            table,
+            changed,
+            i,
+            edge_results,
         )?;
     }
-    Ok(wave)
+    Ok(edge_results)
 }
 
 /// A table, the vertices whose references have changed, and the flags of those that still wait.
@@ -207,7 +217,7 @@ fn with_sum(sweep: Sweep, vertex: usize, sum: State) -> Result<Sweep, AllocError
 }
 
 /// The table where each waiting vertex is summed again, from what each edge gives.
-fn swept<N: Nodes>(
+fn sum_waiting<N: Nodes>(
     alloc: Global,
     nodes: &mut N,
     net: &Net,
@@ -233,16 +243,14 @@ fn swept<N: Nodes>(
     for i in 0..list.len() {
         let vertex = list[i];
         let sum = sum_of(alloc, nodes, net, graph, into, givens, vertex)?;
-        sweep = match with_sum(sweep, vertex, sum) {
-            Ok(more) => more,
-            Err(_) => return Err(OpFault::OutOfMemory),
-        };
+        sweep = with_sum(sweep, vertex, sum)?;
     }
     Ok(sweep)
 }
 
-/// A table, what each edge gives and what is seen of it but for those from vertices that changed in the last round, these
-/// vertices, a flag for each vertex, which is not set, and the frame of the edge that was evaluated last.
+/// A table, what each edge gives and what is seen of it but for those from vertices that changed in
+/// the last round, these vertices, a flag for each vertex, which is not set, and the frame of the
+/// edge that was evaluated last.
 #[derive(Drop)]
 struct Progress {
     table: Vec<State>,
@@ -253,22 +261,23 @@ struct Progress {
     frame: Frame,
 }
 
-/// The table of the next round, from what each edge gives on a table: the vertices that wait are summed again.
-fn resummed<N: Nodes>(
+/// The table of the next round, from what each edge gives on a table: the vertices that wait are
+/// summed again.
+fn next_progress<N: Nodes>(
     alloc: Global,
     nodes: &mut N,
     net: &Net,
     graph: &Graph,
     into: &Links,
     table: Vec<State>,
-    wave: Wave,
+    edge_results: EdgeResults,
 ) -> Result<Progress, OpFault>
     requires graph { IsGraphOver net.now.raw (N.store nodes.old).vars graph.now }
     requires into { AreLinks To (length graph.now.vertices) graph.now.edges into.now }
     requires long { length table.items ≡ length graph.now.vertices }
     requires table { All (AreStateRefs (N.store nodes.old) net.now.raw) table.items }
-    requires known { IsWave (N.store nodes.old) net.now.raw graph.now table.items
-        [] 0 (length graph.now.edges) wave }
+    requires known { AreEdgeResults (N.store nodes.old) net.now.raw graph.now table.items
+        [] 0 (length graph.now.edges) edge_results }
     ensures { (states : ℕ → SymbolicState) (sets : AnEdge → ℕ → SymbolicSet)
         → HasStates states (length graph.now.vertices) (N.store nodes.old) table.items
         → All (λ edge. ArePossibleEach (N.store nodes.old).vars net.now.raw
@@ -279,19 +288,19 @@ fn resummed<N: Nodes>(
         (N.store nodes.old) (N.store nodes.new) result }
 {
     settles(net);
-    let Wave {
+    let EdgeResults {
         givens,
         seen,
         waiting,
         frame,
-    } = wave;
+    } = edge_results;
     let Waiting { flags, list } = waiting;
     let start = Sweep {
         table,
         flags,
         changed: Vec::new(alloc),
     };
-    let sweep = swept(
+    let sweep = sum_waiting(
         alloc,
         nodes,
         net,
@@ -331,8 +340,8 @@ fn ends_of(alloc: Global, graph: &Graph) -> Result<Ends, AllocError>
     Ok(Ends { from, into })
 }
 
-/// The table of the next round: the edges from changed vertices are evaluated, and then the vertices to which one of them
-/// gives something else are summed again.
+/// The table of the next round: the edges from changed vertices are evaluated, and then the
+/// vertices to which one of them gives something else are summed again.
 fn round<N: Nodes>(
     alloc: Global,
     nodes: &mut N,
@@ -359,14 +368,14 @@ fn round<N: Nodes>(
         flags: start.flags,
         list: Vec::new(alloc),
     };
-    let known = Wave {
+    let known = EdgeResults {
         givens: start.givens,
         seen: start.seen,
         waiting,
         frame: start.frame,
     };
     let table = start.table;
-    let wave = refreshed(
+    let edge_results = evaluate_changed(
         alloc,
         nodes,
         net,
@@ -377,7 +386,7 @@ fn round<N: Nodes>(
         start.changed.as_slice(),
         known,
     )?;
-    resummed(alloc, nodes, net, graph, &ends.into, table, wave)
+    next_progress(alloc, nodes, net, graph, &ends.into, table, edge_results)
 }
 
 /// Nothing is seen of any edge.
@@ -392,11 +401,11 @@ fn nothing_seen(alloc: Global, graph: &Graph) -> Result<Vec<Items<Rails>>, Alloc
 }
 
 /// Round 1: vertex 0 is reached, and nothing is given yet.
-fn started(alloc: Global, net: &Net, graph: &Graph) -> Result<Progress, AllocError>
+fn first_round(alloc: Global, net: &Net, graph: &Graph) -> Result<Progress, AllocError>
     requires { 0 < length graph.now.vertices }
     ensures { IfOk result (λ start. AtStart net.now.raw graph.now start) }
 {
-    let table = begun(alloc, net, graph)?;
+    let table = first_table(alloc, net, graph)?;
     let givens = nothing_given(alloc, net, graph)?;
     let seen = nothing_seen(alloc, graph)?;
     let changed = vec![in alloc; 0; 1]?;
@@ -446,8 +455,8 @@ fn more_rounds<N: Nodes>(
     Ok(progress)
 }
 
-/// The table of the round that settles, what each edge gives on it, and the sets of the nets that its consequents name, where
-/// its source is reached.
+/// The table of the round that settles, what each edge gives on it, and the sets of the nets that
+/// its consequents name, where its source is reached.
 #[derive(Drop)]
 pub struct Known {
     pub table: Vec<State>,
@@ -455,7 +464,8 @@ pub struct Known {
     pub seen: Vec<Items<Rails>>,
 }
 
-/// The table with what is known on it: what edges from changed vertices give is evaluated once more.
+/// The table with what is known on it: what edges from changed vertices give is evaluated once
+/// more.
 fn known_on<N: Nodes>(
     alloc: Global,
     nodes: &mut N,
@@ -482,14 +492,14 @@ fn known_on<N: Nodes>(
         flags: last.flags,
         list: Vec::new(alloc),
     };
-    let known = Wave {
+    let known = EdgeResults {
         givens: last.givens,
         seen: last.seen,
         waiting,
         frame: last.frame,
     };
     let table = last.table;
-    let wave = refreshed(
+    let edge_results = evaluate_changed(
         alloc,
         nodes,
         net,
@@ -502,8 +512,8 @@ fn known_on<N: Nodes>(
     )?;
     Ok(Known {
         table,
-        givens: wave.givens,
-        seen: wave.seen,
+        givens: edge_results.givens,
+        seen: edge_results.seen,
     })
 }
 
@@ -543,7 +553,7 @@ fn all_rounds<N: Nodes>(
 }
 
 /// The same as `settle`, with what is known of each edge on the table.
-pub fn settled<N: Nodes>(
+pub fn settled_table<N: Nodes>(
     alloc: Global,
     nodes: &mut N,
     net: &Net,
@@ -559,24 +569,20 @@ pub fn settled<N: Nodes>(
         (N.store nodes.old) (N.store nodes.new) result }
 {
     settles(net);
-    let ends = match ends_of(alloc, graph) {
-        Ok(ends) => ends,
-        Err(_) => return Err(OpFault::OutOfMemory),
-    };
-    let start = match started(alloc, net, graph) {
-        Ok(start) => start,
-        Err(_) => return Err(OpFault::OutOfMemory),
-    };
+    let ends = ends_of(alloc, graph)?;
+    let start = first_round(alloc, net, graph)?;
     let last = all_rounds(alloc, nodes, net, rows, graph, &ends, start)?;
     known_on(alloc, nodes, net, rows, graph, &ends, last)
 }
 
-/// The least closed table of a graph, for all assignments at once: the rounds until no reference changes, or as many as
-/// settle it. `rows` are those of the net, and `IsGraphOver` says what is asked of the graph.
+/// The least closed table of a graph, for all assignments at once: the rounds until no reference
+/// changes, or as many as settle it. `rows` are those of the net, and `IsGraphOver` says what is
+/// asked of the graph.
 ///
-/// Each node that is made is a node of the work functions of the rounds, with those of each guard and value that an
-/// antecedent has, and `StepsOut` comes only where all steps are spent and such a node is not held. After any error what
-/// was held stays. The guards and values of consequents are not built.
+/// Each node that is made is a node of the work functions of the rounds, with those of each guard
+/// and value that an antecedent has, and `StepsOut` comes only where all steps are spent and such a
+/// node is not held. After any error what was held stays. The guards and values of consequents are
+/// not built.
 pub fn settle<N: Nodes>(
     alloc: Global,
     nodes: &mut N,
@@ -594,6 +600,6 @@ pub fn settle<N: Nodes>(
         (HasStates (tables (enough net.now.raw graph.now)) (length graph.now.vertices))
         (N.store nodes.old) (N.store nodes.new) result }
 {
-    let last = settled(alloc, nodes, net, rows, graph)?;
+    let last = settled_table(alloc, nodes, net, rows, graph)?;
     Ok(Items::from(last.table))
 }

@@ -11,7 +11,8 @@ use ste_base::Items;
 use ste_model::Bind;
 use sym_step::Frame;
 
-/// The set of the net that a binding names, at the time of a frame, or both bits where there is no such net.
+/// The set of the net that a binding names, at the time of a frame, or both bits where there is no
+/// such net.
 fn rails_of(net: &Net, frame: &Frame, bind: &Bind) -> Rails
     requires { length (nets_of frame.now) ≡ net.now.raw.nets }
     ensures { result ≡ rails_of (nets_of frame.now) bind.now }

@@ -36,8 +36,9 @@ struct LeastFailure {
     place: (NodeId, Time),
 }
 
-/// What a failure shows: the least assignment, and under it the path by the numbers of its edges, the failing place, and the
-/// run where one is due. Where there is no failure the path is empty and all else is None.
+/// What a failure shows: the least assignment, and under it the path by the numbers of its edges,
+/// the failing place, and the run where one is due. Where there is no failure the path is empty and
+/// all else is None.
 #[derive(Drop)]
 pub struct Shown {
     pub least: Option<Items<bool>>,
@@ -46,7 +47,8 @@ pub struct Shown {
     pub run: Option<Run>,
 }
 
-/// The least of the assignments that a reference tells, of which there is one, and under it the path and the failing place.
+/// The least of the assignments that a reference tells, of which there is one, and under it the
+/// path and the failing place.
 fn least_failure<N: Nodes>(
     alloc: Global,
     nodes: &mut N,
@@ -125,7 +127,7 @@ fn run_due(
     Ok(Some(run))
 }
 
-/// What is shown of a failure, with the run that is told.
+/// What is shown of a failure, with the run that is printed.
 fn with_run(first: LeastFailure, run: Option<Run>) -> Shown
     ensures { result ≡ record {
       least = Some first.bits;
@@ -210,7 +212,8 @@ fn weak_shown<N: Nodes>(
     Ok(with_run(first, None))
 }
 
-/// What a failure shows, from the verdict, the settled table and the references that tell the findings. No node is made.
+/// What a failure shows, from the verdict, the settled table and the references that tell the
+/// findings. No node is made.
 pub fn shown_of<N: Nodes>(
     alloc: Global,
     nodes: &mut N,

@@ -10,7 +10,7 @@ ghost use Rattle.ste_model.specs.GraphWork.{SymbolicState, sets_functions};
 ghost use Rattle.gste_engine.specs.declared.links.End.TheVariants.{To};
 ghost use Rattle.gste_engine.specs.Tables.{IsState};
 ghost use Rattle.gste_engine.specs.private.Links.{AreLinks};
-ghost use Rattle.gste_engine.specs.private.Sums.{HaveFunctions, arrivals_work, begun, begun_at, no_rails, state_functions, summed_at, unions, unreached, with_state};
+ghost use Rattle.gste_engine.specs.private.Sums.{HaveFunctions, arrivals_work, first_table, first_state, no_rails, state_functions, summed_at, unions, unreached, with_state};
 
 use crate::links::Links;
 use crate::state::State;
@@ -73,8 +73,8 @@ pub fn nothing_given(alloc: Global, net: &Net, graph: &Graph) -> Result<Vec<Stat
 }
 
 /// What comes to a vertex before any edge: to vertex 0 the first values, and nothing to the others.
-fn begun_at(alloc: Global, net: &Net, graph: &Graph, vertex: usize) -> Result<State, AllocError>
-    ensures { IfOk result (λ state. state ≡ begun_at net.now.raw graph.now.reset vertex) }
+fn first_state(alloc: Global, net: &Net, graph: &Graph, vertex: usize) -> Result<State, AllocError>
+    ensures { IfOk result (λ state. state ≡ first_state net.now.raw graph.now.reset vertex) }
 {
     if vertex != 0 {
         return unreached(alloc, net);
@@ -87,13 +87,13 @@ fn begun_at(alloc: Global, net: &Net, graph: &Graph, vertex: usize) -> Result<St
 }
 
 /// The table of round 1: what comes to each vertex before any edge.
-pub fn begun(alloc: Global, net: &Net, graph: &Graph) -> Result<Vec<State>, AllocError>
+pub fn first_table(alloc: Global, net: &Net, graph: &Graph) -> Result<Vec<State>, AllocError>
     requires { 0 < length graph.now.vertices }
     ensures { IfOk result (λ table. table.items
-        ≡ begun net.now.raw graph.now.reset (length graph.now.vertices)) }
+        ≡ first_table net.now.raw graph.now.reset (length graph.now.vertices)) }
 {
     let mut table = nothing(alloc, net, graph)?;
-    let first = begun_at(alloc, net, graph, 0)?;
+    let first = first_state(alloc, net, graph, 0)?;
     table[0] = first;
     Ok(table)
 }
@@ -143,7 +143,8 @@ fn with_state<N: Nodes>(
     Ok(State { reached, latches })
 }
 
-/// What comes to a vertex in all, from what each edge gives, by number: that of the edges that lead to it, in order.
+/// What comes to a vertex in all, from what each edge gives, by number: that of the edges that lead
+/// to it, in order.
 pub fn sum_of<N: Nodes>(
     alloc: Global,
     nodes: &mut N,
@@ -163,10 +164,8 @@ pub fn sum_of<N: Nodes>(
         (N.store nodes.old) (N.store nodes.new) result }
 {
     let ops = Ops::new(alloc);
-    let mut sum = match begun_at(alloc, net, graph, vertex) {
-        Ok(sum) => sum,
-        Err(_) => return Err(OpFault::OutOfMemory),
-    };
+    let first = first_state(alloc, net, graph, vertex)?;
+    let mut sum = first;
     let mut k = into.first[vertex];
     while k < givens.len() {
         sum = with_state(&ops, nodes, sum, &givens[k])?;

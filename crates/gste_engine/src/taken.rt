@@ -22,7 +22,8 @@ use ste_base::NodeId;
 use ste_model::{Bind, Edge};
 use sym_step::{Cut, Frame, GateRows, Step, advance};
 
-/// What is known of an edge under an assignment: whether it is feasible, and the net of its first consequent that fails.
+/// What is known of an edge under an assignment: whether it is feasible, and the net of its first
+/// consequent that fails.
 #[derive(Clone, Copy, PartialEq, Eq, Drop)]
 pub struct Taken {
     pub feasible: bool,
@@ -84,9 +85,9 @@ fn fixed_binds(alloc: Global, binds: &[Bind], bits: &[bool]) -> Result<Vec<Cut>,
     Ok(cuts)
 }
 
-/// The sets of an edge under an assignment, from the state of its source and a frame of any time. All that is asked is
-/// constant, so no node is made.
-fn stepped<N: Nodes>(
+/// The sets of an edge under an assignment, from the state of its source and a frame of any time.
+/// All that is asked is constant, so no node is made.
+fn fixed_step<N: Nodes>(
     alloc: Global,
     nodes: &mut N,
     net: &Net,
@@ -124,14 +125,15 @@ fn stepped<N: Nodes>(
     ) {
         Ok(made) => Ok(made),
         Err(OpFault::OutOfMemory) => Err(AllocError),
-        // Nothing has to be made, so no step is wanted.
+        // Nothing has to be made, so no step is needed.
         Err(OpFault::StepsOut) => unreachable!(),
     }
 }
 
-/// What is known of an edge under an assignment, from the state of its source and a frame of any time: whether it is
-/// feasible, and the net of its first consequent that fails so. The edge is done once more, with constants in the place of
-/// guards, values and sets, so that no node is made. The only error is want of memory; the frame is then not to be used.
+/// What is known of an edge under an assignment, from the state of its source and a frame of any
+/// time: whether it is feasible, and the net of its first consequent that fails so. The edge is
+/// done once more, with constants in the place of guards, values and sets, so that no node is made.
+/// The only error is out of memory; the frame is then not to be used.
 pub fn taken_on<N: Nodes>(
     alloc: Global,
     nodes: &mut N,
@@ -164,7 +166,7 @@ pub fn taken_on<N: Nodes>(
     if !eval(nodes, source.reached, bits) {
         return Ok(nothing);
     }
-    let made = stepped(alloc, nodes, net, rows, edge, source, bits, frame)?;
+    let made = fixed_step(alloc, nodes, net, rows, edge, source, bits, frame)?;
     if made.contradictory == Ref::TRUE {
         return Ok(nothing);
     }

@@ -1,13 +1,15 @@
--- Meaning. What both programs ask of an edge and of a graph, over a net of two nets and one variable.
+-- Meaning. What both programs ask of an edge and of a graph, over a net of two nets and one
+-- variable.
 use Rattle.std.specs.Prelude.{◌<◌, ℕ, All}
 use Rattle.net_core.specs.declared.raw.RawNet.{RawNet}
 use Rattle.ste_model.specs.declared.task.Edge.{Edge}
 use Rattle.ste_model.specs.declared.task.Graph.{Graph}
 use Rattle.ste_model.specs.GraphNeed.{BindsReadBelow}
-use Rattle.plain_check.specs.private.States.{IsGraphOver as IsPlainGraphOver}
+use Rattle.plain_check.specs.States.{IsGraphOver as IsPlainGraphOver}
 use Rattle.gste_engine.specs.Tables.{AreConsequentsOver, IsGraphOver}
 
--- an edge between so many vertices, whose bindings and weakenings name the nets 0 and 1, and which reads the variable 0
+-- an edge between so many vertices, whose bindings and weakenings name the nets 0 and 1, and which
+-- reads the variable 0
 pub record IsCaseEdge (vertices : ℕ) (edge : Edge) : Type 0 where
   pub from : edge.from < vertices
   pub to : edge.to < vertices

@@ -1,5 +1,5 @@
-//! Graphs over an input and a latch, checked for all assignments at once and by the plain checker under each assignment;
-//! begin with `graphs_of_four_edges`.
+//! Graphs over an input and a latch, checked for all assignments at once and by the plain checker
+//! under each assignment; begin with `graphs_of_four_edges`.
 
 ghost use Rattle.std.specs.Prelude.{◌≤◌, ◌<◌, IfOk};
 ghost use Rattle.gste_engine_tests.specs.Cases.{IsCase};
@@ -8,7 +8,7 @@ use crate::cases::{Asked, CLAIMS, D, EdgeCase, GIVEN, Q, Ready, Value, graph_of,
 use dd_nodes::{Nodes, PlainNodes};
 use gste_engine::check_graph;
 use net_core::Net;
-use plain_check::{GraphFound, Outcome, Shown, check_graph as check_plainly};
+use plain_check::{GraphFound, Outcome, Shown, plain_check_graph};
 use std::alloc::{AllocError, Global};
 use std::process::Abort;
 use std::test::Fail;
@@ -113,7 +113,8 @@ fn is_found(verdict: Verdict, found: &GraphFound) -> bool {
     }
 }
 
-/// Whether a report shows what is found with p = 0 and with p = 1, by the least of them that is as its verdict says.
+/// Whether a report shows what is found with p = 0 and with p = 1, by the least of them that is as
+/// its verdict says.
 fn shows(report: &Report, graph: &Graph, zero: &GraphFound, one: &GraphFound) -> bool {
     if is_found(report.verdict, zero) {
         return is_shown(report, graph, false, zero);
@@ -141,8 +142,8 @@ fn is_alike(
 ) -> Result<bool, AllocError>
     requires { IsCase ready.now.net.raw graph.now }
 {
-    let zero = check_plainly(alloc, &ready.net, graph, &[false])?;
-    let one = check_plainly(alloc, &ready.net, graph, &[true])?;
+    let zero = plain_check_graph(alloc, &ready.net, graph, &[false])?;
+    let one = plain_check_graph(alloc, &ready.net, graph, &[true])?;
     Ok(
         report.verdict == verdict_of(zero.outcome, one.outcome)
             && has_lists(report, zero.outcome, one.outcome)
@@ -174,7 +175,8 @@ fn edge_case(ends: u32, kind: u64) -> Result<EdgeCase, Fail> {
 /// How many ways there are to choose the ends of four edges on three vertices.
 const ENDS: u32 = 6561;
 
-/// How many ways there are to choose what is given on four edges and what has to follow, with reset and without.
+/// How many ways there are to choose what is given on four edges and what has to follow, with reset
+/// and without.
 const KINDS: u64 = 663552;
 
 /// How often each choice of the ends is tried, with another choice of kinds each time.
@@ -307,7 +309,8 @@ fn chain_report(alloc: Global, vertices: u32, steps: u32) -> Result<(Report, u32
     report_over_latch(alloc, vertices, &cases, steps)
 }
 
-/// Whether a report tells of a failure for both bits of p on the last edge of a chain of a thousand vertices.
+/// Whether a report says that there is a failure for both bits of p on the last edge of a chain of
+/// a thousand vertices.
 fn fails_at_the_end(report: &Report) -> bool {
     let path = report.path.as_slice();
     report.verdict == Verdict::Strong
@@ -324,7 +327,8 @@ fn a_chain_of_a_thousand_vertices(rt: HostRuntime) -> Result<(), Fail> {
     Ok(())
 }
 
-/// So many edges from vertex 0 to vertex 1, on which d has 0 and 1 in turn, and one on which q has to be 1.
+/// So many edges from vertex 0 to vertex 1, on which d has 0 and 1 in turn, and one on which q has
+/// to be 1.
 fn parallel(alloc: Global, edges: u32) -> Result<Vec<EdgeCase>, AllocError> {
     let mut cases: Vec<EdgeCase> = Vec::new(alloc);
     for k in 0..edges {
@@ -363,19 +367,20 @@ fn parallel_report(alloc: Global, edges: u32) -> Result<Report, Fail> {
 fn ten_thousand_parallel_edges(rt: HostRuntime) -> Result<(), Fail> {
     let count = many();
     let report = parallel_report(rt.alloc(), count)?;
-    let told = report.verdict == Verdict::Weak
+    let is_weak_as_expected = report.verdict == Verdict::Weak
         && is_path(report.path.as_slice(), 0, count)
         && report.fails == Some((NodeId(Q), 1))
         && has_cubes(&report.guards.weak, true, true);
-    assert!(rt; told, "{report:?}");
+    assert!(rt; is_weak_as_expected, "{report:?}");
     Ok(())
 }
 
 /// How many steps the chain of three vertices needs: one for p and one for its opposite.
 const NEED: u32 = 2;
 
-/// Whether the report of the chain of three vertices with so many steps is as it should be: with as many as it needs, and
-/// with more, it has its verdict; with fewer, but not without any, it may have it too, or it says budget and has used all.
+/// Whether the report of the chain of three vertices with so many steps is as it should be: with as
+/// many as it needs, and with more, it has its verdict; with fewer, but not without any, it may
+/// have it too, or it says budget and has used all.
 fn is_right(report: &Report, used: u32, steps: u32) -> bool {
     match report.verdict {
         Verdict::Budget => {

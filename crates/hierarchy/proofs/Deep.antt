@@ -2,21 +2,21 @@
 use Rattle.std.proofs.Common.{◌≡◌, ◌<◌, ◌≤◌, ◌+◌, ℕ, zero, suc, Bool, true, false, ◌||◌, List, [], ◌∷◌, ◌++◌, length, length-append, Option, None, Some, get_or, slice_get, arith, refl, sym, ap, ◌∙◌, inl, inr, subst, true≢false}
 use Rattle.std.specs.Prelude.{option_and_then}
 use Rattle.std.specs.List.{list_any}
-use Rattle.hierarchy.specs.Reach.{Reaches, end_of}
+use Rattle.hierarchy.specs.Reach.{Reaches, led_to}
 use Rattle.hierarchy.specs.private.Depth.{has_steps}
 use Rattle.hierarchy.proofs.Members.{In, contains_from_in, in_get}
 
 -- steps behind steps
-pub joined : (graph : List (List ℕ)) (a b c : ℕ) (first more : List ℕ) → end_of graph a first ≡ Some b → end_of graph b more ≡ Some c → end_of graph a (more ++ first) ≡ Some c
+pub joined : (graph : List (List ℕ)) (a b c : ℕ) (first more : List ℕ) → led_to graph a first ≡ Some b → led_to graph b more ≡ Some c → led_to graph a (more ++ first) ≡ Some c
 joined graph a b c first [] e f = e ∙ f
-joined graph a b c first (n ∷ more) e f = by (end_of graph b more) refl f (λ d. joined graph a b d first more e)
+joined graph a b c first (n ∷ more) e f = by (led_to graph b more) refl f (λ d. joined graph a b d first more e)
   where
-    by : (o : Option ℕ) → end_of graph b more ≡ o → option_and_then (λ k. slice_get (get_or graph k []) n) o ≡ Some c → ((d : ℕ) → end_of graph b more ≡ Some d → end_of graph a (more ++ first) ≡ Some d) → end_of graph a ((n ∷ more) ++ first) ≡ Some c
+    by : (o : Option ℕ) → led_to graph b more ≡ o → option_and_then (λ k. slice_get (get_or graph k []) n) o ≡ Some c → ((d : ℕ) → led_to graph b more ≡ Some d → led_to graph a (more ++ first) ≡ Some d) → led_to graph a ((n ∷ more) ++ first) ≡ Some c
     by None is e again = absurd (cc)
     by (Some d) is e again = ap (λ o. option_and_then (λ k. slice_get (get_or graph k []) n) o) (again d is) ∙ e
 
 -- a model that is reached and lies on a circle is reached by any number of steps and more
-circles : (graph : List (List ℕ)) (top m : ℕ) (first circle : List ℕ) → end_of graph top first ≡ Some m → end_of graph m circle ≡ Some m → 0 < length circle → (d : ℕ) → (path : List ℕ) × (end_of graph top path ≡ Some m) × (d ≤ length path)
+circles : (graph : List (List ℕ)) (top m : ℕ) (first circle : List ℕ) → led_to graph top first ≡ Some m → led_to graph m circle ≡ Some m → 0 < length circle → (d : ℕ) → (path : List ℕ) × (led_to graph top path ≡ Some m) × (d ≤ length path)
 circles graph top m first circle e c h zero = (first, e, omega arith)
 circles graph top m first circle e c h (suc d) =
     let r = circles graph top m first circle e c h d in
@@ -48,7 +48,7 @@ any_same : (p q : ℕ → Bool) (xs : List ℕ) → ((x : ℕ) → In xs x → p
 any_same p q [] each = refl
 any_same p q (x ∷ xs) each = let here = each x (inl refl) in let rest = any_same p q xs (λ y h. each y (inr h)) in rw (here, rest) refl
 
--- marks of the models with some steps make those of the models with a step more
+-- marks of the models with some steps make those of the models with one more step
 pub one_more : (graph : List (List ℕ)) (marks : List Bool) (n k : ℕ) → ((j : ℕ) → j < length graph → get_or marks j false ≡ has_steps graph n j) → ((i e : ℕ) → i < length (get_or graph k []) → get_or (get_or graph k []) i e < length graph) → list_any (λ j. get_or marks j false) (get_or graph k []) ≡ has_steps graph (n + 1) k
 one_more graph marks n k each low =
     subst (λ m. list_any (λ j. get_or marks j false) (get_or graph k []) ≡ has_steps graph m k) (next n)
@@ -65,21 +65,21 @@ fewer_steps graph (suc n) zero k low e = absurd (omega arith)
 fewer_steps graph (suc n) (suc more) k low e = any_weaker (has_steps graph more) (has_steps graph n) (get_or graph k []) (λ x h. fewer_steps graph n more x (omega arith) h) e
 
 -- steps to a model, and those that lead on from it
-pub steps_on : (graph : List (List ℕ)) (from : ℕ) (steps : List ℕ) (to n all : ℕ) → end_of graph from steps ≡ Some to → has_steps graph n to ≡ true → all ≡ length steps + n → has_steps graph all from ≡ true
+pub steps_on : (graph : List (List ℕ)) (from : ℕ) (steps : List ℕ) (to n all : ℕ) → led_to graph from steps ≡ Some to → has_steps graph n to ≡ true → all ≡ length steps + n → has_steps graph all from ≡ true
 steps_on graph from [] to n all e h is =
     let same : from ≡ to = cc in
     let count : all ≡ n = omega arith in
     subst (λ k. has_steps graph all k ≡ true) (sym same) (subst (λ m. has_steps graph m to ≡ true) (sym count) h)
-steps_on graph from (step ∷ earlier) to n all e h is = by (end_of graph from earlier) refl e (λ m found w. steps_on graph from earlier m (suc n) all found w (omega arith))
+steps_on graph from (step ∷ earlier) to n all e h is = by (led_to graph from earlier) refl e (λ m found w. steps_on graph from earlier m (suc n) all found w (omega arith))
   where
-    by : (o : Option ℕ) → end_of graph from earlier ≡ o → option_and_then (λ k. slice_get (get_or graph k []) step) o ≡ Some to → ((m : ℕ) → end_of graph from earlier ≡ Some m → has_steps graph (suc n) m ≡ true → has_steps graph all from ≡ true) → has_steps graph all from ≡ true
+    by : (o : Option ℕ) → led_to graph from earlier ≡ o → option_and_then (λ k. slice_get (get_or graph k []) step) o ≡ Some to → ((m : ℕ) → led_to graph from earlier ≡ Some m → has_steps graph (suc n) m ≡ true → has_steps graph all from ≡ true) → has_steps graph all from ≡ true
     by None found e again = absurd (cc)
     by (Some m) found e again = again m found (any_of (has_steps graph n) (get_or graph m []) to (in_get (get_or graph m []) step to e) h)
 
 -- where no 65 steps lead on from the top it reaches no circle
 pub no_circle : (graph : List (List ℕ)) → has_steps graph 65 0 ≡ false → (m k step : ℕ) → Reaches graph 0 m → slice_get (get_or graph m []) step ≡ Some k → Reaches graph k m → ⊥
 no_circle graph short m k step first on back =
-    let one : end_of graph m (step ∷ []) ≡ Some k = on in
+    let one : led_to graph m (step ∷ []) ≡ Some k = on in
     let circle = joined graph m k m (step ∷ []) back.0 one back.1 in
     let l = length-append back.0 (step ∷ []) in
     let far = circles graph 0 m first.0 (back.0 ++ step ∷ []) first.1 circle (omega arith) 65 in

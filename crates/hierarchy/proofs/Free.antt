@@ -4,9 +4,9 @@ use Rattle.std.proofs.Common.{◌≡◌, ◌<◌, ℕ, zero, suc, List, arith, r
 use Rattle.blif_syntax.specs.declared.models.Item.{Item}
 use Rattle.blif_syntax.specs.declared.models.Model.{Model}
 use Rattle.hierarchy.specs.declared.fault.NetFault.{NetFault}
-use Rattle.hierarchy.specs.Faults.{IsBefore, IsFirst, IsFree, IsLine}
+use Rattle.hierarchy.specs.Faults.{IsPlaceBefore, IsFirstOfKind, IsFree, IsLine}
 
-module _ (models : List Model) (kind : ℕ → Item → NetFault → Type 0) (free : IsFree (IsFirst models kind)) where
+module _ (models : List Model) (kind : ℕ → Item → NetFault → Type 0) (free : IsFree (IsFirstOfKind models kind)) where
   -- no line of the models below this number has a fault of the kind
   abbrev Below : ℕ → Type 0
   Below bound = (number place : ℕ) (item : Item) (fault : NetFault) → number < bound → IsLine models number place item → kind number item fault → ⊥
@@ -26,7 +26,7 @@ module _ (models : List Model) (kind : ℕ → Item → NetFault → Type 0) (fr
     least = λ n i other its earlier its_line its_fault. earlier_free (before number below bound) n i other its earlier its_line its_fault;
   })
     where
-      earlier_free : Before number bound → (n i : ℕ) (other : Item) (its : NetFault) → IsBefore n i number place → IsLine models n i other → kind n other its → ⊥
+      earlier_free : Before number bound → (n i : ℕ) (other : Item) (its : NetFault) → IsPlaceBefore n i number place → IsLine models n i other → kind n other its → ⊥
       earlier_free again n i other its (inl less) l h = below n i other its less l h
       earlier_free again n i other its (inr same) l h =
           again i other its (omega (arith, same.1)) (subst (λ m. IsLine models m i other) same.0 l) (subst (λ m. kind m other its) same.0 h)

@@ -8,7 +8,7 @@ use Rattle.hierarchy.specs.Lines.{UseLine, use_lines}
 use Rattle.hierarchy.specs.Instances.{model_named, use_at, model_at, instances_below}
 use Rattle.hierarchy.proofs.Members.{In, in_flat_map, flat_map_in, in_numbered, numbered_in}
 
--- what a path with a model stands on
+-- what a path with a model depends on
 pub stands_on : (models : List Model) (over : Option Model) (n : ℕ) (model : Model) → option_and_then (λ used. model_named models used.model) (use_at over n) ≡ Some model → (above : Model) × (used : UseLine) × (over ≡ Some above) × (slice_get (use_lines above) n ≡ Some used) × (model_named models used.model ≡ Some model)
 stands_on models None n model e = absurd (cc)
 stands_on models (Some above) n model e = by (slice_get (use_lines above) n) refl e

@@ -9,7 +9,7 @@ use Rattle.hierarchy.specs.declared.fault.NetFault.TheVariants.{TooDeep, Unknown
 use Rattle.hierarchy.specs.Faults.{HasTooDeep, HasUnknownModel, IsFree, in_use, unknown_model}
 use Rattle.hierarchy.specs.Instances.{model_at, model_named, model_names, number_named, use_at}
 use Rattle.hierarchy.specs.Lines.{UseLine, use_lines, use_of}
-use Rattle.hierarchy.specs.Reach.{Reaches, end_of, used_by, uses}
+use Rattle.hierarchy.specs.Reach.{Reaches, led_to, used_by, uses}
 use Rattle.hierarchy.specs.private.Depth.{has_steps}
 use Rattle.hierarchy.proofs.Deep.{fewer_steps, joined, steps_on}
 use Rattle.hierarchy.proofs.Free.{no_fault}
@@ -76,15 +76,15 @@ module _ (models : List Model) (free : IsFree (HasUnknownModel models)) where
       ∙ filter_map_at (λ used. number_named models used.model) (use_lines model) (λ used line. known k model used reached found line) n
 
   -- the model of an instance is that of the number to which its path leads
-  pub model_of_path : (path : List ℕ) → model_at models path ≡ option_and_then (slice_get models) (end_of (uses models) 0 path)
+  pub model_of_path : (path : List ℕ) → model_at models path ≡ option_and_then (slice_get models) (led_to (uses models) 0 path)
   model_of_path [] = refl
-  model_of_path (n ∷ above) = by (end_of (uses models) 0 above) refl (model_of_path above)
+  model_of_path (n ∷ above) = by (led_to (uses models) 0 above) refl (model_of_path above)
     where
       named : (o : Option UseLine) → option_and_then (λ used. model_named models used.model) o ≡ option_and_then (slice_get models) (option_and_then (λ used. number_named models used.model) o)
       named None = refl
       named (Some used) = refl
 
-      on : (k : ℕ) → end_of (uses models) 0 above ≡ Some k → (m : Option Model) → slice_get models k ≡ m → model_at models above ≡ m → model_at models (n ∷ above) ≡ option_and_then (slice_get models) (slice_get (get_or (uses models) k []) n)
+      on : (k : ℕ) → led_to (uses models) 0 above ≡ Some k → (m : Option Model) → slice_get models k ≡ m → model_at models above ≡ m → model_at models (n ∷ above) ≡ option_and_then (slice_get models) (slice_get (get_or (uses models) k []) n)
       on k is None found here =
           ap (λ m. option_and_then (λ used. model_named models used.model) (use_at m n)) here
           ∙ sym (ap (λ us. option_and_then (slice_get models) (slice_get us n)) (uses_none models models k found))
@@ -93,14 +93,14 @@ module _ (models : List Model) (free : IsFree (HasUnknownModel models)) where
           ∙ named (slice_get (use_lines model) n)
           ∙ sym (ap (option_and_then (slice_get models)) (step_at k n model (above, is) found))
 
-      by : (o : Option ℕ) → end_of (uses models) 0 above ≡ o → model_at models above ≡ option_and_then (slice_get models) o → model_at models (n ∷ above) ≡ option_and_then (slice_get models) (option_and_then (λ k. slice_get (get_or (uses models) k []) n) o)
+      by : (o : Option ℕ) → led_to (uses models) 0 above ≡ o → model_at models above ≡ option_and_then (slice_get models) o → model_at models (n ∷ above) ≡ option_and_then (slice_get models) (option_and_then (λ k. slice_get (get_or (uses models) k []) n) o)
       by None is here = ap (λ m. option_and_then (λ used. model_named models used.model) (use_at m n)) here
       by (Some k) is here = on k is (slice_get models k) refl here
 
 -- steps lead to a model
-pub end_found : (models : List Model) (path : List ℕ) (k : ℕ) → 0 < length models → end_of (uses models) 0 path ≡ Some k → (model : Model) × (slice_get models k ≡ Some model)
+pub end_found : (models : List Model) (path : List ℕ) (k : ℕ) → 0 < length models → led_to (uses models) 0 path ≡ Some k → (model : Model) × (slice_get models k ≡ Some model)
 end_found models [] k some e = let same : 0 ≡ k = cc in subst (λ n. (model : Model) × (slice_get models n ≡ Some model)) same (found_below models 0 some)
-end_found models (n ∷ above) k some e = by (end_of (uses models) 0 above) e
+end_found models (n ∷ above) k some e = by (led_to (uses models) 0 above) e
   where
     low : (m i : ℕ) (us : List ℕ) → us ≡ get_or (uses models) m [] → (found : In us k) → k < length models
     low m i us same found =
@@ -128,7 +128,7 @@ any_found p (x ∷ xs) e = by (p x) refl e (any_found p xs)
     by false is e again = let r = again e in (r.0, suc r.1, r.2, r.3)
 
 -- where so many steps lead on from a model there are such
-steps_from : (graph : List (List ℕ)) (n k : ℕ) → has_steps graph n k ≡ true → (path : List ℕ) × (to : ℕ) × (length path ≡ n) × (end_of graph k path ≡ Some to)
+steps_from : (graph : List (List ℕ)) (n k : ℕ) → has_steps graph n k ≡ true → (path : List ℕ) × (to : ℕ) × (length path ≡ n) × (led_to graph k path ≡ Some to)
 steps_from graph zero k e = ([], k, refl, refl)
 steps_from graph (suc n) k e =
     let first = any_found (has_steps graph n) (get_or graph k []) e in
@@ -152,9 +152,9 @@ deep_is models some free e =
     )
 
 pub shallow_is : (models : List Model) → IsFree (HasUnknownModel models) → has_steps (uses models) 65 0 ≡ false → IsFree (HasTooDeep models)
-shallow_is models free short fault h = by (end_of (uses models) 0 h.0.path) refl (sym (model_of_path models free h.0.path) ∙ h.0.instance)
+shallow_is models free short fault h = by (led_to (uses models) 0 h.0.path) refl (sym (model_of_path models free h.0.path) ∙ h.0.instance)
   where
-    by : (o : Option ℕ) → end_of (uses models) 0 h.0.path ≡ o → option_and_then (slice_get models) o ≡ Some h.0.model → ⊥
+    by : (o : Option ℕ) → led_to (uses models) 0 h.0.path ≡ o → option_and_then (slice_get models) o ≡ Some h.0.model → ⊥
     by None is e = absurd (cc)
     by (Some k) is e =
         let deep = h.0.deep in

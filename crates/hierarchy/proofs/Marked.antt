@@ -6,7 +6,7 @@ use Rattle.blif_syntax.specs.declared.models.Item.{Item}
 use Rattle.blif_syntax.specs.declared.models.Model.{Model}
 use Rattle.hierarchy.specs.declared.fault.NetFault.{NetFault}
 use Rattle.hierarchy.specs.declared.fault.NetFault.TheVariants.{OutOfMemory}
-use Rattle.hierarchy.specs.Faults.{IsBefore, IsFirst, IsFree}
+use Rattle.hierarchy.specs.Faults.{IsPlaceBefore, IsFirstOfKind, IsFree}
 use Rattle.hierarchy.specs.private.Checks.{AreReachable, FirstIn, ItemAt, NoneIn, first_fault_in, item_at, marked_from, or_else}
 
 -- what a check finds first is the first of its kind
@@ -125,7 +125,7 @@ module _ (kind : ℕ → Item → NetFault → Type 0) where
       marked : get_or marks n false ≡ true
       at : slice_get model.items place ≡ Some item
       has : kind n item fault
-      least : (k m i : ℕ) (other_model : Model) (other : Item) (its : NetFault) → m ≡ number + k → IsBefore m i n place → slice_get models k ≡ Some other_model → get_or marks m false ≡ true → slice_get other_model.items i ≡ Some other → kind m other its → ⊥
+      least : (k m i : ℕ) (other_model : Model) (other : Item) (its : NetFault) → m ≡ number + k → IsPlaceBefore m i n place → slice_get models k ≡ Some other_model → get_or marks m false ≡ true → slice_get other_model.items i ≡ Some other → kind m other its → ⊥
 
     first_own : (number : ℕ) (m : Model) (models : List Model) (fault : NetFault) → FirstItem number m.items fault → get_or marks number false ≡ true → FirstLine (m ∷ models) number fault
     first_own number m models fault r mark = record {
@@ -145,7 +145,7 @@ module _ (kind : ℕ → Item → NetFault → Type 0) where
         same_model : (other_model : Model) → Some m ≡ Some other_model → m ≡ other_model
         same_model other_model e = cc
 
-        not_before : (k n i : ℕ) (other_model : Model) (other : Item) (its : NetFault) → n ≡ number + k → IsBefore n i number r.place → slice_get (m ∷ models) k ≡ Some other_model → slice_get other_model.items i ≡ Some other → kind n other its → ⊥
+        not_before : (k n i : ℕ) (other_model : Model) (other : Item) (its : NetFault) → n ≡ number + k → IsPlaceBefore n i number r.place → slice_get (m ∷ models) k ≡ Some other_model → slice_get other_model.items i ≡ Some other → kind n other its → ⊥
         not_before k n i other_model other its is (inl low) found at has = absurd (omega arith)
         not_before zero n i other_model other its is (inr low) found at has =
             r.least i other its low.1 (subst (λ w. slice_get w.items i ≡ Some other) (sym (same_model other_model found)) at) (subst (λ k. kind k other its) low.0 has)
@@ -169,7 +169,7 @@ module _ (kind : ℕ → Item → NetFault → Type 0) where
         same_model : (other_model : Model) → Some m ≡ Some other_model → m ≡ other_model
         same_model other_model e = cc
 
-        not_before : (k n i : ℕ) (other_model : Model) (other : Item) (its : NetFault) → n ≡ number + k → IsBefore n i r.n r.place → slice_get (m ∷ models) k ≡ Some other_model → get_or marks n false ≡ true → slice_get other_model.items i ≡ Some other → kind n other its → ⊥
+        not_before : (k n i : ℕ) (other_model : Model) (other : Item) (its : NetFault) → n ≡ number + k → IsPlaceBefore n i r.n r.place → slice_get (m ∷ models) k ≡ Some other_model → get_or marks n false ≡ true → slice_get other_model.items i ≡ Some other → kind n other its → ⊥
         not_before zero n i other_model other its is before found marked at has =
             let here : n ≡ number = omega arith in
             let mark : get_or marks number false ≡ true = subst (λ k. get_or marks k false ≡ true) here marked in
@@ -192,7 +192,7 @@ module _ (kind : ℕ → Item → NetFault → Type 0) where
         by (inr h) again = first_rest number m models fault h.0 (again h.1)
 
 -- the first fault in the lines of reachable models is that of the first line
-pub is_first : (kind : ℕ → Item → NetFault → Type 0) (models : List Model) (lines : List ItemAt) → AreReachable models lines → (fault : NetFault) → FirstIn (λ at its. kind at.number at.item its) lines fault → IsFirst models kind fault
+pub is_first : (kind : ℕ → Item → NetFault → Type 0) (models : List Model) (lines : List ItemAt) → AreReachable models lines → (fault : NetFault) → FirstIn (λ at its. kind at.number at.item its) lines fault → IsFirstOfKind models kind fault
 is_first kind models lines (marks, reached, same) fault some =
     let r = first_line kind marks models 0 fault (subst (λ l. FirstIn (λ at its. kind at.number at.item its) l fault) same some) in
     let place : r.j ≡ r.n = let e = r.is in omega arith in
@@ -205,14 +205,14 @@ is_first kind models lines (marks, reached, same) fault some =
       least = λ n i other its before line has. r.least n n i line.model other its (omega arith) before line.found ((reached n).1 line.reached) line.at has;
     }
 
-pub is_free : (kind : ℕ → Item → NetFault → Type 0) (models : List Model) (lines : List ItemAt) → AreReachable models lines → NoneIn (λ at its. kind at.number at.item its) lines → IsFree (IsFirst models kind)
+pub is_free : (kind : ℕ → Item → NetFault → Type 0) (models : List Model) (lines : List ItemAt) → AreReachable models lines → NoneIn (λ at its. kind at.number at.item its) lines → IsFree (IsFirstOfKind models kind)
 is_free kind models lines (marks, reached, same) none fault f =
     no_line kind marks models 0 (subst (λ l. NoneIn (λ at its. kind at.number at.item its) l) same none) f.number f.number f.place f.line.model f.item fault (omega arith) f.line.found ((reached f.number).1 f.line.reached) f.line.at f.faulty
 
 -- the same of what a check finds
-pub check_first : (check : Item → Option NetFault) (models : List Model) (lines : List ItemAt) → AreReachable models lines → (fault : NetFault) → (fault ≡ OutOfMemory) ⊎ (first_fault_in (λ at. check at.item) lines ≡ Some fault) → (fault ≡ OutOfMemory) ⊎ IsFirst models (λ number item its. check item ≡ Some its) fault
+pub check_first : (check : Item → Option NetFault) (models : List Model) (lines : List ItemAt) → AreReachable models lines → (fault : NetFault) → (fault ≡ OutOfMemory) ⊎ (first_fault_in (λ at. check at.item) lines ≡ Some fault) → (fault ≡ OutOfMemory) ⊎ IsFirstOfKind models (λ number item its. check item ≡ Some its) fault
 check_first check models lines reachable fault (inl wanting) = inl wanting
 check_first check models lines reachable fault (inr some) = inr (is_first (λ number item its. check item ≡ Some its) models lines reachable fault (found_first (λ at. check at.item) lines fault some))
 
-pub check_free : (check : Item → Option NetFault) (models : List Model) (lines : List ItemAt) → AreReachable models lines → first_fault_in (λ at. check at.item) lines ≡ None → IsFree (IsFirst models (λ number item its. check item ≡ Some its))
+pub check_free : (check : Item → Option NetFault) (models : List Model) (lines : List ItemAt) → AreReachable models lines → first_fault_in (λ at. check at.item) lines ≡ None → IsFree (IsFirstOfKind models (λ number item its. check item ≡ Some its))
 check_free check models lines reachable none = is_free (λ number item its. check item ≡ Some its) models lines reachable (found_none (λ at. check at.item) lines none)

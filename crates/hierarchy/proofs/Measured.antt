@@ -13,9 +13,9 @@ use Rattle.hierarchy.specs.Faults.{HasBadFormal, HasUnknownModel, IsFree, bad_fo
 use Rattle.hierarchy.specs.Instances.{actual_of, had_by, instances, instances_below, is_bound, model_at, model_named, model_names, number_named, use_at}
 use Rattle.hierarchy.specs.Lines.{UseLine, formals_of, signals, use_lines, use_of}
 use Rattle.hierarchy.specs.Nets.{own_nets}
-use Rattle.hierarchy.specs.Reach.{Reaches, end_of, uses}
-use Rattle.hierarchy.specs.Sizes.{all_words}
-use Rattle.hierarchy.specs.private.Counts.{at_number, kept_weight, measured, model_weight, sum_of, use_weight, uses_weight, weight_at, weight_below}
+use Rattle.hierarchy.specs.Reach.{Reaches, led_to, uses}
+use Rattle.hierarchy.specs.Sizes.{words_of_signals}
+use Rattle.hierarchy.specs.private.Counts.{at_number, kept_weight, measure_of, model_weight, sum_of, use_weight, uses_weight, weight_at, weight_below}
 use Rattle.hierarchy.proofs.Bindings.{filter_same, own_count}
 use Rattle.hierarchy.proofs.Free.{no_fault}
 use Rattle.hierarchy.proofs.Levels.{end_found, known, model_of_path, place_of, step_at, uses_at}
@@ -40,14 +40,14 @@ module _ (models : List Model) (some : 0 < length models) (free : IsFree (HasUnk
     pub model : Model
     pub is : number_named models used.model ≡ Some number
     pub found : slice_get models number ≡ Some model
-    pub ends : end_of (uses models) 0 (n ∷ path) ≡ Some number
+    pub ends : led_to (uses models) 0 (n ∷ path) ≡ Some number
     pub at : model_at models (n ∷ path) ≡ Some model
     pub named : model_named models used.model ≡ Some model
 
-  pub below : (path : List ℕ) (k : ℕ) (model : Model) → end_of (uses models) 0 path ≡ Some k → slice_get models k ≡ Some model → (n : ℕ) (used : UseLine) → slice_get (use_lines model) n ≡ Some used → Below path n used
+  pub below : (path : List ℕ) (k : ℕ) (model : Model) → led_to (uses models) 0 path ≡ Some k → slice_get models k ≡ Some model → (n : ℕ) (used : UseLine) → slice_get (use_lines model) n ≡ Some used → Below path n used
   below path k model is found n used at =
       let number = known models free k model used (path, is) found (in_get (use_lines model) n used at) in
-      let ends : end_of (uses models) 0 (n ∷ path) ≡ Some number.0 =
+      let ends : led_to (uses models) 0 (n ∷ path) ≡ Some number.0 =
       ap (option_and_then (λ m. slice_get (get_or (uses models) m []) n)) is
       ∙ step_at models free k n model (path, is) found
       ∙ ap (option_and_then (λ u. number_named models u.model)) at
@@ -65,9 +65,9 @@ module _ (models : List Model) (some : 0 < length models) (free : IsFree (HasUnk
 
   -- what instances weigh, where each but the top weighs what its use does
   module _ (weight : List ℕ → ℕ) (by_use : UseLine → ℕ) (own : List ℕ)
-      (weighs : (path : List ℕ) (k : ℕ) (model : Model) → end_of (uses models) 0 path ≡ Some k → slice_get models k ≡ Some model → (n : ℕ) (used : UseLine) → slice_get (use_lines model) n ≡ Some used → weight (n ∷ path) ≡ by_use used)
+      (weighs : (path : List ℕ) (k : ℕ) (model : Model) → led_to (uses models) 0 path ≡ Some k → slice_get models k ≡ Some model → (n : ℕ) (used : UseLine) → slice_get (use_lines model) n ≡ Some used → weight (n ∷ path) ≡ by_use used)
       (owns : (k : ℕ) (model : Model) → slice_get models k ≡ Some model → get_or own k 0 ≡ sum_of by_use (use_lines model)) where
-    pub total : (levels : ℕ) (path : List ℕ) (k : ℕ) (model : Model) → end_of (uses models) 0 path ≡ Some k → slice_get models k ≡ Some model → sum_of weight (instances_below models (suc levels) path (Some model)) ≡ weight path + weight_below (uses models) own levels k
+    pub total : (levels : ℕ) (path : List ℕ) (k : ℕ) (model : Model) → led_to (uses models) 0 path ≡ Some k → slice_get models k ≡ Some model → sum_of weight (instances_below models (suc levels) path (Some model)) ≡ weight path + weight_below (uses models) own levels k
     total zero path k model is found =
         let apart = sum_flat_map weight (λ at. instances_below models 0 (at.0 ∷ path) (model_named models at.1.model)) (enumerate_from 0 (use_lines model)) in
         let none = sum_none (enumerate_from 0 (use_lines model)) in
@@ -80,7 +80,7 @@ module _ (models : List Model) (some : 0 < length models) (free : IsFree (HasUnk
         each_use : UseLine → ℕ
         each_use used = by_use used + at_number (weight_below (uses models) own levels) (number_named models used.model)
 
-        one : ((p : List ℕ) (j : ℕ) (m : Model) → end_of (uses models) 0 p ≡ Some j → slice_get models j ≡ Some m → sum_of weight (instances_below models (suc levels) p (Some m)) ≡ weight p + weight_below (uses models) own levels j) → (at : ℕ × UseLine) → In (enumerate_from 0 (use_lines model)) at → sum_of weight (inner at) ≡ each_use at.1
+        one : ((p : List ℕ) (j : ℕ) (m : Model) → led_to (uses models) 0 p ≡ Some j → slice_get models j ≡ Some m → sum_of weight (instances_below models (suc levels) p (Some m)) ≡ weight p + weight_below (uses models) own levels j) → (at : ℕ × UseLine) → In (enumerate_from 0 (use_lines model)) at → sum_of weight (inner at) ≡ each_use at.1
         one again at h =
             let there = numbered_in (use_lines model) at h in
             let b = below path k model is found at.0 at.1 there in
@@ -90,7 +90,7 @@ module _ (models : List Model) (some : 0 < length models) (free : IsFree (HasUnk
             let last : at_number (weight_below (uses models) own levels) (number_named models at.1.model) ≡ weight_below (uses models) own levels b.number = ap (at_number (weight_below (uses models) own levels)) b.is in
             omega arith
 
-        by : ((p : List ℕ) (j : ℕ) (m : Model) → end_of (uses models) 0 p ≡ Some j → slice_get models j ≡ Some m → sum_of weight (instances_below models (suc levels) p (Some m)) ≡ weight p + weight_below (uses models) own levels j) → sum_of weight (instances_below models (suc (suc levels)) path (Some model)) ≡ weight path + weight_below (uses models) own (suc levels) k
+        by : ((p : List ℕ) (j : ℕ) (m : Model) → led_to (uses models) 0 p ≡ Some j → slice_get models j ≡ Some m → sum_of weight (instances_below models (suc levels) p (Some m)) ≡ weight p + weight_below (uses models) own levels j) → sum_of weight (instances_below models (suc (suc levels)) path (Some model)) ≡ weight path + weight_below (uses models) own (suc levels) k
         by again =
             let apart = sum_flat_map weight inner (enumerate_from 0 (use_lines model)) in
             let same = sum_same (λ at. sum_of weight (inner at)) (λ at. each_use at.1) (enumerate_from 0 (use_lines model)) (one again) in
@@ -104,7 +104,7 @@ module _ (models : List Model) (some : 0 < length models) (free : IsFree (HasUnk
   -- what an instance weighs
   abbrev path_weight : Measure → List ℕ → ℕ
   path_weight Nets path = length (own_nets models path)
-  path_weight Size path = suc (length (had_by all_words (model_at models path)))
+  path_weight Size path = suc (length (had_by words_of_signals (model_at models path)))
 
   -- what a use weighs
   abbrev exact : Measure → UseLine → ℕ
@@ -128,10 +128,10 @@ module _ (models : List Model) (some : 0 < length models) (free : IsFree (HasUnk
             ∙ ap (option_and_then (λ m. option_map (λ n. BadFormal used.line n) (bad_formal (formals_of m) [] (map (λ binding. binding.0) used.bindings)))) named
             ∙ ap (option_map (λ n. BadFormal used.line n)) e))
 
-    weighs : (measure : Measure) (path : List ℕ) (k : ℕ) (model : Model) → end_of (uses models) 0 path ≡ Some k → slice_get models k ≡ Some model → (n : ℕ) (used : UseLine) → slice_get (use_lines model) n ≡ Some used → path_weight measure (n ∷ path) ≡ exact measure used
+    weighs : (measure : Measure) (path : List ℕ) (k : ℕ) (model : Model) → led_to (uses models) 0 path ≡ Some k → slice_get models k ≡ Some model → (n : ℕ) (used : UseLine) → slice_get (use_lines model) n ≡ Some used → path_weight measure (n ∷ path) ≡ exact measure used
     weighs Size path k model is found n used at =
         let b = below path k model is found n used at in
-        ap (λ m. suc (length (had_by all_words m))) b.at
+        ap (λ m. suc (length (had_by words_of_signals m))) b.at
         ∙ sym (map_at (model_weight Size) 0 models b.number b.model b.found)
         ∙ sym (ap (at_number (λ j. get_or (map (model_weight Size) models) j 0)) b.is)
     weighs Nets path k model is found n used at =
@@ -147,7 +147,7 @@ module _ (models : List Model) (some : 0 < length models) (free : IsFree (HasUnk
 
     -- what the top weighs
     top_weight : (measure : Measure) (model : Model) → slice_get models 0 ≡ Some model → path_weight measure [] ≡ get_or (map (model_weight measure) models) 0 0
-    top_weight Size model found = ap (λ m. suc (length (had_by all_words m))) found ∙ sym (map_at (model_weight Size) 0 models 0 model found)
+    top_weight Size model found = ap (λ m. suc (length (had_by words_of_signals m))) found ∙ sym (map_at (model_weight Size) 0 models 0 model found)
     top_weight Nets model found =
         length-map (filter (λ s. not false) (had_by signals (slice_get models 0))) (λ s. record { path = []; signal = s })
         ∙ all (had_by signals (slice_get models 0))
@@ -159,11 +159,11 @@ module _ (models : List Model) (some : 0 < length models) (free : IsFree (HasUnk
         all (x ∷ xs) = let rest = all xs in omega arith
 
     -- the whole, as a sum over instances
-    as_sum : (measure : Measure) → measured measure models ≡ sum_of (path_weight measure) (instances models)
+    as_sum : (measure : Measure) → measure_of measure models ≡ sum_of (path_weight measure) (instances models)
     as_sum Nets = length_flat_map (λ path. own_nets models path) (instances models)
-    as_sum Size = sum_by_is (λ path. suc (length (had_by all_words (model_at models path)))) (instances models)
+    as_sum Size = sum_by_is (λ path. suc (length (had_by words_of_signals (model_at models path)))) (instances models)
 
-    pub whole : (measure : Measure) (model : Model) → slice_get models 0 ≡ Some model → measured measure models ≡ get_or (map (model_weight measure) models) 0 0 + weight_below (uses models) (map (uses_weight measure (map (model_weight measure) models) (model_names models)) models) 64 0
+    pub whole : (measure : Measure) (model : Model) → slice_get models 0 ≡ Some model → measure_of measure models ≡ get_or (map (model_weight measure) models) 0 0 + weight_below (uses models) (map (uses_weight measure (map (model_weight measure) models) (model_names models)) models) 64 0
     whole measure model found =
         let own = map (uses_weight measure (map (model_weight measure) models) (model_names models)) models in
         let sum = as_sum measure in
@@ -195,12 +195,12 @@ top_found [] h = absurd (omega arith)
 top_found (model ∷ models) h = (model, refl)
 
 -- the capped count of the code is that of the whole
-pub count_is : (measure : Measure) (cap : ℕ) (models : List Model) (names : List (List ℕ)) (graph : List (List ℕ)) (weights own : List ℕ) (first count : ℕ) → 0 < length models → IsFree (HasUnknownModel models) → IsFree (HasBadFormal models) → names ≡ model_names models → graph ≡ uses models → weights ≡ map (kept_weight measure cap) models → own ≡ map (λ model. min cap (uses_weight measure weights names model)) models → first ≡ get_or weights 0 first → count ≡ min cap (weight_below graph own 64 0) → min cap (first + count) ≡ min cap (measured measure models)
+pub count_is : (measure : Measure) (cap : ℕ) (models : List Model) (names : List (List ℕ)) (graph : List (List ℕ)) (weights own : List ℕ) (first count : ℕ) → 0 < length models → IsFree (HasUnknownModel models) → IsFree (HasBadFormal models) → names ≡ model_names models → graph ≡ uses models → weights ≡ map (kept_weight measure cap) models → own ≡ map (λ model. min cap (uses_weight measure weights names model)) models → first ≡ get_or weights 0 first → count ≡ min cap (weight_below graph own 64 0) → min cap (first + count) ≡ min cap (measure_of measure models)
 count_is measure cap models names graph weights own first count some free bound all edges kept mine at counted =
     let top = top_found models some in
     let exact_weights = map (model_weight measure) models in
     let exact_own = map (uses_weight measure exact_weights (model_names models)) models in
-    let whole_is : measured measure models ≡ get_or exact_weights 0 0 + weight_below (uses models) exact_own 64 0 = whole models some free bound measure top.0 top.1 in
+    let whole_is : measure_of measure models ≡ get_or exact_weights 0 0 + weight_below (uses models) exact_own 64 0 = whole models some free bound measure top.0 top.1 in
     let first_is : first ≡ kept_weight measure cap top.0 = at ∙ ap (λ ws. get_or ws 0 first) kept ∙ map_at (kept_weight measure cap) first models 0 top.0 top.1 in
     let one : min cap first ≡ min cap (get_or exact_weights 0 0) = ap (min cap) (first_is ∙ sym (map_at (kept_weight measure cap) 0 models 0 top.0 top.1)) ∙ kept_model measure cap models in
     let own_is : own ≡ map (λ model. min cap (uses_weight measure (map (kept_weight measure cap) models) (model_names models) model)) models = mine ∙ ap (λ ws. map (λ model. min cap (uses_weight measure ws names model)) models) kept ∙ ap (λ ns. map (λ model. min cap (uses_weight measure (map (kept_weight measure cap) models) ns model)) models) all in

@@ -1,7 +1,7 @@
--- Ranks that never rise along a use tell what is not reached.
+-- Ranks that never rise along a use show what is not reached.
 use Rattle.std.proofs.Common.{◌≡◌, ◌<◌, ◌≤◌, ℕ, zero, suc, List, [], ◌∷◌, length, Option, None, Some, get_or, slice_get, arith, refl, subst}
 use Rattle.std.specs.Prelude.{option_and_then}
-use Rattle.hierarchy.specs.Reach.{Reaches, end_of}
+use Rattle.hierarchy.specs.Reach.{Reaches, led_to}
 use Rattle.hierarchy.specs.private.Ranks.{AreRanks}
 use Rattle.hierarchy.proofs.Members.{contains_from_in, in_get}
 
@@ -16,11 +16,11 @@ module _ (graph : List (List ℕ)) (ranks : List ℕ) (never : AreRanks graph ra
       let c = contains_from_in (get_or graph m []) to (in_get (get_or graph m []) n to e) in
       subst (λ j. get_or ranks j 0 ≤ get_or ranks m 0) c.2 (never m (within graph m n to e) c.0 to c.1)
 
-  pub ranks_down : (path : List ℕ) (from to : ℕ) → end_of graph from path ≡ Some to → get_or ranks to 0 ≤ get_or ranks from 0
+  pub ranks_down : (path : List ℕ) (from to : ℕ) → led_to graph from path ≡ Some to → get_or ranks to 0 ≤ get_or ranks from 0
   ranks_down [] from to e = let same : from ≡ to = cc in subst (λ k. get_or ranks k 0 ≤ get_or ranks from 0) same (omega arith)
-  ranks_down (n ∷ above) from to e = by (end_of graph from above) refl e (λ m found. ranks_down above from m found)
+  ranks_down (n ∷ above) from to e = by (led_to graph from above) refl e (λ m found. ranks_down above from m found)
     where
-      by : (o : Option ℕ) → end_of graph from above ≡ o → option_and_then (λ m. slice_get (get_or graph m []) n) o ≡ Some to → ((m : ℕ) → end_of graph from above ≡ Some m → get_or ranks m 0 ≤ get_or ranks from 0) → get_or ranks to 0 ≤ get_or ranks from 0
+      by : (o : Option ℕ) → led_to graph from above ≡ o → option_and_then (λ m. slice_get (get_or graph m []) n) o ≡ Some to → ((m : ℕ) → led_to graph from above ≡ Some m → get_or ranks m 0 ≤ get_or ranks from 0) → get_or ranks to 0 ≤ get_or ranks from 0
       by None is e again = absurd (cc)
       by (Some m) is e again = let first = again m is in let last = one_step m n to e in omega arith
 

@@ -4,7 +4,7 @@ use Rattle.std.specs.Prelude.{◌⊎◌, ◌↔◌, Contains, All, count_by, opt
 use Rattle.std.proofs.lemmas.List.{length_push, get_or_read}
 use Rattle.std.proofs.lemmas.List.Elements.{Contains-append_left, Contains-push, Contains-push_cases}
 use Rattle.std.proofs.lemmas.List.Sums.{sum_by-set}
-use Rattle.hierarchy.specs.Reach.{end_of, Reaches}
+use Rattle.hierarchy.specs.Reach.{led_to, Reaches}
 use Rattle.hierarchy.specs.private.Search.{Marks}
 
 -- the numbers that a model's uses lead to
@@ -140,11 +140,11 @@ searched graph start m before after work rest more f taken s =
 pub exact : (graph : List (List ℕ)) (start : ℕ) (marks : List Bool) → Found graph start marks [] → (k : ℕ) → (get_or marks k false ≡ true) ↔ Reaches graph start k
 exact graph start marks f k = (f.sound k, λ r. by r.0 k r.1)
   where
-    by : (path : List ℕ) (k : ℕ) → end_of graph start path ≡ Some k → get_or marks k false ≡ true
+    by : (path : List ℕ) (k : ℕ) → led_to graph start path ≡ Some k → get_or marks k false ≡ true
     by [] k e = let same : start ≡ k = cc in ap (λ i. get_or marks i false) (sym same) ∙ f.begun
-    by (n ∷ above) k e = on (λ j. by above j) (end_of graph start above) refl e
+    by (n ∷ above) k e = on (λ j. by above j) (led_to graph start above) refl e
       where
-        on : ((j : ℕ) → end_of graph start above ≡ Some j → get_or marks j false ≡ true) → (o : Option ℕ) → end_of graph start above ≡ o → option_and_then (λ j. slice_get (used_at graph j) n) o ≡ Some k → get_or marks k false ≡ true
+        on : ((j : ℕ) → led_to graph start above ≡ Some j → get_or marks j false ≡ true) → (o : Option ℕ) → led_to graph start above ≡ o → option_and_then (λ j. slice_get (used_at graph j) n) o ≡ Some k → get_or marks k false ≡ true
         on again None is e = absurd (cc)
         on again (Some j) is e = elim (f.closed j k (again j is) (member (used_at graph j) n k e)) as (λ _. get_or marks k false ≡ true) [ inl h ↦ h | inr w ↦ absurd (omega (arith, w.1)) ]
           where

@@ -37,7 +37,7 @@ more_kinds : (kind others more : NetFault → Type 0) → ((fault : NetFault) �
 more_kinds kind others more each fault (inl h) = inl h
 more_kinds kind others more each fault (inr h) = inr (h.0, each fault h.1)
 
--- each kind that can be told before any instance is made
+-- each kind that can be found before any instance is made
 pub record AreFreeBefore (models : List Model) : Type 0 where
   pub double_model : IsFree (HasDoubleModel models)
   pub unknown_model : IsFree (HasUnknownModel models)
@@ -90,7 +90,7 @@ module _ (models : List Model) where
   abbrev Unknown : NetFault → Type 0
   Unknown = Else (HasUnknownModel models) Again
 
-  -- a fault that can be told before any instance is made is what the hierarchy is refused for
+  -- a fault that can be found before any instance is made is what the hierarchy is refused for
   pub before_is_refusal : (fault : NetFault) → HasFaultBeforeInstances models fault → IsRefusal models fault
   before_is_refusal =
       more_kinds (HasDoubleModel models) (FromUnknownModel models) Unknown

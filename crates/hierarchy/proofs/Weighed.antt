@@ -62,7 +62,7 @@ module _ {X : Type 0} where
   sum_none [] = refl
   sum_none (x ∷ xs) = let rest = sum_none xs in omega arith
 
--- counts with one level more
+-- counts with one more level
 pub one_level : (graph : List (List ℕ)) (own counts : List ℕ) (cap n k : ℕ) → ((j : ℕ) → j < length graph → get_or counts j 0 ≡ min cap (weight_below graph own n j)) → ((i e : ℕ) → i < length (get_or graph k []) → get_or (get_or graph k []) i e < length graph) → min cap (get_or own k 0 + sum_of (λ j. get_or counts j 0) (get_or graph k [])) ≡ min cap (weight_below graph own (n + 1) k)
 one_level graph own counts cap n k each low =
     subst (λ m. min cap (get_or own k 0 + sum_of (λ j. get_or counts j 0) (get_or graph k [])) ≡ min cap (weight_below graph own m k)) (next n)

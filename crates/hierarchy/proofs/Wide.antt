@@ -6,7 +6,7 @@ use Rattle.blif_syntax.specs.declared.models.Item.{Item}
 use Rattle.blif_syntax.specs.declared.models.Model.{Model}
 use Rattle.hierarchy.specs.declared.fault.NetFault.{NetFault}
 use Rattle.hierarchy.specs.declared.fault.NetFault.TheVariants.{GateTooWide, OutOfMemory}
-use Rattle.hierarchy.specs.Faults.{HasGateTooWide, IsFirst, IsFree, is_too_wide}
+use Rattle.hierarchy.specs.Faults.{HasGateTooWide, IsFirstOfKind, IsFree, is_too_wide}
 use Rattle.hierarchy.specs.private.Checks.{AreReachable, ItemAt, first_fault_in, item_at, marked_from}
 use Rattle.hierarchy.specs.private.Kinds.{wide_gate}
 use Rattle.hierarchy.proofs.Marked.{check_first, check_free}
@@ -35,7 +35,7 @@ lines_covered models lines covered (marks, reached, same) k d low =
 
 -- kinds of fault that are the same have the same first line
 module _ (models : List Model) (kind other : ℕ → Item → NetFault → Type 0) (to : (number : ℕ) (item : Item) (fault : NetFault) → kind number item fault → other number item fault) (back : (number : ℕ) (item : Item) (fault : NetFault) → other number item fault → kind number item fault) where
-  same_first : (fault : NetFault) → IsFirst models kind fault → IsFirst models other fault
+  same_first : (fault : NetFault) → IsFirstOfKind models kind fault → IsFirstOfKind models other fault
   same_first fault f = record {
     number = f.number;
     place = f.place;
@@ -45,7 +45,7 @@ module _ (models : List Model) (kind other : ℕ → Item → NetFault → Type 
     least = λ n i it its before line has. f.least n i it its before line (back n it its has);
   }
 
-  same_free : IsFree (IsFirst models kind) → IsFree (IsFirst models other)
+  same_free : IsFree (IsFirstOfKind models kind) → IsFree (IsFirstOfKind models other)
   same_free free fault f = free fault (record {
     number = f.number;
     place = f.place;

@@ -58,7 +58,8 @@ pub record GateLine : Type 0 where
   pub cover : Cover
 
 abbrev pub gate_of : What → Option GateLine
-gate_of (Names inputs output cover) = Some (record { inputs = inputs; output = output; cover = cover })
+gate_of (Names inputs output cover) =
+    Some (record { inputs = inputs; output = output; cover = cover })
 gate_of other = None
 
 -- the gates of a model, by line
@@ -115,7 +116,8 @@ pub record UseLine : Type 0 where
   pub bindings : List (List ℕ × List ℕ)
 
 abbrev pub use_on : ℕ → What → Option UseLine
-use_on line (Subckt model formals) = Some (record { line = line; model = model; bindings = formals })
+use_on line (Subckt model formals) =
+    Some (record { line = line; model = model; bindings = formals })
 use_on line other = None
 
 abbrev pub use_of : Item → Option UseLine
@@ -132,7 +134,8 @@ pub record DriverLine : Type 0 where
 
 abbrev pub driver_on : ℕ → What → Option DriverLine
 driver_on line (Names inputs output cover) = Some (record { line = line; output = output })
-driver_on line (Latch input output kind control init) = Some (record { line = line; output = output })
+driver_on line (Latch input output kind control init) =
+    Some (record { line = line; output = output })
 driver_on line other = None
 
 abbrev pub driver_of : Item → Option DriverLine
@@ -144,4 +147,5 @@ driver_lines model = filter_map driver_of model.items
 
 -- the latches of a model with the numbers of their lines, by line
 abbrev pub numbered_latches : Model → List (ℕ × LatchLine)
-numbered_latches model = filter_map (λ item. option_map (λ latch. (item.line, latch)) (latch_of item.what)) model.items
+numbered_latches model =
+    filter_map (λ item. option_map (λ latch. (item.line, latch)) (latch_of item.what)) model.items

@@ -24,21 +24,24 @@ name_at models path signal = own_name (home models path signal)
 -- the number below `count` that a text is, in decimal digits without leading zeros
 abbrev pub number_below : ℕ → List ℕ → Option ℕ
 number_below zero text = None
-number_below (suc count) text = if bytes_eq (decimal count) text then Some count else number_below count text
+number_below (suc count) text =
+    if bytes_eq (decimal count) text then Some count else number_below count text
 
 -- the character that parts the numbers of a path
 abbrev pub is_slash : ℕ → Bool
 is_slash byte = byte == 47
 
--- The net that a text names in an instance, with so many levels left: that of the signal that is the text, and otherwise, for a
--- text with a slash, what the text behind the first slash names in the subcircuit that the number before it counts.
+-- The net that a text names in an instance, with so many levels left: that of the signal that is
+-- the text, and otherwise, for a text with a slash, what the text behind the first slash names in
+-- the subcircuit that the number before it counts.
 abbrev pub named_in : List Model → ℕ → List ℕ → List ℕ → Option ℕ
 named_in models zero path text = None
 named_in models (suc depth) path text =
     if is_one_of (had_by signals (model_at models path)) text then Some (number_at models path text)
     else let head = before is_slash text in
     if length head == length text then None
-    else option_and_then (λ number. named_in models depth (number ∷ path) (drop (suc (length head)) text))
+    else option_and_then (λ number. named_in models depth (number ∷ path)
+    (drop (suc (length head)) text))
     (number_below (length (had_by use_lines (model_at models path))) head)
 
 -- the net that a text names

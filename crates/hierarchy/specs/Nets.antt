@@ -1,6 +1,7 @@
--- Meaning. The nets of a hierarchy, their numbers, and what drives them. Each instance makes a net for each of its signals that
--- is no bound formal; a bound formal is on the net of its actual. Nets are numbered in preorder of instances, and in each by
--- first mention. Source: this project's own choice.
+-- Meaning. The nets of a hierarchy, their numbers, and what drives them. Each instance makes a net
+-- for each of its signals that is no bound formal; a bound formal is on the net of its actual. Nets
+-- are numbered in preorder of instances, and in each by first mention. Source: this project's own
+-- choice.
 use Rattle.std.specs.Prelude.{ℕ, ◌∷◌, [], List, Bool, not, ◌&&◌, filter, map, flat_map, bytes_eq}
 use Rattle.std.specs.List.{position_or_len}
 use Rattle.std.specs.Option.{option_map_or}
@@ -17,7 +18,8 @@ pub record InstanceSignal : Type 0 where
 abbrev pub is_same_signal : InstanceSignal → InstanceSignal → Bool
 is_same_signal one other = bytes_eq one.path other.path && bytes_eq one.signal other.signal
 
--- the signal that the net of a signal is made for: the signal itself, or where it is a bound formal that of its actual
+-- the signal that the net of a signal is made for: the signal itself, or where it is a bound formal
+-- that of its actual
 abbrev pub home : List Model → List ℕ → List ℕ → InstanceSignal
 home models [] signal = record { path = []; signal = signal }
 home models (number ∷ above) signal =
@@ -36,7 +38,8 @@ nets models = flat_map (λ path. own_nets models path) (instances models)
 
 -- the number of the net of a signal of an instance
 abbrev pub number_at : List Model → List ℕ → List ℕ → ℕ
-number_at models path signal = position_or_len (λ net. is_same_signal (home models path signal) net) (nets models)
+number_at models path signal =
+    position_or_len (λ net. is_same_signal (home models path signal) net) (nets models)
 
 -- the gates, by number
 abbrev pub gates : List Model → List (List ℕ × GateLine)

@@ -13,11 +13,12 @@ abbrev pub uses : List Model → List (List ℕ)
 uses models = map (used_by models) models
 
 -- the model that steps from a model to one that it uses lead to, the last step first
-abbrev pub end_of : List (List ℕ) → ℕ → List ℕ → Option ℕ
-end_of graph from [] = Some from
-end_of graph from (step ∷ earlier) =
-    option_and_then (λ model. slice_get (slice_index_or graph model []) step) (end_of graph from earlier)
+abbrev pub led_to : List (List ℕ) → ℕ → List ℕ → Option ℕ
+led_to graph from [] = Some from
+led_to graph from (step ∷ earlier) =
+    option_and_then (λ model. slice_get (slice_index_or graph model []) step)
+    (led_to graph from earlier)
 
 -- a model reaches a model: some steps lead from the one to the other; each reaches itself
 abbrev pub Reaches : List (List ℕ) → ℕ → ℕ → Type 0
-Reaches graph from to = (steps : List ℕ) × (end_of graph from steps ≡ Some to)
+Reaches graph from to = (steps : List ℕ) × (led_to graph from steps ≡ Some to)

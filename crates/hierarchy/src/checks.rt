@@ -92,8 +92,8 @@ fn first_unknown(names: &IndexSet<Name>, lines: &[ItemAt]) -> Result<(), NetFaul
     Ok(())
 }
 
-/// Refuses the first line of a reachable model that uses an unknown model. `lines` has the items of just these models, and
-/// `names` the names of all.
+/// Refuses the first line of a reachable model that uses an unknown model. `lines` has the items of
+/// just these models, and `names` the names of all.
 pub(crate) fn refuse_unknown_models(
     models: &[blif_syntax::Model],
     names: &IndexSet<Name>,

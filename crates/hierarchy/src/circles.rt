@@ -12,7 +12,7 @@ ghost use Rattle.hierarchy.specs.private.Ranks.{AreRanks};
 use crate::checks::ItemAt;
 use crate::fault::NetFault;
 use crate::ranks::{is_above, ranks};
-use crate::reach::reached;
+use crate::reach::reached_marks;
 use crate::uses::use_of;
 use blif_syntax::Model;
 use indexmap::IndexSet;
@@ -26,8 +26,8 @@ fn is_marked(marks: &[bool], number: usize) -> bool
     marks.get(number).copied().unwrap_or(false)
 }
 
-/// Refuses a line that uses a model from which its own model is reached. There is a search only where the ranks do not tell that
-/// it is not.
+/// Refuses a line that uses a model from which its own model is reached. There is a search only
+/// where the ranks do not show that it is not.
 fn refuse_circle(
     alloc: Global,
     models: &[Model],
@@ -53,7 +53,7 @@ fn refuse_circle(
     if is_above(graph, ranks, number, at.number) {
         return Ok(());
     }
-    let marks = reached(alloc, graph, number)?;
+    let marks = reached_marks(alloc, graph, number)?;
     if !is_marked(marks.as_slice(), at.number) {
         return Ok(());
     }
@@ -64,8 +64,8 @@ fn refuse_circle(
     })
 }
 
-/// Refuses the first of the lines that use a model from which their own model is reached. The first line whose models have the
-/// same rank is that line, so that there is one search.
+/// Refuses the first of the lines that use a model from which their own model is reached. The first
+/// line whose models have the same rank is that line, so that there is one search.
 fn first_recursive(
     alloc: Global,
     models: &[Model],
@@ -89,9 +89,10 @@ fn first_recursive(
     Ok(())
 }
 
-/// Refuses the first line of a reachable model that uses a model from which its own model is reached. `lines` has the items
-/// of just the reachable models, `names` the names of all, and `graph` the numbers of those that each uses. Where no more
-/// than 64 steps lead on from the top (`deep` says whether they do) no line is searched for.
+/// Refuses the first line of a reachable model that uses a model from which its own model is
+/// reached. `lines` has the items of just the reachable models, `names` the names of all, and
+/// `graph` the numbers of those that each uses. Where no more than 64 steps lead on from the top
+/// (`deep` says whether they do) no line is searched for.
 pub(crate) fn refuse_recursive(
     alloc: Global,
     models: &[Model],

@@ -1,5 +1,6 @@
-//! The strongly connected components of the uses of models, by a search that keeps to one path and joins what lies on a circle
-//! (Gabow, 2000); begin with `components`. What it finds is checked before it is used, so no clause says that it is right.
+//! The strongly connected components of the uses of models, by a search that keeps to one path and
+//! joins what lies on a circle (Gabow, 2000); begin with `components`. What it finds is checked
+//! before it is used, so no clause says that it is right.
 
 ghost use Rattle.std.specs.Prelude.{◌≡◌, IfOk, length};
 
@@ -17,14 +18,16 @@ enum State {
     Done,
 }
 
-/// A use that is still to be followed: the place on the path of the model that uses, and the model that is used.
+/// A use that is still to be followed: the place on the path of the model that uses, and the model
+/// that is used.
 #[derive(Clone, Copy, PartialEq, Eq)]
 struct Pending {
     place: usize,
     used: usize,
 }
 
-/// A search. The components on the path are cut off by the places where they start; each uses one of the next.
+/// A search. The components on the path are cut off by the places where they start; each uses one
+/// of the next.
 #[derive(Drop)]
 struct Search {
     states: Vec<State>,
@@ -100,7 +103,8 @@ impl Search {
         self.complete = self.complete.saturating_add(1);
     }
 
-    /// A use that is still to be followed of a model of the last component, which starts at a place.
+    /// A use that is still to be followed of a model of the last component, which starts at a
+    /// place.
     fn next_use(&mut self, start: usize) -> Option<usize>
         ensures { length self.new.ranks.items ≡ length self.old.ranks.items }
     {
@@ -131,7 +135,8 @@ impl Search {
     }
 }
 
-/// By model: the number of its component, in the order in which they are complete, so that a component uses earlier ones alone.
+/// By model: the number of its component, in the order in which they are complete, so that a
+/// component uses earlier ones alone.
 /// `graph` has for each model the numbers of those that it uses.
 pub fn components(alloc: Global, graph: &[Items<usize>]) -> Result<Vec<usize>, AllocError>
     ensures { IfOk result (λ ranks. length ranks.items ≡ length graph.now) }

@@ -1,10 +1,11 @@
-//! How many nets a hierarchy has and how large it is, before any instance is made; begin with `refuse_too_many_nodes`.
+//! How many nets a hierarchy has and how large it is, before any instance is made; begin with
+//! `refuse_too_many_nodes`.
 
 ghost use Rattle.std.specs.Prelude.{◌≡◌, ◌⊎◌, ◌<◌, ◌≤◌, ◌↔◌, ◌+◌, [], ℕ, All, IfErr, IfOk, IsTrue, OnOk, length, min, slice_index_or};
 ghost use Rattle.hierarchy.specs.Faults.{HasBadFormal, HasTooManyNodes, HasUnknownModel, IsFree};
 ghost use Rattle.hierarchy.specs.Instances.{model_names};
 ghost use Rattle.hierarchy.specs.Reach.{uses};
-ghost use Rattle.hierarchy.specs.private.Counts.{measured, sum_of, weight_below};
+ghost use Rattle.hierarchy.specs.private.Counts.{measure_of, sum_of, weight_below};
 
 use crate::fault::NetFault;
 use crate::weights::{Measure, add_capped, model_weights, uses_weights};
@@ -16,13 +17,14 @@ use ste_base::{Items, Name};
 /// The most levels that an instance may lie below the top.
 const MOST_LEVELS: u32 = 64;
 
-/// One net more than there may be.
+/// One more net than there may be.
 const TOO_MANY_NETS: usize = 200_001;
 
 /// One more than the size may be.
 const TOO_LARGE: usize = 4_000_001;
 
-/// A number and what the models count, each as often as it stands there, or the cap where that is less.
+/// A number and what the models count, each as often as it stands there, or the cap where that is
+/// less.
 fn with_counts(own: usize, counts: &[usize], models: &[usize], cap: usize) -> usize
     requires { All (λ k. k < length counts.now) models.now }
     ensures { result ≡ min cap (own + sum_of (λ k. slice_index_or counts.now k 0) models.now) }
@@ -34,7 +36,8 @@ fn with_counts(own: usize, counts: &[usize], models: &[usize], cap: usize) -> us
     total
 }
 
-/// The counts of models with one level more: what a model's uses weigh, and what the models count that it uses.
+/// The counts of models with one more level: what a model's uses weigh, and what the models count
+/// that it uses.
 fn one_level_more(
     alloc: Global,
     graph: &[Items<usize>],
@@ -58,7 +61,8 @@ fn one_level_more(
     Ok(next)
 }
 
-/// What all instances below the top weigh, or the cap where that is less. `own` has what the uses of each model weigh.
+/// What all instances below the top weigh, or the cap where that is less. `own` has what the uses
+/// of each model weigh.
 fn count_below(
     alloc: Global,
     graph: &[Items<usize>],
@@ -77,9 +81,9 @@ fn count_below(
     Ok(counts[0])
 }
 
-/// Whether there are at least as many nets, or the size is at least as large, as the cap says. Each use of a reachable model
-/// names a model, and binds formals of it, each once; `names` has the names of all models, and `graph` the numbers of those that
-/// each uses.
+/// Whether there are at least as many nets, or the size is at least as large, as the cap says. Each
+/// use of a reachable model names a model, and binds formals of it, each once; `names` has the
+/// names of all models, and `graph` the numbers of those that each uses.
 fn reaches_cap(
     alloc: Global,
     measure: Measure,
@@ -93,7 +97,7 @@ fn reaches_cap(
     requires graph { graph.now ≡ uses models.now }
     requires known { IsFree (HasUnknownModel models.now) }
     requires bound { IsFree (HasBadFormal models.now) }
-    ensures { IfOk result (λ reached. IsTrue reached ↔ (cap ≤ measured measure models.now)) }
+    ensures { IfOk result (λ reached. IsTrue reached ↔ (cap ≤ measure_of measure models.now)) }
 {
     let weights = model_weights(alloc, measure, cap, models)?;
     let own = uses_weights(alloc, measure, cap, weights.as_slice(), names, models)?;
@@ -101,9 +105,9 @@ fn reaches_cap(
     Ok(add_capped(weights[0], below, cap) == cap)
 }
 
-/// Refuses a hierarchy with more than 200,000 nets, or with a size above 4,000,000. Each use of a reachable model names a
-/// model, and binds formals of it, each once; `names` has the names of all models, and `graph` the numbers of those that each
-/// uses.
+/// Refuses a hierarchy with more than 200,000 nets, or with a size above 4,000,000. Each use of a
+/// reachable model names a model, and binds formals of it, each once; `names` has the names of all
+/// models, and `graph` the numbers of those that each uses.
 pub(crate) fn refuse_too_many_nodes(
     alloc: Global,
     models: &[Model],

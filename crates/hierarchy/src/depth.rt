@@ -11,7 +11,7 @@ use blif_syntax::Model;
 use std::alloc::{AllocError, Global};
 use ste_base::Items;
 
-/// One step more than an instance may lie below the top.
+/// One more step than an instance may lie below the top.
 const MOST_STEPS: u32 = 65;
 
 /// Whether one of these models is marked.
@@ -47,8 +47,8 @@ fn use_marked(
     Ok(next)
 }
 
-/// Whether more than 64 steps lead on from the top, which is number 0. `graph` has for each model the numbers of those that
-/// it uses.
+/// Whether more than 64 steps lead on from the top, which is number 0. `graph` has for each model
+/// the numbers of those that it uses.
 pub(crate) fn is_deep(alloc: Global, graph: &[Items<usize>]) -> Result<bool, AllocError>
     requires in_range { All (λ used. All (λ k. k < length graph.now) used) graph.now }
     requires some { 0 < length graph.now }
@@ -61,8 +61,8 @@ pub(crate) fn is_deep(alloc: Global, graph: &[Items<usize>]) -> Result<bool, All
     Ok(marks[0])
 }
 
-/// Refuses a hierarchy with an instance more than 64 levels below the top. `deep` says whether more than 64 steps of uses lead
-/// on from the top; each use of a reachable model names a model.
+/// Refuses a hierarchy with an instance more than 64 levels below the top. `deep` says whether more
+/// than 64 steps of uses lead on from the top; each use of a reachable model names a model.
 pub(crate) fn refuse_too_deep(models: &[Model], deep: bool) -> Result<(), NetFault>
     requires some { 0 < length models.now }
     requires known { IsFree (HasUnknownModel models.now) }

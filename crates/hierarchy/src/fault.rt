@@ -7,9 +7,10 @@ use std::alloc::{AllocError, AllocFailed};
 use ste_base::Name;
 use thiserror::Error;
 
-/// Why a netlist has no flat net, in the order in which the kinds are chosen. `line` is the number of the faulty line. It is
-/// the first of its kind: of the file among all models for a double model, of the file among the models that the top reaches
-/// for the other kinds of lines, and by instance in preorder and then by line for the last two kinds.
+/// Why a netlist has no flat net, in the order in which the kinds are chosen. `line` is the number
+/// of the faulty line. It is the first of its kind: of the file among all models for a double
+/// model, of the file among the models that the top reaches for the other kinds of lines, and by
+/// instance in preorder and then by line for the last two kinds.
 #[derive(Debug, Drop, Error)]
 pub enum NetFault {
     /// An earlier model has the model's name.
@@ -33,18 +34,19 @@ pub enum NetFault {
     /// Some instance lies more than 64 levels below the top.
     #[error("hierarchy too deep")]
     TooDeep,
-    /// There are more than 200,000 nets, or the size is above 4,000,000: over all instances one, and one for each word that
-    /// names a signal.
+    /// There are more than 200,000 nets, or the size is above 4,000,000: over all instances one,
+    /// and one for each word that names a signal.
     #[error("too many nodes")]
     TooManyNodes,
-    /// A gate or latch drives a net that is an input or has an earlier driver; `name` is the net's own name.
+    /// A gate or latch drives a net that is an input or has an earlier driver; `name` is the net's
+    /// own name.
     #[error("driven twice")]
     DrivenTwice { line: u32, name: Name },
-    /// A latch has another type, or another control net, than the first latch that has one; `name` is the own name of its
-    /// output's net.
+    /// A latch has another type, or another control net, than the first latch that has one; `name`
+    /// is the own name of its output's net.
     #[error("mixed clocks")]
     MixedClocks { line: u32, name: Name },
-    /// Memory is wanting.
+    /// Out of memory.
     #[error("out of memory")]
     OutOfMemory,
 }

@@ -57,7 +57,8 @@ pub(crate) fn number_of(names: &IndexSet<Name>, used: &UseLine) -> Option<usize>
     names.get_index_of(used.model)
 }
 
-/// Refuses a use that binds a name that is no formal of the model that it names, or binds a formal twice.
+/// Refuses a use that binds a name that is no formal of the model that it names, or binds a formal
+/// twice.
 fn refuse_bad_formal_of(
     alloc: Global,
     models: &[Model],
@@ -103,8 +104,9 @@ fn first_bad_formal(
     Ok(())
 }
 
-/// Refuses the first line of a reachable model that binds a name that is no formal of the model that it uses, or binds a
-/// formal twice. `lines` has the items of just the reachable models, and `names` the names of all.
+/// Refuses the first line of a reachable model that binds a name that is no formal of the model
+/// that it uses, or binds a formal twice. `lines` has the items of just the reachable models, and
+/// `names` the names of all.
 pub(crate) fn refuse_bad_formals(
     alloc: Global,
     models: &[Model],

@@ -76,8 +76,8 @@ fn first_wide_gate(alloc: Global, lines: &[ItemAt]) -> Result<(), NetFault>
     Ok(())
 }
 
-/// Refuses the first line of a reachable model that is a gate with more than 1,000 inputs or more than 65,536 cases. `lines`
-/// has the items of just the reachable models.
+/// Refuses the first line of a reachable model that is a gate with more than 1,000 inputs or more
+/// than 65,536 cases. `lines` has the items of just the reachable models.
 pub(crate) fn refuse_wide_gates(
     alloc: Global,
     models: &[Model],

@@ -1,5 +1,5 @@
-//! Hierarchies: what the lines of models say of their signals, the instances of models, and what a hierarchy is refused for
-//! before any instance is built. Begin with `refuse`.
+//! Hierarchies: what the lines of models say of their signals, the instances of models, and what a
+//! hierarchy is refused for before any instance is built. Begin with `refuse`.
 #![tactic(auto)]
 
 mod checks;

@@ -22,7 +22,11 @@ impl<'a> Model for GateLine<'a> {
 
     ghost Value = { GateLine };
 
-    ghost view = { λ line. record { inputs = line.inputs.now; output = line.output.now; cover = line.cover.now } };
+    ghost view = { λ line. record {
+      inputs = line.inputs.now;
+      output = line.output.now;
+      cover = line.cover.now;
+    } };
 }
 
 /// A latch, as a line gives it.
@@ -40,7 +44,13 @@ impl<'a> Model for LatchLine<'a> {
 
     ghost Value = { LatchLine };
 
-    ghost view = { λ line. record { input = line.input.now; output = line.output.now; kind = line.kind; control = line.control.now; init = line.init } };
+    ghost view = { λ line. record {
+      input = line.input.now;
+      output = line.output.now;
+      kind = line.kind;
+      control = line.control.now;
+      init = line.init;
+    } };
 }
 
 /// The gate of a line, where it is one.

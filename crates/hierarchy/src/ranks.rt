@@ -1,4 +1,5 @@
-//! Numbers of models that never rise along a use, and what they tell of what a model reaches; begin with `ranks`.
+//! Numbers of models that never rise along a use, and what they show of what a model reaches; begin
+//! with `ranks`.
 
 ghost use Rattle.std.specs.Prelude.{◌≡◌, ◌≤◌, All, IfOk, IsTrue, slice_index_or};
 ghost use Rattle.hierarchy.specs.Reach.{Reaches};
@@ -39,8 +40,9 @@ fn never_rise(graph: &[Items<usize>], ranks: &[usize]) -> bool
     true
 }
 
-/// A rank for each model: that of a model is at least that of each that it uses. They are the numbers of components, so that two
-/// models have the same rank just where each reaches the other; that is not said by a clause, and no answer depends on it.
+/// A rank for each model: that of a model is at least that of each that it uses. They are the
+/// numbers of components, so that two models have the same rank just where each reaches the other;
+/// that is not said by a clause, and no answer depends on it.
 /// `graph` has for each model the numbers of those that it uses.
 pub(crate) fn ranks(alloc: Global, graph: &[Items<usize>]) -> Result<Vec<usize>, AllocError>
     ensures { IfOk result (λ ranks. AreRanks graph.now ranks.items) }
@@ -53,7 +55,7 @@ pub(crate) fn ranks(alloc: Global, graph: &[Items<usize>]) -> Result<Vec<usize>,
     }
 }
 
-/// Whether ranks alone tell that a model does not reach another.
+/// Whether ranks alone show that a model does not reach another.
 pub(crate) fn is_above(graph: &[Items<usize>], ranks: &[usize], from: usize, to: usize) -> bool
     requires { AreRanks graph.now ranks.now }
     ensures { IsTrue result → Reaches graph.now from to → ⊥ }

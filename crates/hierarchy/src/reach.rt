@@ -1,4 +1,4 @@
-//! Which models a model reaches; begin with `reached`.
+//! Which models a model reaches; begin with `reached_marks`.
 
 ghost use Rattle.std.specs.Prelude.{◌≡◌, ◌<◌, ◌↔◌, [], ℕ, OnOk, IfOk, All, length, slice_index_or, true, false};
 ghost use Rattle.hierarchy.specs.Reach.{Reaches};
@@ -30,8 +30,9 @@ fn used_at(graph: &[Items<usize>], model: usize) -> &[usize]
     graph[model].as_slice()
 }
 
-/// By model: whether the start reaches it. `graph` has for each model the numbers of those that it uses.
-pub(crate) fn reached(
+/// By model: whether the start reaches it. `graph` has for each model the numbers of those that it
+/// uses.
+pub(crate) fn reached_marks(
     alloc: Global,
     graph: &[Items<usize>],
     start: usize,

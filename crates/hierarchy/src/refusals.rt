@@ -16,7 +16,7 @@ use crate::depth::{is_deep, refuse_too_deep};
 use crate::fault::NetFault;
 use crate::formals::refuse_bad_formals;
 use crate::gates::refuse_wide_gates;
-use crate::reach::reached;
+use crate::reach::reached_marks;
 use crate::unbound::refuse_missing_formals;
 use crate::uses::{names_of, uses};
 use blif_syntax::{Model, Models};
@@ -24,7 +24,8 @@ use indexmap::IndexSet;
 use std::alloc::{AllocError, Global};
 use ste_base::{Items, Name};
 
-/// The items of the models that the top reaches, by line. `graph` has for each model the numbers of those that it uses.
+/// The items of the models that the top reaches, by line. `graph` has for each model the numbers of
+/// those that it uses.
 fn reachable_items<'a>(
     alloc: Global,
     models: &'a [Model],
@@ -34,12 +35,13 @@ fn reachable_items<'a>(
     requires graph { graph.now ≡ uses models.now }
     ensures { IfOk result (λ lines. AreReachable models.now lines.items) }
 {
-    let marks = reached(alloc, graph, 0)?;
+    let marks = reached_marks(alloc, graph, 0)?;
     marked_items(alloc, models, marks.as_slice())
 }
 
-/// Refuses a hierarchy that is too deep, or one that is not but has too many nodes. `names` has the names of all models, `graph`
-/// the numbers of those that each uses, and `deep` says whether more than 64 steps of uses lead on from the top.
+/// Refuses a hierarchy that is too deep, or one that is not but has too many nodes. `names` has the
+/// names of all models, `graph` the numbers of those that each uses, and `deep` says whether more
+/// than 64 steps of uses lead on from the top.
 fn refuse_from_too_deep(
     alloc: Global,
     models: &[Model],
@@ -61,8 +63,8 @@ fn refuse_from_too_deep(
     refuse_too_many_nodes(alloc, models, names, graph)
 }
 
-/// Refuses the first gate that is too wide, or where there is none what `refuse_from_too_deep` does. `lines` has the items of just
-/// the reachable models.
+/// Refuses the first gate that is too wide, or where there is none what `refuse_from_too_deep`
+/// does. `lines` has the items of just the reachable models.
 fn refuse_from_gate_too_wide(
     alloc: Global,
     models: &[Model],
@@ -87,8 +89,8 @@ fn refuse_from_gate_too_wide(
     refuse_from_too_deep(alloc, models, names, graph, deep)
 }
 
-/// Refuses the first use that leaves a formal unbound, or where there is none what `refuse_from_gate_too_wide` does. `names` has the
-/// names of all models.
+/// Refuses the first use that leaves a formal unbound, or where there is none what
+/// `refuse_from_gate_too_wide` does. `names` has the names of all models.
 fn refuse_from_missing_formal(
     alloc: Global,
     models: &[Model],
@@ -113,7 +115,8 @@ fn refuse_from_missing_formal(
     refuse_from_gate_too_wide(alloc, models, names, graph, lines, deep)
 }
 
-/// Refuses the first use with a bad formal, or where there is none what `refuse_from_missing_formal` does.
+/// Refuses the first use with a bad formal, or where there is none what
+/// `refuse_from_missing_formal` does.
 fn refuse_from_bad_formal(
     alloc: Global,
     models: &[Model],
@@ -137,8 +140,8 @@ fn refuse_from_bad_formal(
     refuse_from_missing_formal(alloc, models, names, graph, lines, deep)
 }
 
-/// Refuses the first recursive use, or where there is none what `refuse_from_bad_formal` does. `graph` has for each model the
-/// numbers of those that it uses.
+/// Refuses the first recursive use, or where there is none what `refuse_from_bad_formal` does.
+/// `graph` has for each model the numbers of those that it uses.
 fn refuse_from_recursive(
     alloc: Global,
     models: &[Model],
@@ -161,7 +164,8 @@ fn refuse_from_recursive(
     refuse_from_bad_formal(alloc, models, names, graph, lines, deep)
 }
 
-/// Refuses the first use of an unknown model, or where there is none what `refuse_from_recursive` does.
+/// Refuses the first use of an unknown model, or where there is none what `refuse_from_recursive`
+/// does.
 fn refuse_from_unknown_model(
     alloc: Global,
     models: &[Model],
@@ -180,10 +184,11 @@ fn refuse_from_unknown_model(
     refuse_from_recursive(alloc, models, names, graph.as_slice(), lines.as_slice())
 }
 
-/// Refuses a hierarchy for the first fault there is of the kinds that can be told before any instance is made: a double model,
-/// then an unknown model, a recursive one, a bad formal, a missing formal, a gate that is too wide, a hierarchy that is too deep,
-/// and one with too many nodes. The error is that fault, or want of memory. Each cover has to be sound, with as many inputs as its
-/// line names.
+/// Refuses a hierarchy for the first fault there is of the kinds that can be found before any
+/// instance is made: a double model, then an unknown model, a recursive one, a bad formal, a
+/// missing formal, a gate that is too wide, a hierarchy that is too deep, and one with too many
+/// nodes. The error is that fault, or out of memory. Each cover has to be sound, with as many
+/// inputs as its line names.
 pub fn refuse(alloc: Global, models: &Models) -> Result<(), NetFault>
     requires { AreCovered models.now.models }
     ensures ok { OnOk result (IsFree (HasFaultBeforeInstances models.now.models)) }

@@ -123,8 +123,9 @@ fn first_missing_formal(
     Ok(())
 }
 
-/// Refuses the first line of a reachable model that leaves a formal of the model that it uses unbound, where that has to be
-/// bound. `lines` has the items of just the reachable models, and `names` the names of all.
+/// Refuses the first line of a reachable model that leaves a formal of the model that it uses
+/// unbound, where that has to be bound. `lines` has the items of just the reachable models, and
+/// `names` the names of all.
 pub(crate) fn refuse_missing_formals(
     alloc: Global,
     models: &[Model],

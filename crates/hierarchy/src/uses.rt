@@ -27,7 +27,11 @@ impl<'a> Model for UseLine<'a> {
 
     ghost Value = { UseLine };
 
-    ghost view = { λ used. record { line = used.line; model = used.model.now; bindings = used.bindings.now } };
+    ghost view = { λ used. record {
+      line = used.line;
+      model = used.model.now;
+      bindings = used.bindings.now;
+    } };
 }
 
 /// The use of an item, where it is one.
@@ -72,7 +76,8 @@ fn used_by(
     model: &blif_syntax::Model,
 ) -> Result<Items<usize>, AllocError>
     ensures { IfOk result (λ numbers. numbers
-        ≡ filter_map (λ used. position (bytes_eq used.model) names.now.keys) (use_lines model.now)) }
+        ≡ filter_map (λ used. position (bytes_eq used.model) names.now.keys)
+        (use_lines model.now)) }
 {
     let mut numbers = Items::new(alloc);
     for item in model.items.as_slice() {

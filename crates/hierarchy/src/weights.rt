@@ -2,7 +2,7 @@
 
 ghost use Rattle.std.specs.Prelude.{◌≡◌, ◌≤◌, ◌^◌, ◌+◌, ◌-◌, IfOk, length, map, min, slice_index_or};
 ghost use Rattle.hierarchy.specs.Lines.{signal_words, signals};
-ghost use Rattle.hierarchy.specs.Sizes.{all_words};
+ghost use Rattle.hierarchy.specs.Sizes.{words_of_signals};
 ghost use Rattle.hierarchy.specs.private.Counts.{kept_weight, use_weight, uses_weight, weight_at};
 
 use crate::signals::signals;
@@ -127,7 +127,8 @@ fn uses_weight(
     total
 }
 
-/// What the uses of each model weigh together, or the cap where that is less. `weights` has what each model weighs by itself.
+/// What the uses of each model weigh together, or the cap where that is less. `weights` has what
+/// each model weighs by itself.
 pub(crate) fn uses_weights(
     alloc: Global,
     measure: Measure,
@@ -138,7 +139,8 @@ pub(crate) fn uses_weights(
 ) -> Result<Vec<usize>, AllocError>
     requires { length weights.now ≡ length names.now.keys }
     ensures { IfOk result (λ own. own.items
-        ≡ map (λ model. min cap (uses_weight measure weights.now names.now.keys model)) models.now) }
+        ≡ map (λ model. min cap (uses_weight measure weights.now names.now.keys model))
+        models.now) }
 {
     let mut own = Vec::with_capacity(alloc, models.len())?;
     for model in models {

@@ -1,5 +1,5 @@
-//! Tests of what hierarchies are refused for, over texts of netlists. Nothing else is here, so that `hierarchy` itself is
-//! proved once.
+//! Tests of what hierarchies are refused for, over texts of netlists. Nothing else is here, so that
+//! `hierarchy` itself is proved once.
 #![tactic(auto)]
 
 #[cfg(test)]

@@ -10,7 +10,8 @@ use std::alloc::{AllocError, Global};
 use std::test::Fail;
 use ste_base::{Items, Name};
 
-/// Netlists, and what each is refused for: nothing, or the kind with the number of the line and the name.
+/// Netlists, and what each is refused for: nothing, or the kind with the number of the line and the
+/// name.
 const TABLE: &[(&[u8], &[u8])] = &[
     // One model, and a sound hierarchy.
     (b".model m\n", b"nothing"),
@@ -38,7 +39,8 @@ const TABLE: &[(&[u8], &[u8])] = &[
         b".model m\n.subckt m\n.subckt n\n.end\n.model n\n.subckt x\n",
         b"unknown model 6 x",
     ),
-    // A recursive model: the first line whose model leads back, not a line that leads into a circle.
+    // A recursive model: the first line whose model leads back, not a line that leads into a
+    // circle.
     (b".model m\n.subckt m\n", b"recursive model 2 m"),
     (
         b".model m\n.subckt n\n.end\n.model n\n.subckt k\n.subckt n\n.end\n.model k\n",
@@ -57,7 +59,8 @@ const TABLE: &[(&[u8], &[u8])] = &[
         b".model m\n.subckt n z=z\n.end\n.model n\n.subckt n\n",
         b"recursive model 5 n",
     ),
-    // A bad formal: none of the model's, or bound twice; those of `.clock` and `.outputs` lines are formals too.
+    // A bad formal: none of the model's, or bound twice; those of `.clock` and `.outputs` lines are
+    // formals too.
     (
         b".model m\n.subckt n a=x z=y\n.end\n.model n\n.inputs a\n.names z\n",
         b"bad formal 2 z",
@@ -82,7 +85,8 @@ const TABLE: &[(&[u8], &[u8])] = &[
         b".model m\n.subckt k\n.subckt n\n.end\n.model n\n.subckt k q=x\n.end\n.model k\n.inputs a\n",
         b"bad formal 6 q",
     ),
-    // A missing formal: a word of `.inputs` alone has to be bound; the first such; after every bad formal.
+    // A missing formal: a word of `.inputs` alone has to be bound; the first such; after every bad
+    // formal.
     (
         b".model m\n.subckt n b=x\n.end\n.model n\n.inputs a\n.inputs b c\n.outputs d\n.clock e\n",
         b"missing formal 2 a",
@@ -159,8 +163,9 @@ fn refusals(rt: HostRuntime) -> Result<(), Fail> {
     Ok(())
 }
 
-/// A netlist of one model with one gate: it has so many inputs, and then pairs of inputs. There is a row for each pair, which
-/// asks that the inputs and the pair are 1; where there is no pair there is no row.
+/// A netlist of one model with one gate: it has so many inputs, and then pairs of inputs. There is
+/// a row for each pair, which asks that the inputs and the pair are 1; where there is no pair there
+/// is no row.
 fn gate_text(alloc: Global, singles: u32, pairs: u32) -> Result<Vec<u8>, AllocError> {
     let mut out = b".model m\n.names".to_vec(alloc)?;
     for _ in 0..singles {
@@ -211,7 +216,8 @@ fn repeat(out: &mut Vec<u8>, text: &[u8], times: u32) -> Result<(), AllocError> 
     Ok(())
 }
 
-/// A netlist with a chain of so many models behind its head: each uses the next so many times. The last has these lines.
+/// A netlist with a chain of so many models behind its head: each uses the next so many times. The
+/// last has these lines.
 fn chain_text(
     alloc: Global,
     head: &[u8],
@@ -230,8 +236,8 @@ fn chain_text(
     Ok(out)
 }
 
-/// Heads, how many models there are and how often each uses the next, the last, and what each text is refused for; the n-th
-/// of the models is m(n - 1).
+/// Heads, how many models there are and how often each uses the next, the last, and what each text
+/// is refused for; the n-th of the models is m(n - 1).
 const CHAINS: &[(&[u8], u32, u32, &[u8], &[u8])] = &[
     (b"", 65, 1, b".model m64\n", b"nothing"),
     (
@@ -355,7 +361,8 @@ fn most_nets(rt: HostRuntime) -> Result<(), Fail> {
     Ok(())
 }
 
-/// A netlist whose first model has so many words that are signals, and then so many uses of one with so many such words.
+/// A netlist whose first model has so many words that are signals, and then so many uses of one
+/// with so many such words.
 fn size_text(alloc: Global, top: u32, uses: u32, words: u32) -> Result<Vec<u8>, AllocError> {
     let mut out = b".model m\n.outputs".to_vec(alloc)?;
     repeat(&mut out, b" a", top)?;

@@ -23,8 +23,8 @@ pub place_or_len : {X : Type 0} (p : X → Bool) (xs : List X) → unwrap_or (po
 place_or_len p xs = or_len (position_or_len p xs) (length xs) (prefix_len-le-length (λ x. not (p x)) xs)
 
 -- nothing is bound by no bindings
-pub none_bound : (number : List ℕ → ℕ) (bindings : List (List ℕ × List ℕ)) (names : List (List ℕ)) → map (λ name. None) names ≡ map (bound_number number (drop (length bindings) bindings)) names
-none_bound number bindings names = ap (λ bs. map (bound_number number bs) names) (sym (drop_all (length bindings) bindings (omega arith)))
+pub empty_bounds : (number : List ℕ → ℕ) (bindings : List (List ℕ × List ℕ)) (names : List (List ℕ)) → map (λ name. None) names ≡ map (bound_number number (drop (length bindings) bindings)) names
+empty_bounds number bindings names = ap (λ bs. map (bound_number number bs) names) (sym (drop_all (length bindings) bindings (omega arith)))
 
 both : {A : Type 0} {x y : A} {xs ys : List A} → x ≡ y → xs ≡ ys → x ∷ xs ≡ y ∷ ys
 both {A} {x} {y} {xs} {ys} e f = ap (λ z. z ∷ xs) e ∙ ap (λ l. y ∷ l) f

@@ -4,7 +4,7 @@ use Rattle.std.specs.Prelude.{◌⊎◌, flat_map, option_and_then, slice_index_
 use Rattle.std.specs.List.{enumerate_from}
 use Rattle.std.proofs.lemmas.List.{length_push, take_more, length-take-le}
 use Rattle.std.proofs.lemmas.Grind.{flat_map-append}
-use Rattle.hierarchy.specs.Reach.{end_of}
+use Rattle.hierarchy.specs.Reach.{led_to}
 use Rattle.instances.specs.declared.table.Row.{Row}
 use Rattle.instances.specs.Table.{IsTable, Fits, instances_on}
 
@@ -68,7 +68,7 @@ at_first [] rest path = (omega arith, refl)
 at_first (p ∷ paths) rest path = let r = at_first paths rest path in (omega arith, r.1)
 
 -- the row of the n-th use below the instance that stands after `paths`
-pub inner_fits : (graph : List (List ℕ)) (paths rest : List (List ℕ)) (path : List ℕ) (model here n next : ℕ) → end_of graph 0 path ≡ Some model → here ≡ length paths → slice_get (slice_index_or graph model []) n ≡ Some next → Fits graph (paths ++ path ∷ rest) (record { above = Some here; number = n; model = next }) (n ∷ path)
+pub inner_fits : (graph : List (List ℕ)) (paths rest : List (List ℕ)) (path : List ℕ) (model here n next : ℕ) → led_to graph 0 path ≡ Some model → here ≡ length paths → slice_get (slice_index_or graph model []) n ≡ Some next → Fits graph (paths ++ path ∷ rest) (record { above = Some here; number = n; model = next }) (n ∷ path)
 inner_fits graph paths rest path model here n next e h at =
     let f = at_first paths rest path in
     record {

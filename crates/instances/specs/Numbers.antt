@@ -25,10 +25,12 @@ numbers_from next (Some number ∷ bounds) = number ∷ numbers_from next bounds
 
 -- the numbers of the nets of an instance's signals, by first mention
 abbrev pub numbers_in : List Model → List ℕ → List ℕ
-numbers_in models path = map (λ signal. number_at models path signal) (had_by signals (model_at models path))
+numbers_in models path =
+    map (λ signal. number_at models path signal) (had_by signals (model_at models path))
 
 -- the row stands for the instance of that path, behind rows for these paths
-pub record FitsModels (models : List Model) (paths : List (List ℕ)) (row : Row) (path : List ℕ) : Type 0 where
+pub record FitsModels (models : List Model) (paths : List (List ℕ)) (row : Row) (path : List ℕ) :
+    Type 0 where
   pub model : model_at models path ≡ slice_get models row.model
   pub has : row.model < length models
   pub link : IsBelow paths row.above row.number path
@@ -37,10 +39,12 @@ pub record FitsModels (models : List Model) (paths : List (List ℕ)) (row : Row
 pub record AreRows (models : List Model) (rows : List Row) : Type 0 where
   pub long : length rows ≡ length (instances models)
   pub fits : (k : ℕ) (row : Row) (path : List ℕ) → slice_get rows k ≡ Some row →
-      slice_get (instances models) k ≡ Some path → FitsModels models (take k (instances models)) row path
+      slice_get (instances models) k ≡ Some path →
+      FitsModels models (take k (instances models)) row path
 
 -- what is known of each model: its uses and its signals
-pub record AreKnown (models : List Model) (uses : List (List UseLine)) (names : List (List (List ℕ))) : Type 0 where
+pub record AreKnown (models : List Model) (uses : List (List UseLine))
+    (names : List (List (List ℕ))) : Type 0 where
   pub uses_known : uses ≡ map use_lines models
   pub names_known : names ≡ map signals models
 

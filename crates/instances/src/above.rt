@@ -4,7 +4,7 @@ ghost use Rattle.std.specs.Prelude.{◌≡◌, ◌<◌, IfOk, length, map, slice
 ghost use Rattle.hierarchy.specs.Lines.{use_lines};
 ghost use Rattle.instances.specs.private.Above.{above_at, bound_by};
 
-use crate::bounds::{bounds_of, none_bound};
+use crate::bounds::{bounds_of, empty_bounds};
 use crate::table::Row;
 use hierarchy::uses::{UseLine, use_of};
 use indexmap::IndexSet;
@@ -48,7 +48,8 @@ pub fn use_lines<'a>(
     Ok(uses)
 }
 
-/// What stands above a row, where something does. `uses` and `names` are by model, `numbers` by row.
+/// What stands above a row, where something does. `uses` and `names` are by model, `numbers` by
+/// row.
 fn above_at<'a, 'b: 'a>(
     uses: &'a [Items<UseLine<'b>>],
     names: &'a [IndexSet<Name>],
@@ -72,8 +73,8 @@ fn above_at<'a, 'b: 'a>(
     })
 }
 
-/// By signal of the instance in a row: the number of the actual that is bound to it, where one is. `uses` and `names` are
-/// by model, `numbers` has those of the nets of signals for the rows before.
+/// By signal of the instance in a row: the number of the actual that is bound to it, where one is.
+/// `uses` and `names` are by model, `numbers` has those of the nets of signals for the rows before.
 pub(crate) fn row_bounds(
     alloc: Global,
     uses: &[Items<UseLine<'_>>],
@@ -90,7 +91,7 @@ pub(crate) fn row_bounds(
 {
     let own = &names[row.model];
     match above_at(uses, names, rows, numbers, row) {
-        None => none_bound(alloc, own),
+        None => empty_bounds(alloc, own),
         Some(above) => bounds_of(alloc, own, above.bindings, above.names, above.numbers),
     }
 }

@@ -16,7 +16,8 @@ pub fn number_of(names: &IndexSet<Name>, numbers: &[u32], word: &Name) -> u32
     numbers.get(place).copied().unwrap_or(0)
 }
 
-/// Binds a signal to a number, where there is one of that name. `bounds` has an entry for each of the names.
+/// Binds a signal to a number, where there is one of that name. `bounds` has an entry for each of
+/// the names.
 fn bind(bounds: &mut Vec<Option<u32>>, names: &IndexSet<Name>, formal: &Name, number: u32)
     ensures { (f : List ℕ → Option ℕ) → bounds.old.items ≡ map f names.now.keys →
         bounds.new.items
@@ -29,7 +30,7 @@ fn bind(bounds: &mut Vec<Option<u32>>, names: &IndexSet<Name>, formal: &Name, nu
 }
 
 /// An entry for each of the names: nothing is bound.
-pub(crate) fn none_bound(
+pub(crate) fn empty_bounds(
     alloc: Global,
     names: &IndexSet<Name>,
 ) -> Result<Vec<Option<u32>>, AllocError>
@@ -41,8 +42,8 @@ pub(crate) fn none_bound(
         .collect::<Vec<Option<u32>>>(alloc)
 }
 
-/// By signal: the number of the actual that is bound to it, where one is; the first binding of a signal counts. `above`
-/// has the signals of the instance above, and `numbers` those of their nets.
+/// By signal: the number of the actual that is bound to it, where one is; the first binding of a
+/// signal counts. `above` has the signals of the instance above, and `numbers` those of their nets.
 pub(crate) fn bounds_of(
     alloc: Global,
     names: &IndexSet<Name>,
@@ -53,7 +54,7 @@ pub(crate) fn bounds_of(
     ensures { IfOk result (λ bounds. bounds.items
         ≡ map (bound_number (number_of above.now.keys numbers.now) bindings.now) names.now.keys) }
 {
-    let mut bounds = none_bound(alloc, names)?;
+    let mut bounds = empty_bounds(alloc, names)?;
     let mut left = bindings.len();
     while left > 0 {
         left -= 1;

@@ -1,4 +1,5 @@
-//! The instances of a hierarchy in preorder, and in each the numbers of its signals' nets. Begin with `instance_rows`.
+//! The instances of a hierarchy in preorder, and in each the numbers of its signals' nets. Begin
+//! with `instance_rows`.
 #![tactic(auto)]
 
 mod above;

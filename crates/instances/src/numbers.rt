@@ -16,7 +16,8 @@ use indexmap::IndexSet;
 use std::alloc::{AllocError, Global};
 use ste_base::{Items, Name};
 
-/// The numbers of an instance's signals: bound ones have those of their actuals, and the others count on.
+/// The numbers of an instance's signals: bound ones have those of their actuals, and the others
+/// count on.
 fn numbers_of(
     alloc: Global,
     bounds: &[Option<u32>],
@@ -50,16 +51,16 @@ fn all_uses<'a>(alloc: Global, models: &'a [Model]) -> Result<Vec<Items<UseLine<
     Ok(uses)
 }
 
-/// The numbers of nets: for each instance, in preorder, those of the nets of its signals, by first mention; and the nets'
-/// own names, by number.
+/// The numbers of nets: for each instance, in preorder, those of the nets of its signals, by first
+/// mention; and the nets' own names, by number.
 #[derive(Drop)]
 pub struct Numbered {
     pub numbers: Vec<Items<u32>>,
     pub names: Items<Name>,
 }
 
-/// The numbers of the nets of each instance's signals. `names` has the signals of each model, and `rows` the instances. Each
-/// binding of an instance takes two look-ups by name.
+/// The numbers of the nets of each instance's signals. `names` has the signals of each model, and
+/// `rows` the instances. Each binding of an instance takes two look-ups by name.
 pub fn instance_numbers(
     alloc: Global,
     models: &[Model],

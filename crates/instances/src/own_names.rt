@@ -21,8 +21,8 @@ fn add_number(alloc: Global, text: &mut Vec<u8>, number: usize) -> Result<(), Al
     Ok(())
 }
 
-/// Adds the path of the instance in a row: the numbers of its path, the outermost first, each followed by a slash. The
-/// recursion is as deep as the path is long.
+/// Adds the path of the instance in a row: the numbers of its path, the outermost first, each
+/// followed by a slash. The recursion is as deep as the path is long.
 fn add_path(alloc: Global, rows: &[Row], place: usize, text: &mut Vec<u8>) -> Result<(), AllocError>
     requires place { place < length rows.now }
     requires linked { AreLinked rows.now }
@@ -42,7 +42,7 @@ fn add_path(alloc: Global, rows: &[Row], place: usize, text: &mut Vec<u8>) -> Re
 }
 
 /// A name that is a text and a name behind it.
-fn joined(alloc: Global, path: &[u8], signal: &Name) -> Result<Name, AllocError>
+fn path_name(alloc: Global, path: &[u8], signal: &Name) -> Result<Name, AllocError>
     ensures { IfOk result (λ name. name ≡ path.now ++ signal.now) }
 {
     if path.is_empty() {
@@ -66,14 +66,14 @@ fn add_free(
 {
     if let Some(signal) = signal {
         if bound.is_none() {
-            names.push(joined(alloc, path, signal)?)?;
+            names.push(path_name(alloc, path, signal)?)?;
         }
     }
     Ok(())
 }
 
-/// Adds the own names of an instance's nets: the path, and the signal that is not bound. `bounds` has an entry for each
-/// signal.
+/// Adds the own names of an instance's nets: the path, and the signal that is not bound. `bounds`
+/// has an entry for each signal.
 fn add_own(
     alloc: Global,
     names: &mut Items<Name>,
@@ -91,8 +91,9 @@ fn add_own(
     Ok(())
 }
 
-/// Adds the own names of the nets of the instance in a row, which is one of the model of that number. `signals` has those of
-/// each model, and `bounds` has an entry for each signal of this one.
+/// Adds the own names of the nets of the instance in a row, which is one of the model of that
+/// number. `signals` has those of each model, and `bounds` has an entry for each signal of this
+/// one.
 pub(crate) fn add_own_names(
     alloc: Global,
     names: &mut Items<Name>,

@@ -10,7 +10,8 @@ use blif_syntax::Model;
 use std::alloc::{AllocError, Global};
 use ste_base::Items;
 
-/// An instance: the row of the instance above it, none for the top, its number there, and the number of its model.
+/// An instance: the row of the instance above it, none for the top, its number there, and the
+/// number of its model.
 #[derive(Clone, Copy)]
 pub struct Row {
     pub above: Option<usize>,
@@ -55,8 +56,9 @@ fn add_below(
     Ok(())
 }
 
-/// The instances whose paths have fewer numbers than `depth`, in preorder. `graph` has for each model the numbers of those
-/// that it uses; the top is number 0. The recursion is at most `depth` calls deep.
+/// The instances whose paths have fewer numbers than `depth`, in preorder. `graph` has for each
+/// model the numbers of those that it uses; the top is number 0. The recursion is at most `depth`
+/// calls deep.
 fn rows_on(alloc: Global, graph: &[Items<usize>], depth: u32) -> Result<Vec<Row>, AllocError>
     requires in_range { All (λ used. All (λ k. k < length graph.now) used) graph.now }
     requires some { 0 < length graph.now }
@@ -76,8 +78,8 @@ fn rows_on(alloc: Global, graph: &[Items<usize>], depth: u32) -> Result<Vec<Row>
 /// One more than the numbers that an instance's path may have.
 const LEVELS: u32 = 65;
 
-/// The instances of a hierarchy, in preorder. `graph` has for each model the numbers of those that it uses. The recursion is
-/// at most 65 calls deep.
+/// The instances of a hierarchy, in preorder. `graph` has for each model the numbers of those that
+/// it uses. The recursion is at most 65 calls deep.
 pub fn instance_rows(
     alloc: Global,
     models: &[Model],

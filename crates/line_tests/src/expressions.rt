@@ -134,7 +134,8 @@ const FRONTS: &[&[u8]] = &[
     b"(^ (& !(| v0 v1) v4) 1)",
 ];
 
-/// Texts in three parts, the first and the last of which stand so often, and how what is read begins.
+/// Texts in three parts, the first and the last of which stand so often, and how what is read
+/// begins.
 const DEEP: &[(&[u8], usize, &[u8], &[u8], usize, &[u8])] = &[
     (b"!", 100, b"a", b"", 0, b"!"),
     (b"!", 101, b"a", b"", 0, b"deep"),
@@ -328,7 +329,8 @@ fn contains(alloc: Global, variables: &Variables, name: &[u8]) -> Result<bool, A
     Ok(variables.contains(&name))
 }
 
-/// What is read from a text over the variables, as the table writes it; nothing where it is no expression.
+/// What is read from a text over the variables, as the table writes it; nothing where it is no
+/// expression.
 fn shown_over(alloc: Global, variables: &Variables, text: &[u8]) -> Result<Vec<u8>, AllocError> {
     let mut out = Vec::new(alloc);
     if variables.names().len() > 100 {
@@ -340,7 +342,7 @@ fn shown_over(alloc: Global, variables: &Variables, text: &[u8]) -> Result<Vec<u
     Ok(out)
 }
 
-/// Compares what is told of the variables.
+/// Compares what is answered for the variables.
 fn compare_variables(
     rt: &impl Abort,
     alloc: Global,

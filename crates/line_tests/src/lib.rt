@@ -1,5 +1,5 @@
-//! Tests of the readers of logical lines, expressions and command lines, over texts with what each is answered with. Nothing
-//! else is here, so that each reader itself is proved once.
+//! Tests of the readers of logical lines, expressions and command lines, over texts with what each
+//! is answered with. Nothing else is here, so that each reader itself is proved once.
 #![tactic(auto)]
 
 #[cfg(test)]

@@ -5,7 +5,8 @@ use Rattle.std.proofs.Math.Decide.{ℕ_discrete}
 use Rattle.std.proofs.lemmas.List.Elements.{All-nil, All-cons, All-head, All-tail}
 use Rattle.net_core.specs.Run.{Cut}
 use Rattle.net_core.specs.Sets.{IsIn}
-use Rattle.net_core.specs.Work.{SymbolicSet, Function, SymbolicCut, set_at, cut_at, cut_set, after_cut, after_cuts}
+use Rattle.ste_base.specs.Functions.{Function}
+use Rattle.net_core.specs.Work.{SymbolicSet, SymbolicCut, set_at, cut_at, cut_set, after_cut, after_cuts}
 
 -- what one cut allows
 abbrev pub Allows : Cut → ℕ → Bool → Type 0

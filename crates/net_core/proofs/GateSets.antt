@@ -12,7 +12,8 @@ use Rattle.net_core.specs.Cases.{on_rows, off_rows}
 use Rattle.net_core.proofs.Complement.{rows_tell_the_bit}
 use Rattle.net_core.specs.Sets.{IsIn}
 use Rattle.net_core.specs.Possible.{MayGive}
-use Rattle.net_core.specs.Work.{Function, AreWide, SymbolicSet, set_at, conjunction, disjunction, whole, product, sum, factor, factors, row_products, gate_set, some_bit}
+use Rattle.ste_base.specs.Functions.{Function}
+use Rattle.net_core.specs.Work.{AreWide, SymbolicSet, set_at, conjunction, disjunction, whole, product, sum, factor, factors, row_products, gate_set, some_bit}
 
 whole_both : (f : Function) (fs : List Function) (bits : List Bool) → whole conjunction f fs bits ≡ (f bits && product fs bits)
 whole_both f [] bits = by (f bits)

@@ -22,7 +22,7 @@ use Rattle.net_core.specs.Run.{gate_bit, bit_of}
 use Rattle.net_core.specs.Sets.{IsIn, both}
 use Rattle.net_core.specs.Possible.{MayGive, is_weakened}
 use Rattle.net_core.specs.Source.{driver, source_of}
-use Rattle.net_core.specs.Work.{SymbolicSet, SymbolicAsked, set_at, after_cuts, uncut, unless_weakened, by_source, by_gate, cover_set, output_set, input_sets, everything, ArePossibleEach}
+use Rattle.net_core.specs.Work.{SymbolicSet, SymbolicAsked, set_at, after_cuts, set_before_cuts, unless_weakened, by_source, by_gate, cover_set, output_set, input_sets, everything, ArePossibleEach}
 use Rattle.net_core.specs.Cover.{IsCover, cover_bit}
 use Rattle.net_core.proofs.Among.{get_some}
 use Rattle.net_core.proofs.Possible.{same_set}
@@ -197,15 +197,15 @@ unless_in false w P bits bit is = (λ h e. is.0 h, λ h. is.1 (h refl))
 
 -- the possible sets are those that drivers and cuts give, net by net
 pub fixed : (net : RawNet) (vars : ℕ) (latches : List SymbolicSet) (asked : SymbolicAsked) (sets : ℕ → SymbolicSet) (bits : List Bool) → IsInRange net → HasOneDriver net → length latches ≡ length net.latches
-    → ArePossibleEach vars net latches asked sets → length bits ≡ vars → (id : ℕ) → set_at bits (after_cuts asked.cuts (uncut net asked.weak latches sets) id) ≡ set_at bits (sets id)
+    → ArePossibleEach vars net latches asked sets → length bits ≡ vars → (id : ℕ) → set_at bits (after_cuts asked.cuts (set_before_cuts net asked.weak latches sets) id) ≡ set_at bits (sets id)
 fixed net vars latches asked sets bits range one long family lb id =
     let src = source_in net range one latches long sets bits id in
-    let given : (bit : Bool) → IsIn bit (set_at bits (uncut net asked.weak latches sets id)) ↔ (is_weakened asked.weak id ≡ false → GivenByGates net (λ k. set_at bits (sets k)) id bit × GivenByLatches net (map (set_at bits) latches) id bit) =
+    let given : (bit : Bool) → IsIn bit (set_at bits (set_before_cuts net asked.weak latches sets id)) ↔ (is_weakened asked.weak id ≡ false → GivenByGates net (λ k. set_at bits (sets k)) id bit × GivenByLatches net (map (set_at bits) latches) id bit) =
     λ bit. unless_in (is_weakened asked.weak id) (by_source net latches sets (source_of net id)) _ bits bit (src bit (source_of net id) (facts net one id)) in
-    same_set (set_at bits (after_cuts asked.cuts (uncut net asked.weak latches sets) id)) (set_at bits (sets id))
+    same_set (set_at bits (after_cuts asked.cuts (set_before_cuts net asked.weak latches sets) id)) (set_at bits (sets id))
     (λ bit h.
-    let p = (after_cuts_in asked.cuts (uncut net asked.weak latches sets) id bits bit).0 h in
+    let p = (after_cuts_in asked.cuts (set_before_cuts net asked.weak latches sets) id bits bit).0 h in
     ((family bits lb).each id bit).1 (record { source = λ e. let q = (given bit).0 p.0 e in record { by_gate = q.0; by_latch = q.1 }; left = p.1 }))
     (λ bit h.
     let m = ((family bits lb).each id bit).0 h in
-    (after_cuts_in asked.cuts (uncut net asked.weak latches sets) id bits bit).1 ((given bit).1 (λ e. let q = m.source e in (q.by_gate, q.by_latch)), m.left))
+    (after_cuts_in asked.cuts (set_before_cuts net asked.weak latches sets) id bits bit).1 ((given bit).1 (λ e. let q = m.source e in (q.by_gate, q.by_latch)), m.left))

@@ -1,4 +1,5 @@
--- Meaning. Sets of bits, which stand for ternary values: those of the latches at time 0 and one time later.
+-- Meaning. Sets of bits, which stand for ternary values: those of the latches at time 0 and one
+-- time later.
 use Rattle.std.specs.Prelude.{◌≡◌, ℕ, ◌<◌, ◌↔◌, Bool, true, false, not, List, map, IsTrue, if◌then◌else◌}
 use Rattle.net_core.specs.declared.bit_set.BitSet.{BitSet}
 use Rattle.net_core.specs.declared.raw.Init.{Init}
@@ -56,4 +57,5 @@ IsEmptyAt net sets = (id : ℕ) × (id < net.nets) × (sets id ≡ neither)
 -- Law: the first values of a latch are the bits that it may start with.
 abbrev pub FirstSetsAreStarts : Type 0
 FirstSetsAreStarts =
-    (reset : Bool) (latch : Latch) (bit : Bool) → IsIn bit (first_set reset latch) ↔ MayStart reset latch bit
+    (reset : Bool) (latch : Latch) (bit : Bool) → IsIn bit (first_set reset latch)
+    ↔ MayStart reset latch bit

@@ -1,7 +1,9 @@
--- Meaning. The sets of one time under all assignments at once, and the functions that a check of them has to build: a bit
--- for each assignment, in place of diagrams. Source: the dual rail of Seger and Bryant 1995; which functions are built,
--- and in which order products and sums are taken, is a choice of this project.
+-- Meaning. The sets of one time under all assignments at once, and the functions that a check of
+-- them has to build: a bit for each assignment, in place of diagrams. Source: the dual rail of
+-- Seger and Bryant 1995; which functions are built, and in which order products and sums are taken,
+-- is a choice of this project.
 use Rattle.std.specs.Prelude.{◌≡◌, All, ◌==◌, ◌&&◌, ◌||◌, ℕ, zero, suc, ◌++◌, ◌∷◌, [], Bool, true, false, not, List, length, map, Option, None, Some, if◌then◌else◌, slice_get, slice_index_or}
+use Rattle.ste_base.specs.Functions.{Function}
 use Rattle.net_core.specs.declared.bit_set.BitSet.{BitSet}
 use Rattle.net_core.specs.declared.cover.Cover.{Cover}
 use Rattle.net_core.specs.declared.cover.Lit.{Lit}
@@ -16,10 +18,6 @@ use Rattle.net_core.specs.Run.{Cut}
 use Rattle.net_core.specs.Source.{source_of}
 
 -- ---- functions
-
--- a function of variables: a bit for each assignment, which is the list of their bits
-abbrev pub Function : Type 0
-Function = List Bool → Bool
 
 -- 0 under every assignment
 abbrev pub never : Function
@@ -120,8 +118,8 @@ pub record SymbolicAsked : Type 0 where
   pub weak : List ℕ
 
 -- what is asked under one assignment
-abbrev pub asked_at : List Bool → SymbolicAsked → Asked
-asked_at bits asked = record { cuts = map (cut_at bits) asked.cuts; weak = asked.weak }
+abbrev pub asked_under : List Bool → SymbolicAsked → Asked
+asked_under bits asked = record { cuts = map (cut_at bits) asked.cuts; weak = asked.weak }
 
 -- a set without the opposite of the value x where the guard g is 1
 abbrev pub cut_set : SymbolicSet → Function → Function → SymbolicSet
@@ -165,11 +163,14 @@ abbrev pub rows_chains : List (List Lit) → List SymbolicSet → List Function
 rows_chains [] sets = []
 rows_chains (row ∷ rows) sets = products (factors row sets) ++ rows_chains rows sets
 
--- the set of a gate with these on-rows and off-rows: z is the sum of the off-rows' products, o that of the on-rows'
+-- the set of a gate with these on-rows and off-rows: z is the sum of the off-rows' products, o that
+-- of the on-rows'
 abbrev pub gate_set : List (List Lit) → List (List Lit) → List SymbolicSet → SymbolicSet
-gate_set on off sets = record { zero = sum (row_products off sets); one = sum (row_products on sets) }
+gate_set on off sets =
+    record { zero = sum (row_products off sets); one = sum (row_products on sets) }
 
--- the functions for one list of rows: z | o of each input, the products of each row, and the sums of their whole products
+-- the functions for one list of rows: z | o of each input, the products of each row, and the sums
+-- of their whole products
 abbrev pub rows_work : List (List Lit) → List SymbolicSet → List Function
 rows_work rows sets = map some_bit sets ++ (rows_chains rows sets ++ sums (row_products rows sets))
 
@@ -215,8 +216,10 @@ unless_weakened true w = everything
 unless_weakened false w = w
 
 -- the set of each net before its cuts, where the nets have these sets after their cuts
-abbrev pub uncut : RawNet → List ℕ → List SymbolicSet → (ℕ → SymbolicSet) → ℕ → SymbolicSet
-uncut net weak latches sets id = unless_weakened (is_weakened weak id) (by_source net latches sets (source_of net id))
+abbrev pub set_before_cuts : RawNet → List ℕ → List SymbolicSet → (ℕ → SymbolicSet) → ℕ →
+    SymbolicSet
+set_before_cuts net weak latches sets id =
+    unless_weakened (is_weakened weak id) (by_source net latches sets (source_of net id))
 
 -- sets after one more cut
 abbrev pub after_cut : SymbolicCut → (ℕ → SymbolicSet) → ℕ → SymbolicSet
@@ -230,12 +233,14 @@ after_cuts (d ∷ cuts) sets = after_cuts cuts (after_cut d sets)
 -- the functions for all cuts, in order
 abbrev pub cuts_work : List SymbolicCut → (ℕ → SymbolicSet) → List Function
 cuts_work [] sets = []
-cuts_work (d ∷ cuts) sets = cut_work (sets d.node) d.guard d.value ++ cuts_work cuts (after_cut d sets)
+cuts_work (d ∷ cuts) sets = cut_work (sets d.node) d.guard d.value
+    ++ cuts_work cuts (after_cut d sets)
 
 -- the functions for a gate, which are none where its output is weakened
 abbrev pub one_gate_work : Bool → RawNet → (ℕ → SymbolicSet) → Gate → List Function
 one_gate_work true net sets gate = []
-one_gate_work false net sets gate = cover_work (slice_get net.covers gate.cover) (input_sets sets gate)
+one_gate_work false net sets gate =
+    cover_work (slice_get net.covers gate.cover) (input_sets sets gate)
 
 -- the functions for all gates whose outputs are not weakened
 abbrev pub gates_work : RawNet → List ℕ → (ℕ → SymbolicSet) → List Gate → List Function
@@ -244,25 +249,28 @@ gates_work net weak sets (gate ∷ gates) =
     one_gate_work (is_weakened weak gate.output.0) net sets gate ++ gates_work net weak sets gates
 
 -- the sets of the first n nets
-abbrev pub first_sets : (ℕ → SymbolicSet) → ℕ → List SymbolicSet
-first_sets sets zero = []
-first_sets sets (suc n) = first_sets sets n ++ sets n ∷ []
+abbrev pub sets_below : (ℕ → SymbolicSet) → ℕ → List SymbolicSet
+sets_below sets zero = []
+sets_below sets (suc n) = sets_below sets n ++ sets n ∷ []
 
 -- where some net is empty
 abbrev pub some_empty : RawNet → (ℕ → SymbolicSet) → Function
-some_empty net sets = sum (map no_bit (first_sets sets net.nets))
+some_empty net sets = sum (map no_bit (sets_below sets net.nets))
 
--- The work functions of one time, from a set for each latch and what is asked, where the nets have these sets after
--- their cuts: those of the cuts and of the gates, z | o and !(z | o) of each net, and the sums of the latter by net.
+-- The work functions of one time, from a set for each latch and what is asked, where the nets have
+-- these sets after their cuts: those of the cuts and of the gates, z | o and !(z | o) of each net,
+-- and the sums of the latter by net.
 abbrev pub time_work : RawNet → List SymbolicSet → SymbolicAsked → (ℕ → SymbolicSet) → List Function
 time_work net latches asked sets =
-    let all = first_sets sets net.nets in
-    cuts_work asked.cuts (uncut net asked.weak latches sets)
+    let all = sets_below sets net.nets in
+    cuts_work asked.cuts (set_before_cuts net asked.weak latches sets)
     ++ (gates_work net asked.weak sets net.gates
     ++ (map some_bit all ++ (map no_bit all ++ sums (map no_bit all))))
 
 -- the sets are the possible ones of one time, under each assignment of so many variables
-abbrev pub ArePossibleEach : ℕ → RawNet → List SymbolicSet → SymbolicAsked → (ℕ → SymbolicSet) → Type 0
+abbrev pub ArePossibleEach : ℕ → RawNet → List SymbolicSet → SymbolicAsked → (ℕ → SymbolicSet) →
+    Type 0
 ArePossibleEach vars net latches asked sets =
     (bits : List Bool) → length bits ≡ vars →
-    ArePossible net (map (set_at bits) latches) (asked_at bits asked) (λ id. set_at bits (sets id))
+    ArePossible net (map (set_at bits) latches) (asked_under bits asked)
+    (λ id. set_at bits (sets id))

@@ -1,4 +1,4 @@
 -- Definitions that serve private functions.
+pub mod Literals
 pub mod Search
-pub mod Asks
 pub mod Written

@@ -11,7 +11,8 @@ pub fn first_values()
     ensures { FirstSetsAreStarts }
 {}
 
-/// There is exactly one run of each length with given bits at inputs and free nets and given first values.
+/// There is exactly one run of each length with given bits at inputs and free nets and given first
+/// values.
 pub fn one_run()
     ensures { OneRun }
 {}
@@ -31,8 +32,8 @@ pub fn rows_tell_the_bit()
     ensures { RowsTellTheBit }
 {}
 
-/// The rows that a cover leaves out match exactly the bits that no row of it matches, and are at most as many as its
-/// cases.
+/// The rows that a cover leaves out match exactly the bits that no row of it matches, and are at
+/// most as many as its cases.
 pub fn others_complement()
     ensures { OthersComplement }
 {}

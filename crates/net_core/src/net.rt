@@ -17,7 +17,8 @@ use crate::sources::sources_of;
 use std::alloc::Global;
 use ste_base::{Items, NodeId};
 
-/// A flat net in which every number is in range, each net has one driver at most, and the gates have a settled order.
+/// A flat net in which every number is in range, each net has one driver at most, and the gates
+/// have a settled order.
 /// It keeps that order, and a table of what drives each net.
 #[derive(Drop)]
 pub struct Net {
@@ -112,7 +113,8 @@ fn first_unsettled(marks: &[bool]) -> Option<usize>
     marks.iter().position(|mark| !*mark)
 }
 
-/// The net in a settled order, or the least net that does not settle. The time is linear in the net's size.
+/// The net in a settled order, or the least net that does not settle. The time is linear in the
+/// net's size.
 pub fn order(alloc: Global, raw: RawNet) -> Result<Net, OrderFault>
     requires in_range { IsInRange raw }
     requires one_driver { HasOneDriver raw }

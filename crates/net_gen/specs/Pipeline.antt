@@ -1,5 +1,6 @@
--- Meaning. The texts of a pipeline of eight bits and so many stages: its netlist, in which each stage inverts each bit and holds it for
--- one time step, and the task that what goes in comes out. Source: this project's own choice.
+-- Meaning. The texts of a pipeline of eight bits and so many stages: its netlist, in which each
+-- stage inverts each bit and holds it for one time step, and the task that what goes in comes out.
+-- Source: this project's own choice.
 use Rattle.std.specs.Prelude.{◌++◌, ◌==◌, ◌%◌, ℕ, zero, suc, if◌then◌else◌, List, [], codes}
 use Rattle.std.specs.Fmt.{decimal}
 
@@ -8,7 +9,8 @@ abbrev pub for_below : ℕ → (ℕ → List ℕ) → List ℕ
 for_below zero text = []
 for_below (suc n) text = for_below n text ++ text n
 
--- the net of bit j behind stage i, and that of its inverse before the latch of stage i; behind stage 0 are the inputs
+-- the net of bit j behind stage i, and that of its inverse before the latch of stage i; behind
+-- stage 0 are the inputs
 abbrev pub net_of : ℕ → ℕ → List ℕ
 net_of i j = codes "s" ++ (decimal i ++ (codes "_" ++ decimal j))
 
@@ -37,13 +39,15 @@ pipeline_net n =
 
 -- bit j goes in at time 0
 abbrev pub ant_line : ℕ → List ℕ
-ant_line j = codes ".ant " ++ (net_of 0 j ++ (codes " = b" ++ (decimal j ++ codes " from 0 to 1\n")))
+ant_line j = codes ".ant "
+    ++ (net_of 0 j ++ (codes " = b" ++ (decimal j ++ codes " from 0 to 1\n")))
 
 -- it comes out at time n, inverted n times
 abbrev pub con_line : ℕ → ℕ → List ℕ
 con_line n j =
     codes ".con " ++ (net_of n j ++ (codes " = " ++ ((if n % 2 == 1 then codes "!" else [])
-    ++ (codes "b" ++ (decimal j ++ (codes " from " ++ (decimal n ++ (codes " to " ++ (decimal (suc n) ++ codes "\n")))))))))
+    ++ (codes "b" ++ (decimal j
+    ++ (codes " from " ++ (decimal n ++ (codes " to " ++ (decimal (suc n) ++ codes "\n")))))))))
 
 -- the task file of n stages
 abbrev pub pipeline_tasks : ℕ → List ℕ

@@ -7,8 +7,8 @@ use crate::netlist::net_text;
 use crate::task::task_text;
 use std::alloc::{AllocError, Global};
 
-/// The netlist and the task file of a pipeline of eight bits and so many stages. Each stage inverts each bit and holds it for
-/// one time step; the task is that what goes in comes out.
+/// The netlist and the task file of a pipeline of eight bits and so many stages. Each stage inverts
+/// each bit and holds it for one time step; the task is that what goes in comes out.
 ///
 /// The time is linear in the texts.
 pub fn pipeline(alloc: Global, n: u32) -> Result<(Vec<u8>, Vec<u8>), AllocError>

@@ -1,4 +1,5 @@
-//! The names of a flat net: what its nets are called, and which net a text names. Begin with `NetNames`.
+//! The names of a flat net: what its nets are called, and which net a text names. Begin with
+//! `NetNames`.
 #![tactic(auto)]
 
 pub mod laws;

@@ -17,7 +17,7 @@ use Rattle.ste_model.specs.GraphTable.{VertexState}
 use Rattle.plain_check.specs.declared.rounds.State.{State}
 use Rattle.plain_check.specs.private.Outcome.{is_empty}
 use Rattle.plain_check.specs.private.Sets.{set_at}
-use Rattle.plain_check.specs.private.States.{IsEdgeRow, state_of}
+use Rattle.plain_check.specs.States.{IsEdgeRow, state_of}
 use Rattle.plain_check.proofs.Outcomes.{empty_is}
 
 empty_at : (net : RawNet) (row : List BitSet) → length row ≡ net.nets → list_any is_empty row ≡ true → IsEmptyAt net (set_at row)

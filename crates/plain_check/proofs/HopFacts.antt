@@ -22,7 +22,7 @@ use Rattle.plain_check.specs.declared.hops.Hop.{Hop}
 use Rattle.plain_check.specs.private.Hops.{AreHops, IsGraphOutcome, IsHopOf, fails_of, hop_fails, is_feasible, outcome_of}
 use Rattle.plain_check.specs.private.Outcome.{bind_fails}
 use Rattle.plain_check.specs.private.Sets.{set_at}
-use Rattle.plain_check.specs.private.States.{IsEdgeRow}
+use Rattle.plain_check.specs.States.{IsEdgeRow}
 use Rattle.plain_check.proofs.Outcomes.{any_of_map, fails_is, map_any_at, says}
 
 abbrev pub the_hop : ℕ → ℕ → Bool → Bool → Bool → Hop

@@ -10,7 +10,7 @@ use Rattle.ste_model.specs.Edges.{IsGraph}
 use Rattle.ste_model.specs.GraphTable.{AreRounds, IsFeasible, IsLeastClosed, IsNext, VertexState, enough}
 use Rattle.ste_model.proofs.NextRound.{some_rounds}
 use Rattle.ste_model.proofs.Rounds.{settle_all, states_alike}
-use Rattle.plain_check.specs.private.States.{start, state_of}
+use Rattle.plain_check.specs.States.{start, state_of}
 use Rattle.plain_check.proofs.OneRound.{start_next}
 
 -- the table is that of round n

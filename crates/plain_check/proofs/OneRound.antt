@@ -16,7 +16,7 @@ use Rattle.ste_model.specs.Edges.{asked_on}
 use Rattle.ste_model.specs.GraphTable.{IsFeasible, IsNext, IsReachedWith, IsStateWithin, Takes, VertexState}
 use Rattle.ste_model.proofs.Unions.{empties, join_least, join_left, join_long, join_right, join_set, join_sets, next_grows, sets_trans}
 use Rattle.plain_check.specs.declared.rounds.State.{State}
-use Rattle.plain_check.specs.private.States.{joined, start, state_of, states_of, with_edges}
+use Rattle.plain_check.specs.States.{latch_unions, start, state_of, states_of, with_edges}
 
 -- what the edges into a vertex have to find there
 abbrev Carries : RawNet → List Bool → (ℕ → VertexState) → (ℕ → VertexState) → Edge → Type 0
@@ -122,7 +122,7 @@ module _ (net : RawNet) (graph : Graph) (bits : List Bool) (now before after : �
 
 -- ---- lists of states
 
-pub joined_is : (one other : List BitSet) → length one ≡ length other → joined one other ≡ join_sets one other
+pub joined_is : (one other : List BitSet) → length one ≡ length other → latch_unions one other ≡ join_sets one other
 joined_is [] [] e = refl
 joined_is [] (y ∷ other) e = absurd (omega arith)
 joined_is (x ∷ one) [] e = absurd (omega arith)
@@ -151,10 +151,10 @@ state_there net [] k state l e = absurd (omega arith)
 state_there net (x ∷ states) zero state l e = ap (λ (s : State). state_of net (Some s)) (sym e)
 state_there net (x ∷ states) (suc k) state l e = state_there net states k state (omega arith) e
 
-join_same : (net : RawNet) (old after : List BitSet) (sets : ℕ → BitSet) → length old ≡ length net.latches → after ≡ joined old (next_sets net sets) → after ≡ join_sets old (next_sets net sets)
+join_same : (net : RawNet) (old after : List BitSet) (sets : ℕ → BitSet) → length old ≡ length net.latches → after ≡ latch_unions old (next_sets net sets) → after ≡ join_sets old (next_sets net sets)
 join_same net old after sets long e = e ∙ joined_is old (next_sets net sets) (long ∙ sym (length-map net.latches (λ latch. sets latch.input.0)))
 
-pub arrived_long : (net : RawNet) (old after : List BitSet) (sets : ℕ → BitSet) → length old ≡ length net.latches → after ≡ joined old (next_sets net sets) → length after ≡ length net.latches
+pub arrived_long : (net : RawNet) (old after : List BitSet) (sets : ℕ → BitSet) → length old ≡ length net.latches → after ≡ latch_unions old (next_sets net sets) → length after ≡ length net.latches
 arrived_long net old after sets long e =
     let next = length-map net.latches (λ latch. sets latch.input.0) in
     ap length (join_same net old after sets long e) ∙ join_long old (next_sets net sets) (long ∙ sym next) ∙ next
@@ -163,13 +163,13 @@ same_state : (reached : Bool) (a b : List BitSet) → reached ≡ true → a ≡
 same_state reached a b e f = cc
 
 -- the state that is written at the target of an edge
-pub arrives : (net : RawNet) (states : List State) (to : ℕ) (old state : State) (sets : ℕ → BitSet) → to < length states → old ≡ get_or states to old → length (states_of net states to).latches ≡ length net.latches → state.reached ≡ true → state.latches ≡ joined old.latches (next_sets net sets) → states_of net (set states to state) to ≡ record { reached = true; latches = join_sets (states_of net states to).latches (next_sets net sets) }
+pub arrives : (net : RawNet) (states : List State) (to : ℕ) (old state : State) (sets : ℕ → BitSet) → to < length states → old ≡ get_or states to old → length (states_of net states to).latches ≡ length net.latches → state.reached ≡ true → state.latches ≡ latch_unions old.latches (next_sets net sets) → states_of net (set states to state) to ≡ record { reached = true; latches = join_sets (states_of net states to).latches (next_sets net sets) }
 arrives net states to old state sets l is long reached latches =
     let before = state_there net states to old l is in
     let same : old.latches ≡ (states_of net states to).latches = ap (λ (s : VertexState). s.latches) (sym before) in
     set_there net states to state l
     ∙ same_state state.reached state.latches (join_sets (states_of net states to).latches (next_sets net sets)) reached
-    (join_same net (states_of net states to).latches state.latches sets long (latches ∙ ap (λ (x : List BitSet). joined x (next_sets net sets)) same))
+    (join_same net (states_of net states to).latches state.latches sets long (latches ∙ ap (λ (x : List BitSet). latch_unions x (next_sets net sets)) same))
 
 -- what holds of all elements holds of one that is read
 pub item_of : {X : Type 0} (P : X → Type 0) (xs ys : List X) (k : ℕ) (x : X) → ys ≡ xs → k < length ys → x ≡ get_or ys k x → All P xs → P x

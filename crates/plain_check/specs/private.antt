@@ -2,6 +2,5 @@
 pub mod Choices
 pub mod Sets
 pub mod Outcome
-pub mod States
 pub mod Hops
 pub mod Shown

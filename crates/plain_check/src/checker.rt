@@ -145,8 +145,8 @@ fn verdict_of(outcomes: &[Outcome]) -> Verdict
     }
 }
 
-/// The verdict of an assertion over so many variables, by going through all assignments. A gate may have at most
-/// eight inputs.
+/// The verdict of an assertion over so many variables, by going through all assignments. A gate may
+/// have at most eight inputs.
 pub fn verdict(alloc: Global, net: &Net, vars: u32, task: &Assertion) -> Result<Verdict, AllocError>
     requires widths { All (λ gate. length gate.inputs ≤ 8) net.now.raw.gates }
     requires in_range { All (λ quint. quint.node.0 < net.now.raw.nets) task.now.ant }

@@ -43,7 +43,8 @@ impl Outcome {
     }
 }
 
-/// How a value fails on a set: strongly where the set is exactly the opposite bit, weakly where it has both bits.
+/// How a value fails on a set: strongly where the set is exactly the opposite bit, weakly where it
+/// has both bits.
 #[derive(Clone, Copy, PartialEq, Eq)]
 pub enum Failure {
     Strong,
@@ -95,7 +96,8 @@ fn fails_at(failure: Failure, row: &[BitSet], quints: &[Quint], bits: &[bool], t
         .any(|quint| quint_fails(failure, row, quint, bits, t))
 }
 
-/// Whether some quintuple fails so at some time of a table with a row for each time below the depth.
+/// Whether some quintuple fails so at some time of a table with a row for each time below the
+/// depth.
 pub fn fails_somewhere(
     failure: Failure,
     rows: &[Items<BitSet>],

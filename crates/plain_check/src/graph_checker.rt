@@ -1,11 +1,12 @@
-//! What is found of a graph under one assignment, and what a failure shows; begin with `check_graph`.
+//! What is found of a graph under one assignment, and what a failure shows; begin with
+//! `plain_check_graph`.
 
 ghost use Rattle.std.specs.Prelude.{◌≡◌, ◌<◌, ◌≤◌, length, All, IfOk};
 ghost use Rattle.ste_model.specs.GraphTable.{IsLeastClosed};
 ghost use Rattle.plain_check.specs.private.Choices.{AreChoices};
 ghost use Rattle.plain_check.specs.private.Hops.{AreHops};
 ghost use Rattle.plain_check.specs.private.Shown.{IsFoundBy, IsShownIf, failure_of};
-ghost use Rattle.plain_check.specs.private.States.{AreStates, IsGraphOver, states_of};
+ghost use Rattle.plain_check.specs.States.{AreStates, IsGraphOver, states_of};
 
 use crate::checker::all_choices;
 use crate::found::{Failure, Outcome, first_failing};
@@ -17,8 +18,8 @@ use std::alloc::{AllocError, Global};
 use ste_base::Items;
 use ste_model::Graph;
 
-/// What a failure shows: the numbers of the path's edges, the time of its last edge, and the number of the first consequent
-/// of that edge that fails.
+/// What a failure shows: the numbers of the path's edges, the time of its last edge, and the number
+/// of the first consequent of that edge that fails.
 #[derive(Drop)]
 pub struct Shown {
     pub path: Items<usize>,
@@ -95,9 +96,9 @@ fn failure_shown(
     }))
 }
 
-/// What is found of a graph under an assignment, and for a failure the path, its last time and the consequent that fails
-/// there. A gate may have at most eight inputs.
-pub fn check_graph(
+/// What is found of a graph under an assignment, and for a failure the path, its last time and the
+/// consequent that fails there. A gate may have at most eight inputs.
+pub fn plain_check_graph(
     alloc: Global,
     net: &Net,
     graph: &Graph,

@@ -5,7 +5,7 @@ ghost use Rattle.std.specs.List.{list_any};
 ghost use Rattle.ste_model.specs.GraphTable.{VertexState};
 ghost use Rattle.plain_check.specs.private.Choices.{AreChoices};
 ghost use Rattle.plain_check.specs.private.Hops.{AreHops, IsHopOf, hop_fails, is_feasible, outcome_of};
-ghost use Rattle.plain_check.specs.private.States.{AreStates, IsGraphOver, state_of, states_of};
+ghost use Rattle.plain_check.specs.States.{AreStates, IsGraphOver, state_of, states_of};
 
 use crate::found::{Failure, Outcome, some_bind_fails};
 use crate::rounds::{State, edge_row};
@@ -14,8 +14,8 @@ use std::alloc::{AllocError, Global};
 use ste_base::Items;
 use ste_model::{Edge, Graph};
 
-/// What is known of an edge under one assignment: its ends, whether it is feasible, and whether some consequent of it is
-/// found strong, and found weak.
+/// What is known of an edge under one assignment: its ends, whether it is feasible, and whether
+/// some consequent of it is found strong, and found weak.
 #[derive(Clone, Copy, PartialEq, Eq)]
 pub struct Hop {
     pub from: u32,

@@ -1,5 +1,5 @@
-//! The plain checker: one assignment after another, and a gate's set over all choices of bits. Begin with `verdict` and
-//! `check_graph`.
+//! The plain checker: one assignment after another, and a gate's set over all choices of bits.
+//! Begin with `verdict` and `plain_check_graph`.
 #![tactic(auto)]
 
 pub mod checker;
@@ -15,4 +15,4 @@ mod table;
 
 pub use checker::verdict;
 pub use found::Outcome;
-pub use graph_checker::{GraphFound, Shown, check_graph};
+pub use graph_checker::{GraphFound, Shown, plain_check_graph};

@@ -72,7 +72,8 @@ fn last_hop(
     }
 }
 
-/// The least route of one hop more from a vertex. The first hop with the least number is the first that leads.
+/// The least route of one hop more from a vertex. The first hop with the least number is the first
+/// that leads.
 fn one_hop_more(
     alloc: Global,
     hops: &[Hop],
@@ -144,8 +145,8 @@ fn search_on(
     all_one_more(alloc, hops, &best)
 }
 
-/// The shortest route from vertex 0 that ends where some consequent fails so, and among those the least list of numbers.
-/// There is none in the answer where each has more hops than are looked at.
+/// The shortest route from vertex 0 that ends where some consequent fails so, and among those the
+/// least list of numbers. There is none in the answer where each has more hops than are looked at.
 pub fn shortest_path(
     alloc: Global,
     failure: Failure,

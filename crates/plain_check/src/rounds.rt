@@ -8,7 +8,7 @@ ghost use Rattle.ste_model.specs.Edges.{IsGraph};
 ghost use Rattle.ste_model.specs.GraphTable.{IsLeastClosed, IsNext, VertexState};
 ghost use Rattle.plain_check.specs.private.Choices.{AreChoices};
 ghost use Rattle.plain_check.specs.private.Sets.{set_at};
-ghost use Rattle.plain_check.specs.private.States.{AreStates, IsEdgeRow, IsGraphOver, joined, start, state_of, states_of, unreached, with_edges};
+ghost use Rattle.plain_check.specs.States.{AreStates, IsEdgeRow, IsGraphOver, latch_unions, start, state_of, states_of, unreached, with_edges};
 
 use crate::found::row_has_empty;
 use crate::table::{first_sets, next_sets, sets_on};
@@ -70,8 +70,8 @@ fn starts(alloc: Global, net: &Net, graph: &Graph) -> Result<Vec<State>, AllocEr
     Ok(states)
 }
 
-/// The possible sets of an edge's time step, from what is known of its source, where it is feasible: where its source is
-/// reached, and no net is empty.
+/// The possible sets of an edge's time step, from what is known of its source, where it is
+/// feasible: where its source is reached, and no net is empty.
 pub fn edge_row(
     alloc: Global,
     net: &Net,
@@ -100,8 +100,8 @@ pub fn edge_row(
 }
 
 /// The bits that are in one of the sets, latch by latch.
-fn joined(alloc: Global, one: &[BitSet], other: &[BitSet]) -> Result<Vec<BitSet>, AllocError>
-    ensures { IfOk result (λ sets. sets.items ≡ joined one.now other.now) }
+fn latch_unions(alloc: Global, one: &[BitSet], other: &[BitSet]) -> Result<Vec<BitSet>, AllocError>
+    ensures { IfOk result (λ sets. sets.items ≡ latch_unions one.now other.now) }
 {
     one.iter()
         .zip(other)
@@ -113,21 +113,26 @@ fn joined(alloc: Global, one: &[BitSet], other: &[BitSet]) -> Result<Vec<BitSet>
 }
 
 /// What is known of a vertex once an edge with these sets has led to it.
-fn arrived(alloc: Global, net: &Net, state: &State, row: &[BitSet]) -> Result<State, AllocError>
+fn with_arrival(
+    alloc: Global,
+    net: &Net,
+    state: &State,
+    row: &[BitSet],
+) -> Result<State, AllocError>
     ensures reached { IfOk result (λ after. after.reached ≡ true) }
     ensures latches { IfOk result (λ after.
-        after.latches ≡ joined state.now.latches (next_sets net.now.raw (set_at row.now))) }
+        after.latches ≡ latch_unions state.now.latches (next_sets net.now.raw (set_at row.now))) }
 {
     let next = next_sets(alloc, net, row)?;
-    let latches = Items::from(joined(alloc, state.latches.as_slice(), &next)?);
+    let latches = Items::from(latch_unions(alloc, state.latches.as_slice(), &next)?);
     Ok(State {
         reached: true,
         latches,
     })
 }
 
-/// Follows an edge: where it is feasible, its next sets come to its target. `next` is the table of the next round, by the
-/// edges before this one.
+/// Follows an edge: where it is feasible, its next sets come to its target. `next` is the table of
+/// the next round, by the edges before this one.
 fn follow(
     alloc: Global,
     net: &Net,
@@ -158,7 +163,7 @@ fn follow(
         return Ok(());
     };
     let to = edge.to as usize;
-    let state = arrived(alloc, net, &next[to], row.as_slice())?;
+    let state = with_arrival(alloc, net, &next[to], row.as_slice())?;
     next[to] = state;
     Ok(())
 }
@@ -189,8 +194,8 @@ fn round(
     Ok(next)
 }
 
-/// The least closed table, after as many rounds as settle it. Nothing is reached in round 0, so no edge is feasible there,
-/// and the first round is where it starts.
+/// The least closed table, after as many rounds as settle it. Nothing is reached in round 0, so no
+/// edge is feasible there, and the first round is where it starts.
 pub fn least_table(
     alloc: Global,
     net: &Net,

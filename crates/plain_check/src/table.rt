@@ -131,7 +131,8 @@ pub fn sets_on(
     possible_sets(alloc, net, choices, held, &weak, &allowed)
 }
 
-/// The possible table of an assertion under an assignment: a row for each time below the depth, with a set for each net.
+/// The possible table of an assertion under an assignment: a row for each time below the depth,
+/// with a set for each net.
 pub fn table(
     alloc: Global,
     net: &Net,
@@ -146,7 +147,8 @@ pub fn table(
     ensures long { IfOk result (λ rows. length rows.items ≡ depth) }
     ensures wide { IfOk result (λ rows. All (λ row. length row ≡ net.now.raw.nets) rows.items) }
     ensures possible { IfOk result (λ rows.
-        IsPossible net.now.raw task.now.reset (asked_at task.now bits.now) depth (table_of rows.items)) }
+        IsPossible net.now.raw task.now.reset (asked_at task.now bits.now) depth
+        (table_of rows.items)) }
 {
     let mut rows = Vec::new(alloc);
     let mut held = first_sets(alloc, net, task.reset)?;

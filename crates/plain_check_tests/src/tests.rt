@@ -3,17 +3,18 @@
 ghost use Rattle.std.specs.Prelude.{◌≡◌, ◌<◌, ◌≤◌, ◌∷◌, [], All, IfOk, length};
 ghost use Rattle.net_core.specs.Cover.{IsCover};
 ghost use Rattle.net_core.specs.Flat.{HasOneDriver, IsInRange};
-ghost use Rattle.plain_check.specs.private.States.{IsGraphOver};
+ghost use Rattle.plain_check.specs.States.{IsGraphOver};
 
 use bool_expr::Expr;
 use net_core::{Cover, Gate, Init, Latch, Lit, Net, RawNet, order};
-use plain_check::{GraphFound, Outcome, check_graph, verdict};
+use plain_check::{GraphFound, Outcome, plain_check_graph, verdict};
 use std::alloc::{AllocError, Global};
 use std::test::Fail;
 use ste_base::{Items, Name, NodeId, Time, VarId};
 use ste_model::{Assertion, Bind, Edge, Graph, Quint, Verdict, Weakening};
 
-/// The initial value of a latch, whether its task has reset, and the verdict on the claim that it starts with 1.
+/// The initial value of a latch, whether its task has reset, and the verdict on the claim that it
+/// starts with 1.
 const STARTS: &[(Init, bool, Verdict)] = &[
     (Init::One, true, Verdict::Pass),
     (Init::One, false, Verdict::Weak),
@@ -156,8 +157,9 @@ type AssertionCase = (
 /// An edge: its ends, what is given, what has to follow and what is weakened.
 type EdgeCase = (u32, u32, &'static [Asked], &'static [Asked], &'static [u32]);
 
-/// A graph, by whether latches begin with their initial values, its number of vertices and its edges; an assignment; and
-/// what is found under it, with the path, its last time and the number of the consequent that fails there.
+/// A graph, by whether latches begin with their initial values, its number of vertices and its
+/// edges; an assignment; and what is found under it, with the path, its last time and the number of
+/// the consequent that fails there.
 type GraphCase = (
     bool,
     u32,
@@ -272,7 +274,8 @@ const BLOCKED: &[EdgeCase] = &[
     (1, 2, &[], &[(Q, Value::One)], &[]),
 ];
 
-/// The same, by what is asked of another input: the latch's next set is not empty where the edge is blocked.
+/// The same, by what is asked of another input: the latch's next set is not empty where the edge is
+/// blocked.
 const BLOCKED_BESIDE: &[EdgeCase] = &[
     (0, 1, &[(E, Value::Zero), (E, Value::P)], &[], &[]),
     (1, 2, &[], &[(Q, Value::One)], &[]),
@@ -281,7 +284,8 @@ const BLOCKED_BESIDE: &[EdgeCase] = &[
 /// A loop at the initial vertex: what it gives is united with the first values.
 const RETURN: &[EdgeCase] = &[(0, 0, &[(D, Value::Zero)], &[(Q, Value::One)], &[])];
 
-/// Two ways of three edges, one of two, and one that fails later; the least list of the shortest is shown.
+/// Two ways of three edges, one of two, and one that fails later; the least list of the shortest is
+/// shown.
 const WAYS: &[EdgeCase] = &[
     (0, 3, &[(D, Value::Zero)], &[], &[]),
     (3, 1, &[(D, Value::Zero)], &[], &[]),
@@ -572,7 +576,7 @@ fn graph_is_found(
     requires widths { All (λ gate. length gate.inputs ≤ 8) net.now.raw.gates }
     requires graph { IsGraphOver net.now.raw graph.now }
 {
-    let found = check_graph(alloc, net, graph, case.3)?;
+    let found = plain_check_graph(alloc, net, graph, case.3)?;
     Ok(is_found(&found, case))
 }
 

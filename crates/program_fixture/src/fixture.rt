@@ -47,7 +47,8 @@ fn files_of(
     Ok(held)
 }
 
-/// A sink with room for so many bytes, which takes at most so many at a write, and of which these writes fail.
+/// A sink with room for so many bytes, which takes at most so many at a write, and of which these
+/// writes fail.
 fn sink(alloc: Global, room: usize, most: usize, failing: &[u64]) -> Result<MemorySink, AllocError>
     requires { 0 < most }
 {
@@ -55,8 +56,8 @@ fn sink(alloc: Global, room: usize, most: usize, failing: &[u64]) -> Result<Memo
 }
 
 impl Fixture {
-    /// The words of a command, files, the output's room, how many bytes it and the error sink take at a write, and what
-    /// fails.
+    /// The words of a command, files, the output's room, how many bytes it and the error sink take
+    /// at a write, and what fails.
     pub fn new(
         alloc: Global,
         words: &str,

@@ -134,6 +134,16 @@ const TABLE: &[(&[u8], u32, &[u8])] = &[
         b"1: too large",
     ),
     (
+        b".ste t\n.con a = 1 from 0 to 100000",
+        1000,
+        b"; t; con 3 1111 1111 0 100000;",
+    ),
+    (
+        b".ste t\n.con a = 1 from 0 to 100000",
+        1001,
+        b"1: too large",
+    ),
+    (
         b"\n.ste t\n.con a = 1 from 0 to 9999\n.ste u\n.ant a = 1 from 0 to 2",
         10000,
         b"4: too large",

@@ -13,7 +13,8 @@ use std::process::Abort;
 use std::test::Fail;
 use ste_base::{Items, Name, NodeId};
 
-/// Texts, and what they are answered with: the bits of q, w, r and q again at each time, or the fault.
+/// Texts, and what they are answered with: the bits of q, w, r and q again at each time, or the
+/// fault.
 const ROWS: &[(&[u8], &[u8])] = &[
     // The worked rows: no lines, a name twice, no name, a latch, a bad row, and no names.
     (b"", b""),
@@ -55,14 +56,14 @@ const FAULTS: &[(&[u8], &[u8])] = &[
     (b".order\n- -", b"2: bad"),
     (b".order d\n1\n\n1\nx\n1", b"5: bad"),
     (b".order d\n/\n1", b"2: bad"),
-    // Two names of one net, and the second of them is told; which names stand between does not
+    // Two names of one net, and the second of them is reported; which names stand between does not
     // matter.
     (b".order d 0/d", b"1: double 0/d"),
     (b".order 0/d f d f", b"1: double d"),
     (b".order f d 0/d f", b"1: double 0/d"),
     (b".order far f far", b"1: double far"),
     // A double goes before a name of no net, and that before a driven net; the first of its kind is
-    // told.
+    // reported.
     (b".order z q d d", b"1: double d"),
     (b".order q q z", b"1: double q"),
     (b".order z z", b"1: unknown z"),

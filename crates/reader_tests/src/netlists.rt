@@ -11,7 +11,8 @@ use std::process::Abort;
 use std::test::Fail;
 use ste_base::{Items, Name};
 
-/// Texts without a model, with lines outside a model, and with words that are not known or left out; and the fault of each.
+/// Texts without a model, with lines outside a model, and with words that are not known or left
+/// out; and the fault of each.
 const FAULTS_OF_WORDS: &[(&[u8], &[u8])] = &[
     // No model.
     (b"", b"no model"),

@@ -13,7 +13,8 @@ use std::process::Abort;
 use std::test::Fail;
 use ste_base::Name;
 
-/// Texts without a task, with words that begin no form, with variables, heads, edges and ends; and the fault of each.
+/// Texts without a task, with words that begin no form, with variables, heads, edges and ends; and
+/// the fault of each.
 const FAULTS_OF_HEADS: &[(&[u8], &[u8])] = &[
     // No task.
     (b"", b"no task"),
@@ -66,7 +67,7 @@ const FAULTS_OF_CLAUSES: &[(&[u8], &[u8])] = &[
     (b".gste g v\n.ant a = 1", b"2: bad"),
     (b".gste g v\n.edge v v\n.ant a = 1 from 0 to 1", b"3: bad"),
     (
-        b".gste g v\n.edge v v\n.ant a = 1 from 0 to 10001",
+        b".gste g v\n.edge v v\n.ant a = 1 from 0 to 100001",
         b"3: bad",
     ),
     (b".ste t\n.end\n.con a = 1 from 0 to 1", b"3: bad"),
@@ -106,7 +107,7 @@ const FAULTS_OF_EXPRESSIONS: &[(&[u8], &[u8])] = &[
     ),
     (b".ste t\n.con a = q when ( from 0 to 1", b"2: bad"),
     (
-        b".ste t\n.con a = !!!!!!!!!!!!!!!!!!!!!!!!!!!!!!!!!!!!!!!!!!!!!!!!!!!!!!!!!!!!!!!!!!!!!!!!!!!!!!!!!!!!!!!!!!!!!!!!!!!!!q when r from 0 to 10001",
+        b".ste t\n.con a = !!!!!!!!!!!!!!!!!!!!!!!!!!!!!!!!!!!!!!!!!!!!!!!!!!!!!!!!!!!!!!!!!!!!!!!!!!!!!!!!!!!!!!!!!!!!!!!!!!!!!q when r from 0 to 100001",
         b"2: deep",
     ),
     (
@@ -117,10 +118,10 @@ const FAULTS_OF_EXPRESSIONS: &[(&[u8], &[u8])] = &[
         b".ste t\n.con a = !!!!!!!!!!!!!!!!!!!!!!!!!!!!!!!!!!!!!!!!!!!!!!!!!!!!!!!!!!!!!!!!!!!!!!!!!!!!!!!!!!!!!!!!!!!!!!!!!!!!!1 when 0 1 from 0 to 1",
         b"2: bad",
     ),
-    (b".ste t\n.con a = q from 0 to 10001", b"2: unknown q"),
-    (b".ste t\n.con a = 1 from 0 to 10001", b"2: many"),
-    (b".ste t\n.con a = 1 from 10001 to 0", b"2: many"),
-    (b".ste t\n.con a = 1 from 10002 to 10001", b"2: many"),
+    (b".ste t\n.con a = q from 0 to 100001", b"2: unknown q"),
+    (b".ste t\n.con a = 1 from 0 to 100001", b"2: many"),
+    (b".ste t\n.con a = 1 from 100001 to 0", b"2: many"),
+    (b".ste t\n.con a = 1 from 100002 to 100001", b"2: many"),
     (
         b".ste t\n.con a = 1 from 0 to 99999999999999999999999",
         b"2: many",
@@ -136,8 +137,8 @@ const FAULTS_OF_EXPRESSIONS: &[(&[u8], &[u8])] = &[
     ),
 ];
 
-/// Texts, and the tasks of each: the variables, and the lines of the tasks. An expression is shown by its bits where the
-/// first two variables are 00, 10, 01 and 11.
+/// Texts, and the tasks of each: the variables, and the lines of the tasks. An expression is shown
+/// by its bits where the first two variables are 00, 10, 01 and 11.
 const TASKS: &[(&[u8], &[u8])] = &[
     // Assertions.
     (b".ste e", b"1: ste e\n"),
@@ -150,8 +151,8 @@ const TASKS: &[(&[u8], &[u8])] = &[
         b"p\n2: ste t1\n3: ant a 0101 if 1111 0..1\n4: con y 1010 if 1111 0..1\n",
     ),
     (
-        b".vars p\n.vars q\n.ste t\n.con a = p & q when p | q from 0 to 10000\n.ant b = p^q when q from 0003 to 3\n.con c = 1 from 2 to 3",
-        b"p q\n3: ste t\n5: ant b 0110 if 0011 3..3\n4: con a 0001 if 0111 0..10000\n6: con c 1111 if 1111 2..3\n",
+        b".vars p\n.vars q\n.ste t\n.con a = p & q when p | q from 0 to 100000\n.ant b = p^q when q from 0003 to 3\n.con c = 1 from 2 to 3",
+        b"p q\n3: ste t\n5: ant b 0110 if 0011 3..3\n4: con a 0001 if 0111 0..100000\n6: con c 1111 if 1111 2..3\n",
     ),
     (
         b".ste t\n.ant = = 1 from 0 to 1\n.ant from = 0 when 0 from 1 to 1\n.con when = 1 from 0 to 1\n.con to = ( 1 ) from 0 to 1",
@@ -189,8 +190,8 @@ const WEAKENINGS: &[(&[u8], &[u8])] = &[
         b"1: ste t\n2: weak n 0..1\n",
     ),
     (
-        b".ste t\n.weak a from 0 to 2\n.ant a = 1 from 0 to 1\n.weak b from 1 to 10000",
-        b"1: ste t\n3: ant a 1111 if 1111 0..1\n2: weak a 0..2\n4: weak b 1..10000\n",
+        b".ste t\n.weak a from 0 to 2\n.ant a = 1 from 0 to 1\n.weak b from 1 to 100000",
+        b"1: ste t\n3: ant a 1111 if 1111 0..1\n2: weak a 0..2\n4: weak b 1..100000\n",
     ),
     (
         b".ste t\n.weak a from 0 to 2\n.end\n.ste u\n.weak b from 1 to 1",
@@ -211,8 +212,8 @@ const WEAKENINGS: &[(&[u8], &[u8])] = &[
     (b".ste t\n.weak n from 2 to 1", b"2: bad"),
     (b".ste t\n.weak n = 1 from 0 to 1", b"2: bad"),
     (b".ste t\n.weak n when 1 from 0 to 1", b"2: bad"),
-    (b".ste t\n.weak n from 0 to 10001\n.foo", b"2: many"),
-    (b".ste t\n.weak n from 10001 to 0\n.foo", b"2: many"),
+    (b".ste t\n.weak n from 0 to 100001\n.foo", b"2: many"),
+    (b".ste t\n.weak n from 100001 to 0\n.foo", b"2: many"),
     // Behind edges.
     (
         b".gste g v\n.edge v v\n.weak n\n.con a = 1\n.weak m",
@@ -226,7 +227,7 @@ const WEAKENINGS: &[(&[u8], &[u8])] = &[
     (b".gste g v\n.edge v v\n.weak", b"3: bad"),
     (b".gste g v\n.edge v v\n.weak n m", b"3: bad"),
     (b".gste g v\n.edge v v\n.weak n from 0 to 1", b"3: bad"),
-    (b".gste g v\n.edge v v\n.weak n from 0 to 10001", b"3: bad"),
+    (b".gste g v\n.edge v v\n.weak n from 0 to 100001", b"3: bad"),
     // Outside tasks.
     (b".weak n", b"1: bad"),
     (b".vars p\n.weak n from 0 to 1", b"2: bad"),
@@ -450,7 +451,7 @@ fn answer(alloc: Global, text: &[u8]) -> Result<Vec<u8>, AllocError>
 }
 
 /// A text with numbers from 0 on, each between two others.
-fn counted(
+fn text_with_numbers(
     alloc: Global,
     head: &str,
     before: &str,
@@ -466,11 +467,12 @@ fn counted(
     Ok(out)
 }
 
-/// Head, what stands before each number, how many there are, what stands behind each, the tail, and the answer.
+/// Head, what stands before each number, how many there are, what stands behind each, the tail, and
+/// the answer.
 const COUNTS: &[(&str, &str, u32, &str, &str, &[u8])] = &[
-    (".vars", " v", 1000, "", "\n.foo", b"2: bad"),
-    (".vars", " v", 1001, "", "\n.foo", b"1: many"),
-    (".vars", " v", 1001, "", " v0\n.foo", b"1: double v0"),
+    (".vars", " v", 4000, "", "\n.foo", b"2: bad"),
+    (".vars", " v", 4001, "", "\n.foo", b"1: many"),
+    (".vars", " v", 4001, "", " v0\n.foo", b"1: double v0"),
     ("", ".ste t", 256, "\n", ".foo", b"257: bad"),
     ("", ".ste t", 257, "\n", ".foo", b"257: many"),
     (".gste g v\n", ".edge v v", 999, "\n", ".foo", b"1001: bad"),
@@ -543,7 +545,7 @@ fn weakenings(rt: HostRuntime) -> Result<(), Fail> {
 #[test]
 fn limits(rt: HostRuntime) -> Result<(), Fail> {
     for (head, before, count, after, tail, want) in COUNTS {
-        let text = counted(rt.alloc(), head, before, *count, after, tail)?;
+        let text = text_with_numbers(rt.alloc(), head, before, *count, after, tail)?;
         assert!(rt; text.len() < 1000000);
         let out = answer(rt.alloc(), text.as_slice())?;
         assert_eq!(rt; out.as_slice(), *want, "at {head:?} {count}");

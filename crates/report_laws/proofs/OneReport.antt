@@ -4,7 +4,7 @@ use Rattle.std.specs.Prelude.{if◌then◌else◌, codes, zip}
 use Rattle.std.specs.List.{AllZip, flat_map}
 use Rattle.blif_lines.specs.Lines.{lines_of}
 use Rattle.blif_syntax.specs.declared.models.Model.{Model}
-use Rattle.clock_step.specs.Answer.{IsAnswer}
+use Rattle.clock_step.specs.Answer.{IsInputsAnswer}
 use Rattle.command_line.specs.Command.{Action, Command, bench, check, info, sim}
 use Rattle.hierarchy.specs.Lines.{outputs_of, top}
 use Rattle.hierarchy.specs.Names.{net_named, own_name}
@@ -49,7 +49,7 @@ check_lines steps cubes wave nodes net_text task_text passes bytes one =
     ∙ (ap (λ (x : List ℕ). x ++ nodes_line one.report.shared) (lines_told (map own_name (nets one.models)) one.tasks.vars wave (zip one.tasks.tasks one.report.reports))
     ∙ ap (λ (x : List ℕ). flat_map (λ (t : Told). t.lines) (told_in_check steps cubes wave nodes net_text task_text passes bytes one) ++ x) (sym (append-nil (nodes_line one.report.shared))))
 
--- what two checks of the same texts tell of tasks
+-- what two checks of the same texts report for tasks
 checks_agree : (steps more : Option ℕ) (cubes : ℕ) (wave nodes : Bool) (net_text task_text : List ℕ) (passes others : Bool) (bytes others_bytes : List ℕ) (one : IsCheck steps cubes wave nodes net_text task_text passes bytes) (two : IsCheck more cubes wave nodes net_text task_text others others_bytes) →
     AllZip AgreeOn (told_in_check steps cubes wave nodes net_text task_text passes bytes one) (told_in_check more cubes wave nodes net_text task_text others others_bytes two)
     × (map (λ (t : Told). t.report.verdict) (told_in_check steps cubes wave nodes net_text task_text passes bytes one) ≡ map (λ (t : Told). t.report.verdict) (told_in_check more cubes wave nodes net_text task_text others others_bytes two) → passes ≡ others)
@@ -120,10 +120,10 @@ simulations_same net_text input_text bytes others_bytes one two =
     let same = one_netlist net_text one.models two.models one.flattened.netlist two.flattened.netlist in
     let rows = outputs_same two.models one.net two.net (lines_of input_text) one.inputs two.inputs one.rows two.rows
     (subst (λ (ms : List Model). IsFlat ms one.net) same one.flattened.flat) two.flattened.flat
-    (subst (λ (ms : List Model). IsAnswer (net_named ms) one.net (lines_of input_text) (Ok one.inputs)) same one.given) two.given one.run two.run in
+    (subst (λ (ms : List Model). IsInputsAnswer (net_named ms) one.net (lines_of input_text) (Ok one.inputs)) same one.given) two.given one.run two.run in
     one.written ∙ (ap (λ (ms : List Model). sim_text (outputs_of (top ms)) one.rows) same ∙ (ap (sim_text (outputs_of (top two.models))) rows ∙ sym two.written))
 
--- what tells nothing of tasks is one where its bytes are
+-- what reports nothing of tasks is one where its bytes are
 untold_same : (passes others : Bool) (bytes others_bytes : List ℕ) → passes ≡ others → bytes ≡ others_bytes → AreOne [] [] passes others None None bytes others_bytes bytes others_bytes
 untold_same passes others bytes others_bytes p b = record {
   agree = tt;

@@ -85,7 +85,7 @@ module _ (names : List (List ℕ)) (net : RawNet) (steps cubes : ℕ) (wave : Bo
             ∙ sym (without_line names vars wave None (one ++ other) (f.reports ++ g.reports) refl))));
       }
 
-  -- a report on some tasks, from what is told of them
+  -- a report on some tasks, from what is reported for them
   part_of : (tasks : List Task) (reports : List Report) → AllZip Told tasks reports →
       IsReportOn names net steps cubes wave false (tasks_over vars tasks) (list_all passes_of reports) (flat_map (task_text names vars wave) (zip tasks reports))
   part_of tasks reports told = record {

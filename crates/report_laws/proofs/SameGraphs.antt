@@ -26,7 +26,7 @@ use Rattle.ste_model.specs.GraphShown.{IsCandidate, IsPrintedAlong, IsShownPath}
 use Rattle.ste_model.specs.GraphTable.{IsFeasible, IsLeastClosed, IsReachedWith, Takes, VertexState}
 use Rattle.ste_model.specs.Holds.{IsTaskRun}
 use Rattle.ste_model.specs.Runs.{HasRows, run_of}
-use Rattle.ste_model.specs.Shown.{IsBindable, IsFilled, IsFirst}
+use Rattle.ste_model.specs.Shown.{IsBindable, IsFilled, IsFirstBit}
 use Rattle.ste_model.specs.Trees.{BindTree, EdgeTree, bind_tree, edge_tree, task_tree}
 use Rattle.report_text.specs.Text.{names_net}
 use Rattle.report_laws.proofs.SameRuns.{run_moved, undriven_moved}
@@ -324,9 +324,9 @@ module _ (net other : RawNet) (one twin : Graph) (same : AreSame net other) (bac
             (h.sources i first.0 id first.1 (subst (λ (n : ℕ). id < n) (sym same.nets) l) (undriven_moved other net id back none));
         starts = λ edge here.
             let first = partner more path returned 0 edge here in
-            subst (λ reset. All (λ (latch : Latch). IsFirst reset latch (bind_cuts edge.ant bits) (run 0 latch.output.0)) other.latches) says.reset
-            (subst (λ (cuts : List Cut). All (λ (latch : Latch). IsFirst one.reset latch cuts (run 0 latch.output.0)) other.latches) (sym (first.2.given bits))
-            (subst (λ (latches : List Latch). All (λ (latch : Latch). IsFirst one.reset latch (bind_cuts first.0.ant bits) (run 0 latch.output.0)) latches) same.latches (h.starts first.0 first.1)));
+            subst (λ reset. All (λ (latch : Latch). IsFirstBit reset latch (bind_cuts edge.ant bits) (run 0 latch.output.0)) other.latches) says.reset
+            (subst (λ (cuts : List Cut). All (λ (latch : Latch). IsFirstBit one.reset latch cuts (run 0 latch.output.0)) other.latches) (sym (first.2.given bits))
+            (subst (λ (latches : List Latch). All (λ (latch : Latch). IsFirstBit one.reset latch (bind_cuts first.0.ant bits) (run 0 latch.output.0)) latches) same.latches (h.starts first.0 first.1)));
       }
 
 on_path_moved : (net other : RawNet) (one twin : Graph) → AreSame net other → AreSame other net → GraphSaysSame one twin → (report : Report) → IsPrintedOnPath net one report.least report.path report.run → IsPrintedOnPath other twin report.least report.path report.run

@@ -1,5 +1,5 @@
 -- Flat nets of one hierarchy have the same work functions, so a task needs as many steps over the one as over the other, and what is
--- told of it over the one is so over the other, budgets too.
+-- reported for it over the one is so over the other, budgets too.
 use Rattle.std.proofs.Common.{◌≡◌, ℕ, zero, suc, Bool, true, false, List, [], ◌∷◌, ◌++◌, length, map, get_or, Option, refl, ap, sym, ◌∙◌, inl, inr}
 use Rattle.std.specs.Prelude.{slice_get}
 use Rattle.std.specs.List.{AllZip, flat_map}
@@ -16,7 +16,8 @@ use Rattle.net_core.specs.declared.raw.RawNet.{RawNet}
 use Rattle.net_core.specs.declared.source.Source.{Source}
 use Rattle.net_core.specs.declared.source.Source.TheVariants.{Input, Free, Gate as OfGate, Latch as OfLatch}
 use Rattle.net_core.specs.Source.{source_of}
-use Rattle.net_core.specs.Work.{Function, SymbolicAsked, SymbolicSet, by_gate, by_source, cover_set, cover_work, cuts_work, first_sets, gates_work, input_sets, negation, no_bit, one_gate_work, set_at, some_bit, some_empty, sums, time_work, uncut, unless_weakened}
+use Rattle.ste_base.specs.Functions.{Function}
+use Rattle.net_core.specs.Work.{SymbolicAsked, SymbolicSet, by_gate, by_source, cover_set, cover_work, cuts_work, sets_below, gates_work, input_sets, negation, no_bit, one_gate_work, set_at, some_bit, some_empty, sums, time_work, set_before_cuts, unless_weakened}
 use Rattle.net_core.specs.Possible.{is_weakened}
 use Rattle.ste_model.specs.declared.report.Report.{Report}
 use Rattle.ste_model.specs.declared.task.Assertion.{Assertion}
@@ -110,13 +111,13 @@ module _ (net other : RawNet) (twins : AreTwins net other) where
   by_source_same latches sets (OfGate g) = by_gate_same net other sets net.gates other.gates g twins.covers
   by_source_same latches sets (OfLatch l) = refl
 
-  uncut_same : (weak : List ℕ) (latches : List SymbolicSet) (sets : ℕ → SymbolicSet) (id : ℕ) → uncut net weak latches sets id ≡ uncut other weak latches sets id
+  uncut_same : (weak : List ℕ) (latches : List SymbolicSet) (sets : ℕ → SymbolicSet) (id : ℕ) → set_before_cuts net weak latches sets id ≡ set_before_cuts other weak latches sets id
   uncut_same weak latches sets id = ap (unless_weakened (is_weakened weak id)) (ap (by_source net latches sets) (sources_same net other twins.same id) ∙ by_source_same latches sets (source_of other id))
 
 -- the functions of one time, by the number of nets, their sets before the cuts, and the functions for the gates
 abbrev time_by : ℕ → (ℕ → SymbolicSet) → List Function → SymbolicAsked → (ℕ → SymbolicSet) → List Function
 time_by n before gate_functions asked sets =
-    let all = first_sets sets n in
+    let all = sets_below sets n in
     cuts_work asked.cuts before
     ++ (gate_functions
     ++ (map some_bit all ++ (map no_bit all ++ sums (map no_bit all))))
@@ -127,9 +128,9 @@ Time = List SymbolicSet → SymbolicAsked → (ℕ → SymbolicSet) → List Fun
 
 time_same : (net other : RawNet) → AreTwins net other → time_work net ≡ time_work other
 time_same net other twins = λ i latches asked sets. (
-    ap (λ (n : ℕ). time_by n (uncut net asked.weak latches sets) (gates_work net asked.weak sets net.gates) asked sets) twins.same.nets
+    ap (λ (n : ℕ). time_by n (set_before_cuts net asked.weak latches sets) (gates_work net asked.weak sets net.gates) asked sets) twins.same.nets
     ∙ (ap (λ (before : ℕ → SymbolicSet). time_by other.nets before (gates_work net asked.weak sets net.gates) asked sets) (λ j id. uncut_same net other twins asked.weak latches sets id j)
-    ∙ ap (λ (fs : List Function). time_by other.nets (uncut other asked.weak latches sets) fs asked sets) (gates_work_same net other asked.weak sets net.gates other.gates twins.covers))) i
+    ∙ ap (λ (fs : List Function). time_by other.nets (set_before_cuts other asked.weak latches sets) fs asked sets) (gates_work_same net other asked.weak sets net.gates other.gates twins.covers))) i
 
 -- the net with these nets and latches
 abbrev with_parts : RawNet → ℕ → List Latch → RawNet
@@ -216,7 +217,7 @@ graph_need_moved net other twins vars graph need h = (
   h.3 ∙ ap (node_count vars) (graph_work_same net other twins graph h.0 h.1),
 )
 
--- ---- what is told
+-- ---- what is reported
 
 told_moved : (net other : RawNet) → AreTwins net other → AreTwins other net → (vars steps cubes : ℕ) (task : Task) (report : Report) → IsToldOf net vars steps cubes task report → IsToldOf other vars steps cubes task report
 told_moved net other twins back vars steps cubes (Ste t) report (inl h) = inl (report_moved net other t t twins.same twins.back (says_same t t refl) vars cubes report h)

@@ -29,7 +29,7 @@ use Rattle.ste_model.specs.GraphFound.{IsGraphVerdict}
 use Rattle.ste_model.specs.Holds.{IsTaskRun}
 use Rattle.ste_model.specs.Report.{IsDue, IsFailingPlace, IsPrintedUnder, IsReportOf, IsShown, Prints, Shows, budget_report}
 use Rattle.ste_model.specs.Runs.{HasRows, run_of}
-use Rattle.ste_model.specs.Shown.{IsFilled, IsFirst, IsLatchOutput, IsPrinted, IsQuintBindable}
+use Rattle.ste_model.specs.Shown.{IsFilled, IsFirstBit, IsLatchOutput, IsPrinted, IsQuintBindable}
 use Rattle.ste_model.specs.Trees.{QuintTree, quint_tree, task_tree}
 use Rattle.ste_model.proofs.GraphReports.{one_graph_report_of}
 use Rattle.ste_model.proofs.Reports.{one_report_of}
@@ -43,7 +43,7 @@ use Rattle.report_laws.proofs.SameMoved.{cubes_moved, least_moved}
 use Rattle.ste_program.proofs.SameNets.{AreSame, flats_same}
 use Rattle.report_laws.proofs.SameVerdicts.{SaysSame, back_says, of_contradictory, of_table, says_same, strong_moved, verdict_moved, weak_moved}
 
--- ---- what is told, moved to a net that is the same and an assertion that says the same
+-- ---- what is reported, moved to a net that is the same and an assertion that says the same
 
 bindable_moved : (net other : RawNet) → AreSame net other → (weak again : List Weakening) → weakened_at weak 0 ≡ weakened_at again 0 → (ones twins : List Quint) → map quint_tree ones ≡ map quint_tree twins
     → All (IsQuintBindable net weak) ones → All (IsQuintBindable other again) twins
@@ -88,9 +88,9 @@ module _ (net other : RawNet) (one twin : Assertion) (same : AreSame net other) 
     }));
     sources = λ t id l m none. subst (λ (cuts : List Cut). IsFilled cuts id (run t id)) (says.given bits t)
         (h.sources t id (subst (λ (n : ℕ). t < n) (sym says.deep) l) (subst (λ (n : ℕ). id < n) (sym same.nets) m) (undriven_moved other net id back none));
-    starts = λ l. subst (λ reset. All (λ (latch : Latch). IsFirst reset latch (cuts_at twin.ant bits 0) (run 0 latch.output.0)) other.latches) says.reset
-        (subst (λ (cuts : List Cut). All (λ (latch : Latch). IsFirst one.reset latch cuts (run 0 latch.output.0)) other.latches) (says.given bits 0)
-        (subst (λ (latches : List Latch). All (λ (latch : Latch). IsFirst one.reset latch (cuts_at one.ant bits 0) (run 0 latch.output.0)) latches) same.latches (h.starts (subst (λ (n : ℕ). 0 < n) (sym says.deep) l))));
+    starts = λ l. subst (λ reset. All (λ (latch : Latch). IsFirstBit reset latch (cuts_at twin.ant bits 0) (run 0 latch.output.0)) other.latches) says.reset
+        (subst (λ (cuts : List Cut). All (λ (latch : Latch). IsFirstBit one.reset latch cuts (run 0 latch.output.0)) other.latches) (says.given bits 0)
+        (subst (λ (latches : List Latch). All (λ (latch : Latch). IsFirstBit one.reset latch (cuts_at one.ant bits 0) (run 0 latch.output.0)) latches) same.latches (h.starts (subst (λ (n : ℕ). 0 < n) (sym says.deep) l))));
   }
 
   due_moved : (verdict : Verdict) → IsDue net one verdict → IsDue other twin verdict
@@ -152,7 +152,7 @@ module _ (net other : RawNet) (one twin : Assertion) (same : AreSame net other) 
     run = prints_moved report h.run;
   }
 
--- ---- what is told agrees
+-- ---- what is reported agrees
 
 -- the verdict of a report
 abbrev verdict_in : Report → Verdict
@@ -216,7 +216,7 @@ text_alike names vars wave t u r same =
     ap (λ (text : List ℕ). r.name ++ codes ": " ++ verdict_words r.verdict ++ codes "\n" ++ guards_text vars r.guards ++ least_line vars r.least ++ path_line r.path ++ fails_line names r.fails ++ text)
     (run_alike names wave t u r.run same)
 
--- what is told of two tasks that say the same
+-- what is reported for two tasks that say the same
 pub record AreToldAlike (names vars : List (List ℕ)) (wave : Bool) (t u : Task) (r q : Report) : Type 0 where
   pub agree : Agree r q
   pub same : r.verdict ≡ q.verdict → r ≡ q
@@ -243,7 +243,7 @@ task_alike net other names vars wave cubes m n same back range settled (Gste t) 
       text = λ v. text_alike names vars wave (Gste t) (Gste u) r (graph_named_alike t u says) ∙ ap (λ (x : Report). task_text names vars wave (Gste u, x)) (one v f g);
     }
 
--- the reports of what is told
+-- the reports of what is reported for tasks
 abbrev verdict_of : Told → Verdict
 verdict_of told = told.report.verdict
 
@@ -281,7 +281,7 @@ lines_same (r ∷ told) (q ∷ twins) all v =
     let later : map verdict_of told ≡ map verdict_of twins = cc v in
     ap (λ (x : List ℕ). x ++ flat_map (λ (t : Told). t.lines) told) (all.0.lines here) ∙ ap (λ (x : List ℕ). q.lines ++ x) (lines_same told twins all.1 later)
 
--- the lines of what is told are the text of the tasks
+-- the lines of what is reported are the text of the tasks
 pub lines_told : (names vars : List (List ℕ)) (wave : Bool) (ats : List (Task × Report)) → flat_map (task_text names vars wave) ats ≡ flat_map (λ (t : Told). t.lines) (map (told_at names vars wave) ats)
 lines_told names vars wave [] = refl
 lines_told names vars wave (at ∷ ats) = ap (λ (x : List ℕ). task_text names vars wave at ++ x) (lines_told names vars wave ats)

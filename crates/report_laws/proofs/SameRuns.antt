@@ -4,7 +4,7 @@ use Rattle.std.specs.Prelude.{◌≢◌, All, slice_index_or}
 use Rattle.std.specs.List.{AllZip}
 use Rattle.blif_lines.specs.declared.lines.Line.{Line}
 use Rattle.blif_syntax.specs.declared.models.Model.{Model}
-use Rattle.clock_step.specs.Answer.{IsAnswer}
+use Rattle.clock_step.specs.Answer.{IsInputsAnswer}
 use Rattle.clock_step.specs.Simulation.{AreOutputs, IsSimulation, bit_in, first_bit, first_bits}
 use Rattle.clock_step.specs.declared.inputs.Inputs.{Inputs}
 use Rattle.clock_step.proofs.OneAnswer.{one_answer, one_simulation}
@@ -86,7 +86,7 @@ inputs_as net one other rows nodes words h = record {
 
 -- two flat nets of a hierarchy have the same outputs on what lines spell
 pub outputs_same : (models : List Model) (net other : RawNet) (lines : List Line) (one two : Inputs) (rows others : List (List Bool)) → IsFlat models net → IsFlat models other →
-    IsAnswer (net_named models) net lines (Ok one) → IsAnswer (net_named models) other lines (Ok two) → AreOutputs net one rows → AreOutputs other two others → rows ≡ others
+    IsInputsAnswer (net_named models) net lines (Ok one) → IsInputsAnswer (net_named models) other lines (Ok two) → AreOutputs net one rows → AreOutputs other two others → rows ≡ others
 outputs_same models net other lines one two rows others f g p q a b =
     let same = flats_same models net other f g in
     let back = flats_same models other net g f in

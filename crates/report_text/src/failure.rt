@@ -1,4 +1,5 @@
-//! What a failure shows: the least assignment, the path and the failing place; begin with `put_least`.
+//! What a failure shows: the least assignment, the path and the failing place; begin with
+//! `put_least`.
 
 ghost use Rattle.std.specs.Prelude.{◌≡◌, ◌<◌, ◌++◌, [], IfOk, IfSome, Some, flat_map, length, slice_index_or, zip};
 ghost use Rattle.report_text.specs.Text.{bit_part, edge_part, fails_line, least_line, path_line};
@@ -32,7 +33,7 @@ fn put_bits(text: &mut Vec<u8>, vars: &[Name], bits: &[bool]) -> Result<(), Allo
     Ok(())
 }
 
-/// Puts the line of the least assignment behind a text, where one is told.
+/// Puts the line of the least assignment behind a text, where there is one.
 pub fn put_least(
     text: &mut Vec<u8>,
     vars: &[Name],
@@ -67,7 +68,7 @@ fn put_edges(alloc: Global, text: &mut Vec<u8>, edges: &[u32]) -> Result<(), All
     Ok(())
 }
 
-/// Puts the line of the shown path behind a text, where one is told.
+/// Puts the line of the shown path behind a text, where there is one.
 pub fn put_path(alloc: Global, text: &mut Vec<u8>, edges: &[u32]) -> Result<(), AllocError>
     ensures { IfOk result (λ _. text.new.items ≡ text.old.items ++ path_line edges.now) }
 {
@@ -109,7 +110,7 @@ fn put_place(
     Ok(())
 }
 
-/// Puts the line of the failing place behind a text, where one is told.
+/// Puts the line of the failing place behind a text, where there is one.
 pub fn put_fails(
     alloc: Global,
     text: &mut Vec<u8>,

@@ -1,4 +1,5 @@
-//! The text of a report: the lines of each task, as bytes. Begin with `render`; `put_codes` serves other texts with bits.
+//! The text of a report: the lines of each task, as bytes. Begin with `render`; `put_codes` serves
+//! other texts with bits.
 #![tactic(auto)]
 
 mod cubes;

@@ -97,7 +97,7 @@ fn put_count(alloc: Global, text: &mut Vec<u8>, nodes: u32) -> Result<(), AllocE
     Ok(())
 }
 
-/// Puts the line of the number of shared nodes behind a text, where it is told.
+/// Puts the line of the number of shared nodes behind a text, where it is asked for.
 fn put_nodes(alloc: Global, text: &mut Vec<u8>, nodes: Option<u32>) -> Result<(), AllocError>
     ensures { IfOk result (λ _. text.new.items ≡ text.old.items ++ nodes_line nodes) }
 {
@@ -107,8 +107,9 @@ fn put_nodes(alloc: Global, text: &mut Vec<u8>, nodes: Option<u32>) -> Result<()
     }
 }
 
-/// The text of the reports of tasks, one for each task in order, over nets with these names. A run shows the nets that its
-/// task names, with `wave` all nets. `nodes` is the number of shared nodes, where it is to be told.
+/// The text of the reports of tasks, one for each task in order, over nets with these names. A run
+/// shows the nets that its task names, with `wave` all nets. `nodes` is the number of shared nodes,
+/// where it is asked for.
 ///
 /// The time is linear in the text, in the tasks, and in the cells of the runs.
 pub fn render(

@@ -108,7 +108,7 @@ fn put_lines(
     Ok(())
 }
 
-/// Puts the lines of the run of a task behind a text, where one is told: of the nets that the task
+/// Puts the lines of the run of a task behind a text, where there is one: of the nets that the task
 /// names, with `wave` of all nets.
 pub fn put_run(
     alloc: Global,

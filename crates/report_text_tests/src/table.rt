@@ -12,9 +12,9 @@ pub enum Named {
     Gste(&'static [(&'static [u32], &'static [u32])]),
 }
 
-/// What is told of a task.
+/// What is reported of a task.
 #[derive(Clone, Copy)]
-pub struct Told {
+pub struct Reported {
     pub name: &'static str,
     pub named: Named,
     pub verdict: Verdict,
@@ -28,11 +28,11 @@ pub struct Told {
     pub run: Option<&'static [&'static str]>,
 }
 
-/// What is told of the tasks of a file, and its text.
+/// What is reported of the tasks of a file, and its text.
 pub struct Entry {
     pub netlist: &'static str,
     pub vars: &'static [&'static str],
-    pub tasks: &'static [Told],
+    pub tasks: &'static [Reported],
     pub wave: bool,
     pub nodes: Option<u32>,
     pub text: &'static str,
@@ -61,7 +61,7 @@ pub const ASSERTIONS: &[Entry] = &[
     Entry {
         netlist: INV,
         vars: &["p"],
-        tasks: &[Told {
+        tasks: &[Reported {
             name: "t1",
             named: Named::Ste(&[0], &[1]),
             verdict: Verdict::Pass,
@@ -78,7 +78,7 @@ pub const ASSERTIONS: &[Entry] = &[
     Entry {
         netlist: INV,
         vars: &["p"],
-        tasks: &[Told {
+        tasks: &[Reported {
             name: "t1",
             named: Named::Ste(&[0], &[1]),
             verdict: Verdict::Strong,
@@ -96,7 +96,7 @@ pub const ASSERTIONS: &[Entry] = &[
     Entry {
         netlist: INV,
         vars: &["p"],
-        tasks: &[Told {
+        tasks: &[Reported {
             name: "t1",
             named: Named::Ste(&[], &[1]),
             verdict: Verdict::Weak,
@@ -114,7 +114,7 @@ pub const ASSERTIONS: &[Entry] = &[
     Entry {
         netlist: INV,
         vars: &["p"],
-        tasks: &[Told {
+        tasks: &[Reported {
             name: "t1",
             named: Named::Ste(&[0, 0], &[1]),
             verdict: Verdict::Vacuous,
@@ -131,7 +131,7 @@ pub const ASSERTIONS: &[Entry] = &[
     Entry {
         netlist: INV,
         vars: &["p", "q"],
-        tasks: &[Told {
+        tasks: &[Reported {
             name: "t1",
             named: Named::Ste(&[0, 0], &[1]),
             verdict: Verdict::Pass,
@@ -149,7 +149,7 @@ pub const ASSERTIONS: &[Entry] = &[
     Entry {
         netlist: BOTH_SIGNS,
         vars: &[],
-        tasks: &[Told {
+        tasks: &[Reported {
             name: "g",
             named: Named::Ste(&[], &[2]),
             verdict: Verdict::Weak,
@@ -171,7 +171,7 @@ pub const PATHS_AND_LISTS: &[Entry] = &[
     Entry {
         netlist: LAT,
         vars: &[],
-        tasks: &[Told {
+        tasks: &[Reported {
             name: "g",
             named: Named::Gste(&[(&[0], &[]), (&[0], &[]), (&[], &[1])]),
             verdict: Verdict::Weak,
@@ -188,7 +188,7 @@ pub const PATHS_AND_LISTS: &[Entry] = &[
     Entry {
         netlist: LAT,
         vars: &["p"],
-        tasks: &[Told {
+        tasks: &[Reported {
             name: "g",
             named: Named::Gste(&[(&[0], &[]), (&[], &[1])]),
             verdict: Verdict::Strong,
@@ -206,7 +206,7 @@ pub const PATHS_AND_LISTS: &[Entry] = &[
     Entry {
         netlist: LAT,
         vars: &["p"],
-        tasks: &[Told {
+        tasks: &[Reported {
             name: "g",
             named: Named::Gste(&[(&[0, 0], &[]), (&[], &[1])]),
             verdict: Verdict::Strong,
@@ -224,7 +224,7 @@ pub const PATHS_AND_LISTS: &[Entry] = &[
     Entry {
         netlist: INV,
         vars: &["p"],
-        tasks: &[Told {
+        tasks: &[Reported {
             name: "t1",
             named: Named::Ste(&[0], &[1]),
             verdict: Verdict::Weak,
@@ -242,7 +242,7 @@ pub const PATHS_AND_LISTS: &[Entry] = &[
     Entry {
         netlist: INV,
         vars: &["p"],
-        tasks: &[Told {
+        tasks: &[Reported {
             name: "t1",
             named: Named::Ste(&[0], &[1]),
             verdict: Verdict::Strong,
@@ -264,7 +264,7 @@ pub const NETS_AND_TASKS: &[Entry] = &[
     Entry {
         netlist: TWO_LEVELS,
         vars: &["p"],
-        tasks: &[Told {
+        tasks: &[Reported {
             name: "h",
             named: Named::Ste(&[0], &[1]),
             verdict: Verdict::Strong,
@@ -281,7 +281,7 @@ pub const NETS_AND_TASKS: &[Entry] = &[
     Entry {
         netlist: TWO_LEVELS,
         vars: &["p"],
-        tasks: &[Told {
+        tasks: &[Reported {
             name: "h",
             named: Named::Ste(&[0], &[3]),
             verdict: Verdict::Strong,
@@ -295,11 +295,11 @@ pub const NETS_AND_TASKS: &[Entry] = &[
         nodes: None,
         text: "h: strong failure\n  strong: 1\n  least: p=0\n  fails: 0/n at 0\n  run:\n    a: 0\n    0/n: 1\n",
     },
-    // All three lists, two of them longer than what is told of them, and a number beyond the nets.
+    // All three lists, two of them longer than what is shown of them, and a number beyond the nets.
     Entry {
         netlist: LAT,
         vars: &["p", "_q", "r2"],
-        tasks: &[Told {
+        tasks: &[Reported {
             name: "t",
             named: Named::Ste(&[1], &[99]),
             verdict: Verdict::Strong,
@@ -318,7 +318,7 @@ pub const NETS_AND_TASKS: &[Entry] = &[
         netlist: LAT,
         vars: &["p"],
         tasks: &[
-            Told {
+            Reported {
                 name: "r",
                 named: Named::Ste(&[], &[1]),
                 verdict: Verdict::Pass,
@@ -328,7 +328,7 @@ pub const NETS_AND_TASKS: &[Entry] = &[
                 fails: None,
                 run: None,
             },
-            Told {
+            Reported {
                 name: "f",
                 named: Named::Ste(&[], &[1]),
                 verdict: Verdict::Weak,
@@ -338,7 +338,7 @@ pub const NETS_AND_TASKS: &[Entry] = &[
                 fails: Some((1, 0)),
                 run: None,
             },
-            Told {
+            Reported {
                 name: "b",
                 named: Named::Gste(&[(&[0], &[1])]),
                 verdict: Verdict::Budget,

@@ -3,8 +3,8 @@
 ghost use Rattle.std.specs.Prelude.{◌≡◌, ◌≤◌, ◌<◌, IfOk, IfSome, OnOk, length};
 
 use crate::netlists::{Names, names_of};
-use crate::table::{ASSERTIONS, Entry, NETS_AND_TASKS, Named, PATHS_AND_LISTS, Told};
-use crate::told::{report_of, reports_of, tasks_of};
+use crate::reported::{report_of, reports_of, tasks_of};
+use crate::table::{ASSERTIONS, Entry, NETS_AND_TASKS, Named, PATHS_AND_LISTS, Reported};
 use report_text::render;
 use std::alloc::{AllocError, Global};
 use std::test::Fail;
@@ -12,7 +12,7 @@ use ste_base::{Items, Name, VarId};
 use ste_model::{Cube, Report, Tasks, Verdict};
 
 /// The names of the nets of a netlist.
-fn known(alloc: Global, netlist: &str) -> Result<Names, Fail> {
+fn names_in(alloc: Global, netlist: &str) -> Result<Names, Fail> {
     let bytes = netlist.as_bytes();
     if bytes.len() > 20000 {
         return Err("a long text".into());
@@ -25,11 +25,11 @@ fn text_of_tasks(
     alloc: Global,
     names: &Names,
     tasks: &Tasks,
-    told: &[Told],
+    reported: &[Reported],
     wave: bool,
     nodes: Option<u32>,
 ) -> Result<Vec<u8>, Fail> {
-    let reports = reports_of(alloc, names.nets, told)?;
+    let reports = reports_of(alloc, names.nets, reported)?;
     Ok(render(alloc, &names.own, tasks, reports.as_slice(), wave, nodes)?)
 }
 
@@ -41,7 +41,7 @@ fn text_of_entry(alloc: Global, names: &Names, entry: &Entry) -> Result<Vec<u8>,
 
 /// The text of the reports of an entry.
 fn text_of(alloc: Global, entry: &Entry) -> Result<Vec<u8>, Fail> {
-    let names = known(alloc, entry.netlist)?;
+    let names = names_in(alloc, entry.netlist)?;
     text_of_entry(alloc, &names, entry)
 }
 
@@ -74,8 +74,8 @@ fn texts_of_nets_and_tasks(rt: HostRuntime) -> Result<(), Fail> {
 
 const ONE_NET: &str = ".model m\n.inputs d\n.end\n";
 
-/// A failure of which nothing is told but its place.
-const FAILURE: Told = Told {
+/// A failure of which contracts know nothing but its place.
+const FAILURE: Reported = Reported {
     name: "f",
     named: Named::Ste(&[], &[0]),
     verdict: Verdict::Strong,
@@ -90,16 +90,16 @@ const FAILURE: Told = Told {
 fn text_with(
     alloc: Global,
     names: &Names,
-    tasks: &[Told],
-    reports: &[Told],
+    tasks: &[Reported],
+    reports: &[Reported],
 ) -> Result<Vec<u8>, Fail> {
     let tasks = tasks_of(alloc, &[], tasks)?;
     text_of_tasks(alloc, names, &tasks, reports, false, Some(1))
 }
 
 /// The same over one net.
-fn text_over(alloc: Global, tasks: &[Told], reports: &[Told]) -> Result<Vec<u8>, Fail> {
-    let names = known(alloc, ONE_NET)?;
+fn text_over(alloc: Global, tasks: &[Reported], reports: &[Reported]) -> Result<Vec<u8>, Fail> {
+    let names = names_in(alloc, ONE_NET)?;
     text_with(alloc, &names, tasks, reports)
 }
 
@@ -147,7 +147,7 @@ fn many_bits(alloc: Global) -> Result<Items<bool>, AllocError> {
     Ok(bits)
 }
 
-/// Tells a report of those bits, and of more.
+/// Makes a report of those bits, and of more.
 fn widen(alloc: Global, report: &mut Report) -> Result<(), AllocError>
     ensures fails { OnOk result (report.new.fails ≡ report.old.fails) }
     ensures run { OnOk result (report.new.run ≡ report.old.run) }
@@ -183,7 +183,7 @@ fn text_of_wide(alloc: Global, names: &Names, tasks: &Tasks) -> Result<Vec<u8>, 
 
 /// The same over one net.
 fn text_of_wide_failure(alloc: Global) -> Result<Vec<u8>, Fail> {
-    let names = known(alloc, ONE_NET)?;
+    let names = names_in(alloc, ONE_NET)?;
     let tasks = wide_tasks(alloc)?;
     text_of_wide(alloc, &names, &tasks)
 }

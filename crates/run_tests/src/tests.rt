@@ -14,9 +14,9 @@ use std::test::Fail;
 use ste_base::{Items, Name, NodeId, Time, VarId};
 use ste_model::{Assertion, Bind, Edge, Graph, Quint};
 
-/// An input d, which is net 0, and free nets f, which is net 2, and z, which is net 7. Latches: q takes d and has initial
-/// value 1, p takes w and has 0, r takes f and has neither. Gates, the later one first: w is y or p, but not both; y is d and
-/// f. Net 1 is q, 3 p, 4 r, 5 y and 6 w.
+/// An input d, which is net 0, and free nets f, which is net 2, and z, which is net 7. Latches: q
+/// takes d and has initial value 1, p takes w and has 0, r takes f and has neither. Gates, the
+/// later one first: w is y or p, but not both; y is d and f. Net 1 is q, 3 p, 4 r, 5 y and 6 w.
 const SAMPLE: &str =
     ".model m\n.inputs d\n.outputs q f p r y w z\n.latch d q 1\n.latch w p 0\n.latch f r\n.names y p w\n10 1\n01 1\n.names d f y\n0- 0\n-0 0\n";
 
@@ -119,8 +119,8 @@ fn rows_at(alloc: Global, rows: &[Items<bool>], t: usize) -> Result<Vec<Items<bo
     Ok(found)
 }
 
-/// Whether a run of 67 times has at this one the bits of a run of one time, from what the latches hold by then; and what
-/// they hold next.
+/// Whether a run of 67 times has at this one the bits of a run of one time, from what the latches
+/// hold by then; and what they hold next.
 fn agrees_at(
     alloc: Global,
     net: &Net,
@@ -192,7 +192,7 @@ fn a_long_run_is_step_by_step(rt: HostRuntime) -> Result<(), Fail> {
 }
 
 /// The value of the variable, or 1.
-fn asked(variable: bool) -> Expr {
+fn variable_or_one(variable: bool) -> Expr {
     if variable {
         Expr::Var(VarId(0))
     } else {
@@ -203,16 +203,16 @@ fn asked(variable: bool) -> Expr {
 /// A quintuple that asks for the variable, or for 1, of a net, where the variable is 1, or always.
 fn quint(guard: bool, node: u32, value: bool, from: Time, to: Time) -> Quint {
     Quint {
-        guard: asked(guard),
+        guard: variable_or_one(guard),
         node: NodeId(node),
-        value: asked(value),
+        value: variable_or_one(value),
         from,
         to,
     }
 }
 
-/// d has the variable at times 0 and 1, and f has 1 at time 1 where the variable is 1; with `latch` q has 1 at time 0. The
-/// depth is 3.
+/// d has the variable at times 0 and 1, and f has 1 at time 1 where the variable is 1; with `latch`
+/// q has 1 at time 0. The depth is 3.
 fn task(alloc: Global, reset: bool, latch: bool) -> Result<Assertion, AllocError> {
     let mut ant = Items::new(alloc);
     ant.push(quint(false, 0, true, 0, 2))?;
@@ -240,7 +240,13 @@ fn ask_of_nets(net: &Net, quints: &[Quint]) -> bool
 }
 
 /// The rows of the printed run of such a task.
-fn printed(alloc: Global, net: &Net, reset: bool, latch: bool, bit: bool) -> Result<Vec<u8>, Fail> {
+fn printed_rows(
+    alloc: Global,
+    net: &Net,
+    reset: bool,
+    latch: bool,
+    bit: bool,
+) -> Result<Vec<u8>, Fail> {
     let task = task(alloc, reset, latch)?;
     if !ask_of_nets(net, task.ant.as_slice()) {
         return Err("no such net".into());
@@ -253,10 +259,11 @@ fn printed(alloc: Global, net: &Net, reset: bool, latch: bool, bit: bool) -> Res
 /// The rows of the printed run of such a task on the sample.
 fn sample_printed(alloc: Global, reset: bool, latch: bool, bit: bool) -> Result<Vec<u8>, Fail> {
     let net = net_of(alloc, SAMPLE)?;
-    printed(alloc, &net, reset, latch, bit)
+    printed_rows(alloc, &net, reset, latch, bit)
 }
 
-/// Whether a task has reset, whether it gives q a bit, the variable's bit, and the rows of the printed run.
+/// Whether a task has reset, whether it gives q a bit, the variable's bit, and the rows of the
+/// printed run.
 const PRINTED: &[(bool, bool, bool, &[u8])] = &[
     (false, true, true, b" 110 111 010 001 001 010 011 000"),
     (false, true, false, b" 000 100 000 000 000 000 000 000"),
@@ -273,13 +280,14 @@ fn printed_runs_have_what_is_asked_and_0_elsewhere(rt: HostRuntime) -> Result<()
     Ok(())
 }
 
-/// An edge whose antecedent asks for the variable, or for 1, of d, where the variable is 1, or always.
+/// An edge whose antecedent asks for the variable, or for 1, of d, where the variable is 1, or
+/// always.
 fn edge(alloc: Global, from: u32, guard: bool, value: bool) -> Result<Edge, AllocError> {
     let mut ant = Items::new(alloc);
     ant.push(Bind {
-        guard: asked(guard),
+        guard: variable_or_one(guard),
         node: NodeId(0),
-        value: asked(value),
+        value: variable_or_one(value),
     })?;
     Ok(Edge {
         from,
@@ -290,7 +298,8 @@ fn edge(alloc: Global, from: u32, guard: bool, value: bool) -> Result<Edge, Allo
     })
 }
 
-/// Edges to vertex 1: from vertex 0 d has the variable; from vertex 1 d has 1, or has it where the variable is 1.
+/// Edges to vertex 1: from vertex 0 d has the variable; from vertex 1 d has 1, or has it where the
+/// variable is 1.
 fn graph(alloc: Global, reset: bool) -> Result<Graph, AllocError> {
     let mut vertices = Items::new(alloc);
     vertices.push(Name::from_bytes(alloc, b"a")?)?;
@@ -355,7 +364,8 @@ fn along(alloc: Global, reset: bool, path: &[u32], bit: bool) -> Result<Vec<u8>,
     run_on_path(alloc, &net, &graph, path, bit)
 }
 
-/// Whether a graph has reset, the edges of a path, the variable's bit, and the rows of the printed run.
+/// Whether a graph has reset, the edges of a path, the variable's bit, and the rows of the printed
+/// run.
 const ALONG: &[(bool, &[u32], bool, &[u8])] = &[
     (true, &[], true, b"  "),
     (false, &[0], true, b" 1 0"),

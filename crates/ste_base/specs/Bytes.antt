@@ -1,4 +1,5 @@
--- Meaning. Single bytes by name, and kinds of bytes in texts; which bytes are blanks is this project's own choice.
+-- Meaning. Single bytes by name, and kinds of bytes in texts; which bytes are blanks is this
+-- project's own choice.
 use Rattle.std.specs.Prelude.{ℕ, Bool, ◌&&◌, ◌||◌, nat_eq, nat_le}
 
 -- single bytes: a space, the end of a physical line, and then \ # . = - 0 1
@@ -35,7 +36,8 @@ is_blank byte = nat_eq byte space || nat_eq byte 9 || nat_eq byte 13
 
 -- a letter or `_`
 abbrev pub is_letter : ℕ → Bool
-is_letter byte = (nat_le 97 byte && nat_le byte 122) || (nat_le 65 byte && nat_le byte 90) || nat_eq byte 95
+is_letter byte = (nat_le 97 byte && nat_le byte 122) || (nat_le 65 byte && nat_le byte 90)
+    || nat_eq byte 95
 
 -- a decimal digit
 abbrev pub is_digit : ℕ → Bool

@@ -6,7 +6,7 @@ use Rattle.std.proofs.lemmas.Bool.{cases_eq, eqb-true, ltb-true}
 use Rattle.std.proofs.lemmas.List.Elements.{All-head, All-tail}
 use Rattle.bool_expr.specs.Value.{value_of}
 use Rattle.dd_nodes.specs.declared.node.Ref.{Ref}
-use Rattle.dd_nodes.specs.Diagram.{Function}
+use Rattle.ste_base.specs.Functions.{Function}
 use Rattle.dd_nodes.specs.Stores.{Means, Store, function}
 use Rattle.dd_nodes.proofs.Stores.{IsGood}
 use Rattle.dd_ops.proofs.Terminal.{one_bit, zero_bit}
@@ -190,7 +190,7 @@ first_place failure net task vars table whole t u gt gu tv uv k lt nets cuts bef
       earliest = none_before failure task table bits k (sym (m.value bits (long ∙ sym tv)) ∙ zero_bit t before bits gt at.nothing);
     }
 
--- a net that is told at a time is that of the first consequent that fails so, where nothing was found before
+-- a net that is found at a time is that of the first consequent that fails so, where nothing was found before
 pub clear_at : (failure : Failure) (nets : List Rails) (cuts : List Cut) (before after : Ref) → IfSome (first_at failure nets cuts before after) (IsFirstAt failure nets cuts before)
 clear_at failure nets cuts before after = by (is_first before after && are_fixed nets cuts) refl (first_failing failure nets cuts) refl
   where
@@ -201,7 +201,7 @@ clear_at failure nets cuts before after = by (is_first before after && are_fixed
         let parts = both_true (is_first before after) (are_fixed nets cuts) e in
         record { nothing = eqb-true before.0 0 (both_true (before.0 == 0) (not (after.0 == 0)) parts.0).0; fixed = parts.1; first = is }
 
--- a place is that of before, or one of a net that is told at the time
+-- a place is that of before, or one of a net that is found at the time
 pub old_or_clear : (node : Option NodeId) (time : ℕ) (old new : Option (NodeId × ℕ)) (P : NodeId → Type 0) → new ≡ place_or node time old → IfSome node P → IfSome new (λ place. (old ≡ Some place) ⊎ (P place.0 × (place.1 ≡ time)))
 old_or_clear node time old new P is h = subst (λ (x : Option (NodeId × ℕ)). IfSome x (λ place. (old ≡ Some place) ⊎ (P place.0 × (place.1 ≡ time)))) (sym is) (by node old h)
   where

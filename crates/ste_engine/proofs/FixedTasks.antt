@@ -20,10 +20,10 @@ use Rattle.ste_model.specs.Found.{IsTableOf}
 use Rattle.ste_model.specs.Need.{IsWholeTable}
 use Rattle.ste_model.specs.Table.{latch_sets}
 use Rattle.ste_model.specs.Work.{constant_set, has_time, latches_at, symbolic_cut, symbolic_cuts_at}
-use Rattle.ste_engine.specs.declared.asks.Ask.{Ask}
-use Rattle.ste_engine.specs.private.Asks.{AreAsks}
+use Rattle.ste_engine.specs.declared.timed_cuts.TimedCut.{TimedCut}
+use Rattle.ste_engine.specs.private.TimedCuts.{AreTimedCuts}
 use Rattle.engine_parts.specs.Failing.{fixed_quint}
-use Rattle.ste_engine.specs.private.Places.{fixed_asks, fixed_task}
+use Rattle.ste_engine.specs.private.Places.{fixed_timed_cuts, fixed_task}
 use Rattle.engine_parts.proofs.Constants.{AreConstantCuts, AreConstantSets, IsConstantFamily, const_is, const_means, const_value, set_of_bits}
 
 -- ---- what is asked
@@ -57,17 +57,17 @@ module _ (bits : List Bool) where
 
   -- ---- by references
 
-  pub fixed_are : (s : Store) (place : ℕ) (quints : List Quint) → IsGood s → AreAsks s place (map (fixed_quint bits) quints) (fixed_asks bits place quints)
+  pub fixed_are : (s : Store) (place : ℕ) (quints : List Quint) → IsGood s → AreTimedCuts s place (map (fixed_quint bits) quints) (fixed_timed_cuts bits place quints)
   fixed_are s place [] d = tt
   fixed_are s place (q ∷ qs) d = (
     record { node = refl; from = refl; to = refl; guard = const_means s (value_of q.guard bits) d; value = const_means s (value_of q.value bits) d; placed = refl },
     fixed_are s (suc place) qs d,
   )
 
-  pub fixed_within : (n place : ℕ) (quints : List Quint) → All (λ quint. quint.to ≤ n) quints → All (λ ask. ask.to ≤ n) (fixed_asks bits place quints)
-  fixed_within n place [] within = All-nil (λ (ask : Ask). ask.to ≤ n)
+  pub fixed_within : (n place : ℕ) (quints : List Quint) → All (λ quint. quint.to ≤ n) quints → All (λ timed_cut. timed_cut.to ≤ n) (fixed_timed_cuts bits place quints)
+  fixed_within n place [] within = All-nil (λ (timed_cut : TimedCut). timed_cut.to ≤ n)
   fixed_within n place (q ∷ qs) within =
-      All-cons (λ (ask : Ask). ask.to ≤ n) _ (fixed_asks bits (suc place) qs) (All-head (λ (quint : Quint). quint.to ≤ n) q qs within)
+      All-cons (λ (timed_cut : TimedCut). timed_cut.to ≤ n) _ (fixed_timed_cuts bits (suc place) qs) (All-head (λ (quint : Quint). quint.to ≤ n) q qs within)
       (fixed_within n (suc place) qs (All-tail (λ (quint : Quint). quint.to ≤ n) q qs within))
 
   -- ---- all is constant

@@ -3,7 +3,7 @@ use Rattle.std.proofs.Common.{◌≡◌, ℕ, zero, suc, ◌<◌, List, [], ◌�
 use Rattle.std.proofs.lemmas.List.Elements.{Contains-append_cases}
 use Rattle.bool_expr.specs.Value.{value_of}
 use Rattle.dd_nodes.specs.declared.node.Ref.{Ref}
-use Rattle.dd_nodes.specs.Diagram.{Function}
+use Rattle.ste_base.specs.Functions.{Function}
 use Rattle.dd_nodes.specs.Stores.{Store, Means}
 use Rattle.dd_nodes.proofs.Members.{Contains-cons_cases, Contains-none}
 use Rattle.net_core.specs.declared.raw.RawNet.{RawNet}
@@ -15,20 +15,20 @@ use Rattle.ste_model.specs.declared.task.Quint.{Quint}
 use Rattle.ste_model.specs.Asked.{depth}
 use Rattle.ste_model.specs.Need.{kept_functions, quint_functions, set_functions}
 use Rattle.ste_model.specs.Work.{contradictory_where, over_times, strong_where, weak_where}
-use Rattle.ste_engine.specs.declared.asks.Ask.{Ask}
-use Rattle.ste_engine.specs.private.Asks.{AreAsks}
+use Rattle.ste_engine.specs.declared.timed_cuts.TimedCut.{TimedCut}
+use Rattle.ste_engine.specs.private.TimedCuts.{AreTimedCuts}
 
 abbrev HasRef : Store → Function → Type 0
 HasRef t f = (x : Ref) × Means t f x
 
-quint_refs : (t : Store) (place : ℕ) (quints : List Quint) (asks : List Ask) → AreAsks t place quints asks → (f : Function) → Contains (quint_functions quints) f → HasRef t f
-quint_refs t place [] asks fit f has = absurd (Contains-none f has)
+quint_refs : (t : Store) (place : ℕ) (quints : List Quint) (timed_cuts : List TimedCut) → AreTimedCuts t place quints timed_cuts → (f : Function) → Contains (quint_functions quints) f → HasRef t f
+quint_refs t place [] timed_cuts fit f has = absurd (Contains-none f has)
 quint_refs t place (q ∷ quints) [] fit f has = absurd fit
-quint_refs t place (q ∷ quints) (a ∷ asks) fit f has = ⊎_elim
+quint_refs t place (q ∷ quints) (a ∷ timed_cuts) fit f has = ⊎_elim
     (λ (e : value_of q.guard ≡ f). subst (HasRef t) e (a.cut.guard, fit.0.guard))
     (λ (rest : Contains (value_of q.value ∷ quint_functions quints) f). ⊎_elim
     (λ (e : value_of q.value ≡ f). subst (HasRef t) e (a.cut.value, fit.0.value))
-    (λ (later : Contains (quint_functions quints) f). quint_refs t (suc place) quints asks fit.1 f later)
+    (λ (later : Contains (quint_functions quints) f). quint_refs t (suc place) quints timed_cuts fit.1 f later)
     (Contains-cons_cases (value_of q.value) (quint_functions quints) f rest))
     (Contains-cons_cases (value_of q.guard) (value_of q.value ∷ quint_functions quints) f has)
 
@@ -54,7 +54,7 @@ time_refs t at_time (suc n) have f has = ⊎_elim
     (Contains-append_cases (over_times at_time n) (at_time n) f has)
 
 -- each kept function has a reference
-pub kept_refs : (net : RawNet) (task : Assertion) (table : ℕ → ℕ → SymbolicSet) (t : Store) (ant con : List Ask) (strong weak contradictory : Ref) → AreAsks t 0 task.ant ant → AreAsks t 0 task.con con
+pub kept_refs : (net : RawNet) (task : Assertion) (table : ℕ → ℕ → SymbolicSet) (t : Store) (ant con : List TimedCut) (strong weak contradictory : Ref) → AreTimedCuts t 0 task.ant ant → AreTimedCuts t 0 task.con con
     → ((k id : ℕ) → k < depth task → id < net.nets → (rails : Rails) × AreRails t (table k id) rails)
     → Means t (strong_where net task table) strong → Means t (weak_where net task table) weak → Means t (contradictory_where net task table) contradictory
     → (f : Function) → Contains (kept_functions net task table) f → HasRef t f

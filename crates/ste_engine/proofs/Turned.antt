@@ -1,7 +1,7 @@
 -- One time: the functions of each part are among those of the whole.
 use Rattle.std.proofs.Common.{ℕ, ◌∷◌, List, refl, arith, Contains}
 use Rattle.std.proofs.lemmas.List.Elements.{Contains-append_left, Contains-append_right}
-use Rattle.dd_nodes.specs.Diagram.{Function}
+use Rattle.ste_base.specs.Functions.{Function}
 use Rattle.net_core.specs.declared.raw.RawNet.{RawNet}
 use Rattle.net_core.specs.Work.{SymbolicCut, SymbolicSet, disjunction, some_empty, time_work}
 use Rattle.dual_rail.proofs.Works.{Within, behind}

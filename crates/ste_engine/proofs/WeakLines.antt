@@ -9,17 +9,17 @@ use Rattle.ste_model.specs.declared.task.Weakening.{Weakening}
 use Rattle.ste_model.specs.Asked.{weakened_at, weakens}
 use Rattle.sym_step.specs.declared.cut.Cut.{Cut}
 use Rattle.sym_step.specs.Step.{ids_of}
-use Rattle.ste_engine.specs.declared.asks.Ask.{Ask}
-use Rattle.ste_engine.specs.private.Asks.{ArePlaced, running_cuts, runs_at}
-use Rattle.ste_engine.specs.private.Weakened.{weak_ask, weak_asks}
+use Rattle.ste_engine.specs.declared.timed_cuts.TimedCut.{TimedCut}
+use Rattle.ste_engine.specs.private.TimedCuts.{ArePlaced, running_cuts, runs_at}
+use Rattle.ste_engine.specs.private.Weakened.{weak_timed_cut, weak_timed_cuts}
 
-pub weak_placed : (depth place : ℕ) (weak : List Weakening) → ArePlaced place (weak_asks depth place weak)
+pub weak_placed : (depth place : ℕ) (weak : List Weakening) → ArePlaced place (weak_timed_cuts depth place weak)
 weak_placed depth place [] = tt
 weak_placed depth place (w ∷ weak) = (omega arith, weak_placed depth (suc place) weak)
 
-pub weak_within : (depth place : ℕ) (weak : List Weakening) → All (λ ask. ask.to ≤ depth) (weak_asks depth place weak)
-weak_within depth place [] = All-nil (λ (ask : Ask). ask.to ≤ depth)
-weak_within depth place (w ∷ weak) = All-cons (λ (ask : Ask). ask.to ≤ depth) (weak_ask depth place w) (weak_asks depth (suc place) weak) (min-le_right w.to depth) (weak_within depth (suc place) weak)
+pub weak_within : (depth place : ℕ) (weak : List Weakening) → All (λ timed_cut. timed_cut.to ≤ depth) (weak_timed_cuts depth place weak)
+weak_within depth place [] = All-nil (λ (timed_cut : TimedCut). timed_cut.to ≤ depth)
+weak_within depth place (w ∷ weak) = All-cons (λ (timed_cut : TimedCut). timed_cut.to ≤ depth) (weak_timed_cut depth place w) (weak_timed_cuts depth (suc place) weak) (min-le_right w.to depth) (weak_within depth (suc place) weak)
 
 -- a time below the depth is below both where it is below one
 below_both : (t to depth : ℕ) → t < depth → nat_lt t (min to depth) ≡ nat_lt t to
@@ -29,15 +29,15 @@ below_both t to depth lt = elim (cases_lt to depth) [
 ]
 
 -- the nets of the cuts of a time below the depth are those that are weakened then
-pub nets_are : (depth place t : ℕ) (weak : List Weakening) → t < depth → ids_of (map (λ (c : Cut). c.node) (running_cuts t (weak_asks depth place weak))) ≡ weakened_at weak t
+pub nets_are : (depth place t : ℕ) (weak : List Weakening) → t < depth → ids_of (map (λ (c : Cut). c.node) (running_cuts t (weak_timed_cuts depth place weak))) ≡ weakened_at weak t
 nets_are depth place t [] lt = refl
-nets_are depth place t (w ∷ weak) lt = by (runs_at t (weak_ask depth place w)) (weakens t w) (ap (λ (b : Bool). nat_le w.from t && b) (below_both t w.to depth lt)) (nets_are depth (suc place) t weak lt)
+nets_are depth place t (w ∷ weak) lt = by (runs_at t (weak_timed_cut depth place w)) (weakens t w) (ap (λ (b : Bool). nat_le w.from t && b) (below_both t w.to depth lt)) (nets_are depth (suc place) t weak lt)
   where
-    rest : List Ask
-    rest = filter (runs_at t) (weak_asks depth (suc place) weak)
+    rest : List TimedCut
+    rest = filter (runs_at t) (weak_timed_cuts depth (suc place) weak)
 
-    by : (a b : Bool) → a ≡ b → ids_of (map (λ (c : Cut). c.node) (map (λ (ask : Ask). ask.cut) (filter (runs_at t) (weak_asks depth (suc place) weak)))) ≡ map (λ (x : Weakening). x.node.0) (filter (weakens t) weak)
-        → ids_of (map (λ (c : Cut). c.node) (map (λ (ask : Ask). ask.cut) (if a then weak_ask depth place w ∷ filter (runs_at t) (weak_asks depth (suc place) weak) else filter (runs_at t) (weak_asks depth (suc place) weak))))
+    by : (a b : Bool) → a ≡ b → ids_of (map (λ (c : Cut). c.node) (map (λ (timed_cut : TimedCut). timed_cut.cut) (filter (runs_at t) (weak_timed_cuts depth (suc place) weak)))) ≡ map (λ (x : Weakening). x.node.0) (filter (weakens t) weak)
+        → ids_of (map (λ (c : Cut). c.node) (map (λ (timed_cut : TimedCut). timed_cut.cut) (if a then weak_timed_cut depth place w ∷ filter (runs_at t) (weak_timed_cuts depth (suc place) weak) else filter (runs_at t) (weak_timed_cuts depth (suc place) weak))))
         ≡ map (λ (x : Weakening). x.node.0) (if b then w ∷ filter (weakens t) weak else filter (weakens t) weak)
     by true true e h = ap (λ (ids : List ℕ). w.node.0 ∷ ids) h
     by false false e h = h

@@ -1,7 +1,7 @@
 -- Meaning. What the engine's answers say of its steps and of its store.
 use Rattle.std.specs.Prelude.{◌≡◌, ◌<◌, ◌+◌, ℕ, length}
 use Rattle.dd_nodes.specs.declared.node.Ref.{Ref}
-use Rattle.dd_nodes.specs.Diagram.{Function}
+use Rattle.ste_base.specs.Functions.{Function}
 use Rattle.dd_nodes.specs.Functions.{IsCofactorOf}
 use Rattle.dd_nodes.specs.Stores.{Store, Means}
 use Rattle.net_core.specs.declared.raw.RawNet.{RawNet}

@@ -1,5 +1,5 @@
 -- Definitions that serve private functions.
-pub mod Asks
+pub mod TimedCuts
 pub mod Finds
 pub mod Firsts
 pub mod Places

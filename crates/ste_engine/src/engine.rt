@@ -16,10 +16,10 @@ ghost use Rattle.ste_engine.specs.private.Firsts.{AreFirsts};
 ghost use Rattle.engine_parts.specs.Latches.{first_rails};
 ghost use Rattle.ste_engine.specs.private.Turns.{AreResults, IsLine};
 
-use crate::asks::asks_of;
 use crate::finish::finish;
 use crate::firsts::Firsts;
 use crate::reports::report_of;
+use crate::timed_cuts::timed_cuts_of;
 use crate::timeline::Timeline;
 use crate::turn::{at_start, frame_from, turn};
 use crate::weakened::WeakLine;
@@ -45,15 +45,13 @@ fn line_of<N: Nodes>(
     ensures { Built (quints_work quints.now) (λ t line. IsLine t quints.now depth 0 line)
         (N.store nodes.old) (N.store nodes.new) result }
 {
-    let asks = asks_of(alloc, ops, nodes, quints)?;
-    match Timeline::of(alloc, asks.as_slice(), depth) {
-        Ok(line) => Ok(line),
-        Err(_) => Err(OpFault::OutOfMemory),
-    }
+    let timed_cuts = timed_cuts_of(alloc, ops, nodes, quints)?;
+    Ok(Timeline::of(alloc, timed_cuts.as_slice(), depth)?)
 }
 
-/// The strong, the weak and the contradictory assignments, with the frame before time 0, which is then that of the last
-/// time, and with the places that are clear on the way. Every guard and value is built before the first time.
+/// The strong, the weak and the contradictory assignments, with the frame before time 0, which is
+/// then that of the last time, and with the places that are found on the way. Every guard and value
+/// is built before the first time.
 fn results<N: Nodes>(
     alloc: Global,
     ops: &Ops,
@@ -85,24 +83,12 @@ fn results<N: Nodes>(
     let depth = depth(task);
     let mut ant = line_of(alloc, ops, nodes, task.ant.as_slice(), depth)?;
     let mut con = line_of(alloc, ops, nodes, task.con.as_slice(), depth)?;
-    let mut weak = match WeakLine::of(alloc, task.weak.as_slice(), depth) {
-        Ok(weak) => weak,
-        Err(_) => return Err(OpFault::OutOfMemory),
-    };
+    let mut weak = WeakLine::of(alloc, task.weak.as_slice(), depth)?;
     let mut reached = at_start();
     for t in 0..depth {
-        match ant.advance(alloc, t) {
-            Ok(()) => {}
-            Err(_) => return Err(OpFault::OutOfMemory),
-        }
-        match con.advance(alloc, t) {
-            Ok(()) => {}
-            Err(_) => return Err(OpFault::OutOfMemory),
-        }
-        match weak.advance(alloc, t) {
-            Ok(()) => {}
-            Err(_) => return Err(OpFault::OutOfMemory),
-        }
+        ant.advance(alloc, t)?;
+        con.advance(alloc, t)?;
+        weak.advance(alloc, t)?;
         let before = reached.found;
         reached = turn(
             alloc,
@@ -121,13 +107,14 @@ fn results<N: Nodes>(
     finish(ops, nodes, reached.contradictory, reached.found)
 }
 
-/// The report of an assertion over the variables of the store, for all assignments at once, with at most `cubes` cubes in
-/// each of its lists: see `Report`. `rows` are those of the net, the nodes of the task and of its weakenings are nets of it, and its variables are
-/// below the store's.
+/// The report of an assertion over the variables of the store, for all assignments at once, with at
+/// most `cubes` cubes in each of its lists: see `Report`. `rows` are those of the net, the nodes of
+/// the task and of its weakenings are nets of it, and its variables are below the store's.
 ///
-/// The verdict is `Budget` only where all steps are spent, and fewer were left at the start than the assertion needs; then
-/// nothing else is told. With every other verdict each node of the kept functions has a reference afterwards. Whatever the
-/// answer, each node that is made is a node of the work functions, and what was held stays.
+/// The verdict is `Budget` only where all steps are spent, and fewer were left at the start than
+/// the assertion needs; then nothing else is reported. With every other verdict each node of the
+/// kept functions has a reference afterwards. Whatever the answer, each node that is made is a node
+/// of the work functions, and what was held stays.
 pub fn check_ste<N: Nodes>(
     alloc: Global,
     nodes: &mut N,
@@ -167,8 +154,9 @@ pub fn check_ste<N: Nodes>(
     check_ste_from(alloc, nodes, net, rows, task, cubes, &mut None)
 }
 
-/// As `check_ste`, and begins with the last frame of another assertion on the net, where there is one: what stays the same
-/// is not evaluated again. It leaves that of this one, but none where steps or memory are out.
+/// As `check_ste`, and begins with the last frame of another assertion on the net, where there is
+/// one: what stays the same is not evaluated again. It leaves that of this one, but none where
+/// steps or memory are out.
 pub fn check_ste_from<N: Nodes>(
     alloc: Global,
     nodes: &mut N,

@@ -1,4 +1,4 @@
-//! Where each assignment fails first, as far as it is clear beside the times; begin with `Firsts`.
+//! Where each assignment fails first, as far as it is seen on the way; begin with `Firsts`.
 
 ghost use Rattle.std.specs.Prelude.{◌≡◌, ◌<◌, ◌⊎◌, All, IfSome, None, Some, length};
 ghost use Rattle.sym_step.specs.Frame.{nets_of};
@@ -12,8 +12,9 @@ use engine_parts::{Failure, first_failing_in};
 use ste_base::{NodeId, Time};
 use sym_step::{Cut, Frame};
 
-/// For each way to fail the net of a consequent and the time step at which each assignment fails so first, where it is clear
-/// that there is such a place: all is constant there, and nothing was found before.
+/// For each way to fail the net of a consequent and the time step at which each assignment fails so
+/// first, where it is known that there is such a place: all is constant there, and nothing was
+/// found before.
 #[derive(Clone, Copy, PartialEq, Eq, Drop)]
 pub struct Firsts {
     pub strong: Option<(NodeId, Time)>,
@@ -40,8 +41,8 @@ fn are_fixed(frame: &Frame, cuts: &[Cut]) -> bool
     true
 }
 
-/// The net of the consequent that fails so first at a time under each assignment, where the sums before and behind the time
-/// say that it is the first time, and all is constant.
+/// The net of the consequent that fails so first at a time under each assignment, where the sums
+/// before and behind the time say that it is the first time, and all is constant.
 fn first_at(
     failure: Failure,
     frame: &Frame,
@@ -62,7 +63,11 @@ fn first_at(
 }
 
 /// The place of a net at a time, or else that of before.
-fn placed(node: Option<NodeId>, time: Time, first: Option<(NodeId, Time)>) -> Option<(NodeId, Time)>
+fn place_or(
+    node: Option<NodeId>,
+    time: Time,
+    first: Option<(NodeId, Time)>,
+) -> Option<(NodeId, Time)>
     ensures { result ≡ place_or node time first }
 {
     match node {
@@ -72,7 +77,7 @@ fn placed(node: Option<NodeId>, time: Time, first: Option<(NodeId, Time)>) -> Op
 }
 
 impl Firsts {
-    /// No place is clear yet.
+    /// No place is known yet.
     pub fn none() -> Firsts
         ensures strong { result.strong ≡ None }
         ensures weak { result.weak ≡ None }
@@ -83,7 +88,8 @@ impl Firsts {
         }
     }
 
-    /// The same behind one more time, whose sets the frame has, from what was found before it and with it.
+    /// The same behind one more time, whose sets the frame has, from what was found before it and
+    /// with it.
     pub fn with_time(
         self,
         frame: &Frame,
@@ -94,7 +100,7 @@ impl Firsts {
     ) -> Firsts
         requires { All (λ c. c.node.0 < length (nets_of frame.now)) cuts.now }
 
-        // The place of this time where it is clear, and else that of before.
+        // The place of this time where it is known, and else that of before.
         ensures is_strong { result.strong ≡ place_or
             (first_at Strong (nets_of frame.now) cuts.now before.strong after.strong)
             time self.strong }
@@ -113,8 +119,8 @@ impl Firsts {
         let strong = first_at(Failure::Strong, frame, cuts, before.strong, after.strong);
         let weak = first_at(Failure::Weak, frame, cuts, before.weak, after.weak);
         Firsts {
-            strong: placed(strong, time, self.strong),
-            weak: placed(weak, time, self.weak),
+            strong: place_or(strong, time, self.strong),
+            weak: place_or(weak, time, self.weak),
         }
     }
 }

@@ -1,8 +1,7 @@
-//! The symbolic engine for assertions: the report of an assertion over all assignments at once, time after time, on
-//! decision diagrams. Begin with `check_ste`.
+//! The symbolic engine for assertions: the report of an assertion over all assignments at once,
+//! time after time, on decision diagrams. Begin with `check_ste`.
 #![tactic(auto)]
 
-mod asks;
 pub mod engine;
 mod find;
 mod finish;
@@ -12,6 +11,7 @@ mod place;
 mod reports;
 mod results;
 mod shown;
+mod timed_cuts;
 mod timeline;
 mod turn;
 mod weakened;

@@ -5,10 +5,10 @@ ghost use Rattle.gate_sets.specs.Lists.{rows_of};
 ghost use Rattle.ste_model.specs.Found.{IsFound};
 ghost use Rattle.ste_model.specs.Report.{IsFailingPlace};
 ghost use Rattle.engine_parts.specs.Failing.{FailsBy, MakesNothing};
-ghost use Rattle.ste_engine.specs.private.Places.{fixed_ask, fixed_asks};
+ghost use Rattle.ste_engine.specs.private.Places.{fixed_timed_cut, fixed_timed_cuts};
 ghost use Rattle.ste_engine.specs.private.Times.{IsTimeline};
 
-use crate::asks::Ask;
+use crate::timed_cuts::TimedCut;
 use crate::timeline::Timeline;
 use crate::turn::first_frame;
 use crate::weakened::WeakLine;
@@ -23,10 +23,10 @@ use ste_model::{Assertion, Quint, depth};
 use sym_step::{Cut, GateRows, renew};
 
 /// What a quintuple asks under an assignment, by constants.
-fn fixed_ask(quint: &Quint, bits: &[bool], place: usize) -> Ask
-    ensures { result ≡ fixed_ask bits.now place quint.now }
+fn fixed_timed_cut(quint: &Quint, bits: &[bool], place: usize) -> TimedCut
+    ensures { result ≡ fixed_timed_cut bits.now place quint.now }
 {
-    Ask {
+    TimedCut {
         cut: Cut {
             node: quint.node,
             guard: constant(value(&quint.guard, bits)),
@@ -39,14 +39,19 @@ fn fixed_ask(quint: &Quint, bits: &[bool], place: usize) -> Ask
 }
 
 /// The same of all quintuples, in order.
-fn fixed_asks(alloc: Global, quints: &[Quint], bits: &[bool]) -> Result<Vec<Ask>, AllocError>
-    ensures { IfOk result (λ asks. asks.items ≡ fixed_asks bits.now 0 quints.now) }
+fn fixed_timed_cuts(
+    alloc: Global,
+    quints: &[Quint],
+    bits: &[bool],
+) -> Result<Vec<TimedCut>, AllocError>
+    ensures { IfOk result (λ timed_cuts. timed_cuts.items ≡
+        fixed_timed_cuts bits.now 0 quints.now) }
 {
-    let mut asks = Vec::with_capacity(alloc, quints.len())?;
+    let mut timed_cuts = Vec::with_capacity(alloc, quints.len())?;
     for k in 0..quints.len() {
-        asks.push(fixed_ask(&quints[k], bits, k))?;
+        timed_cuts.push(fixed_timed_cut(&quints[k], bits, k))?;
     }
-    Ok(asks)
+    Ok(timed_cuts)
 }
 
 /// What quintuples ask under an assignment, as a timeline before time 0.
@@ -57,14 +62,16 @@ fn fixed_line(
     depth: Time,
 ) -> Result<Timeline, AllocError>
     requires { All (λ quint. quint.to ≤ depth) quints.now }
-    ensures { IfOk result (λ line. IsTimeline (fixed_asks bits.now 0 quints.now) depth 0 line) }
+    ensures { IfOk result (λ line. IsTimeline
+        (fixed_timed_cuts bits.now 0 quints.now) depth 0 line) }
 {
-    let asks = fixed_asks(alloc, quints, bits)?;
-    Timeline::of(alloc, asks.as_slice(), depth)
+    let timed_cuts = fixed_timed_cuts(alloc, quints, bits)?;
+    Timeline::of(alloc, timed_cuts.as_slice(), depth)
 }
 
-/// The net of the first consequent that fails so under an assignment, and the time step: the least at which any does. Each
-/// time is done once more, with constants in the place of guards and values, so that no node is made.
+/// The net of the first consequent that fails so under an assignment, and the time step: the least
+/// at which any does. Each time is done once more, with constants in the place of guards and
+/// values, so that no node is made.
 pub fn failing_place<N: Nodes>(
     alloc: Global,
     ops: &Ops,

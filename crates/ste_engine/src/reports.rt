@@ -7,19 +7,18 @@ ghost use Rattle.engine_parts.specs.Failing.{MakesNothing};
 ghost use Rattle.ste_engine.specs.private.Firsts.{AreFirsts};
 ghost use Rattle.ste_engine.specs.private.Reports.{TellFindings};
 
-use crate::finish::verdict_of;
 use crate::firsts::Firsts;
 use crate::shown::shown_of;
 use dd_nodes::Nodes;
 use dd_ops::Ops;
-use engine_parts::{Results, guards_of};
+use engine_parts::{Results, guards_of, verdict_of};
 use net_core::Net;
 use std::alloc::{AllocError, Global};
 use ste_base::{Items, Name};
 use ste_model::{Assertion, Report};
 use sym_step::GateRows;
 
-/// The report, from the references that tell the findings, and the places that are clear.
+/// The report, from the references that tell the findings, and the places that are known.
 pub fn report_of<N: Nodes>(
     alloc: Global,
     ops: &Ops,

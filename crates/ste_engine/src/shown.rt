@@ -33,8 +33,8 @@ struct LeastFailure {
     place: (NodeId, Time),
 }
 
-/// What a failure shows: the least assignment, the failing place under it, and the run where one is due. Where there is no
-/// failure all is None.
+/// What a failure shows: the least assignment, the failing place under it, and the run where one is
+/// due. Where there is no failure all is None.
 #[derive(Drop)]
 pub struct Shown {
     pub least: Option<Items<bool>>,
@@ -42,7 +42,7 @@ pub struct Shown {
     pub run: Option<Run>,
 }
 
-/// The failing place under an assignment: where it is clear, that of all assignments.
+/// The failing place under an assignment: where it is known, that of all assignments.
 fn place_of<N: Nodes>(
     alloc: Global,
     ops: &Ops,
@@ -72,8 +72,8 @@ fn place_of<N: Nodes>(
     failing_place(alloc, ops, nodes, net, rows, task, bits, failure)
 }
 
-/// The least of the assignments that a reference tells, of which there is one, and the failing place under it. `first` is the
-/// place of all assignments, where it is clear.
+/// The least of the assignments that a reference tells, of which there is one, and the failing
+/// place under it. `first` is the place of all assignments, where it is known.
 fn least_failure<N: Nodes>(
     alloc: Global,
     ops: &Ops,
@@ -140,7 +140,7 @@ fn run_due(
     Ok(Some(run))
 }
 
-/// What is shown of a failure, with the run that is told.
+/// What is shown of a failure, with the run that is reported.
 fn with_run(first: LeastFailure, run: Option<Run>) -> Shown
     ensures { result ≡ record {
       least = Some first.bits;
@@ -155,7 +155,8 @@ fn with_run(first: LeastFailure, run: Option<Run>) -> Shown
     }
 }
 
-/// What a strong failure shows, with the run where one is due. `first` is the place of all assignments, where it is clear.
+/// What a strong failure shows, with the run where one is due. `first` is the place of all
+/// assignments, where it is known.
 fn strong_shown<N: Nodes>(
     alloc: Global,
     ops: &Ops,
@@ -195,7 +196,7 @@ fn strong_shown<N: Nodes>(
     Ok(with_run(least, run))
 }
 
-/// What a weak failure shows. `first` is the place of all assignments, where it is clear.
+/// What a weak failure shows. `first` is the place of all assignments, where it is known.
 fn weak_shown<N: Nodes>(
     alloc: Global,
     ops: &Ops,
@@ -234,7 +235,8 @@ fn weak_shown<N: Nodes>(
     Ok(with_run(least, None))
 }
 
-/// What a failure shows, from the verdict, the references that tell the findings, and the places that are clear.
+/// What a failure shows, from the verdict, the references that tell the findings, and the places
+/// that are known.
 pub fn shown_of<N: Nodes>(
     alloc: Global,
     ops: &Ops,

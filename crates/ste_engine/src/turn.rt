@@ -2,7 +2,8 @@
 
 ghost use Rattle.std.specs.Prelude.{◌≡◌, ◌<◌, ℕ, List, All, IfOk, IfSome, OnOk, map};
 ghost use Rattle.std.specs.List.{AllZip};
-ghost use Rattle.dd_nodes.specs.Diagram.{Function, IsDiagram};
+ghost use Rattle.ste_base.specs.Functions.{Function};
+ghost use Rattle.dd_nodes.specs.Diagram.{IsDiagram};
 ghost use Rattle.dd_nodes.specs.Stores.{Means, Store};
 ghost use Rattle.net_core.specs.Work.{ArePossibleEach, SymbolicCut, SymbolicSet};
 ghost use Rattle.dual_rail.specs.Rail.{AreRails, Built};
@@ -58,7 +59,7 @@ pub fn frame_from(
     match last {
         Some(frame) => {
             let first = first_sets(alloc, net, reset)?;
-            Ok(frame.restarted(first))
+            Ok(frame.before_first_time(first))
         }
         None => first_frame(alloc, net, reset),
     }
@@ -80,8 +81,8 @@ pub fn at_start() -> Turned
     }
 }
 
-/// One time: its sets, and what is found there. `weak` are the weakened nets, `ant` is what is given, `con` what is to follow; the frame keeps the time
-/// for the next.
+/// One time: its sets, and what is found there. `weak` are the weakened nets, `ant` is what is
+/// given, `con` what is to follow; the frame keeps the time for the next.
 pub fn turn<N: Nodes>(
     alloc: Global,
     ops: &Ops,

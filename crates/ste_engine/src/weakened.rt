@@ -2,9 +2,9 @@
 
 ghost use Rattle.std.specs.Prelude.{◌≡◌, ◌<◌, ◌≤◌, ℕ, List, IfOk, OnOk, length, map};
 ghost use Rattle.ste_model.specs.declared.task.Weakening.{Weakening as AWeakening};
-ghost use Rattle.ste_engine.specs.private.Weakened.{HasWeakened, IsWeakLine, weak_ask, weak_asks};
+ghost use Rattle.ste_engine.specs.private.Weakened.{HasWeakened, IsWeakLine, weak_timed_cut, weak_timed_cuts};
 
-use crate::asks::Ask;
+use crate::timed_cuts::TimedCut;
 use crate::timeline::Timeline;
 use dd_nodes::Ref;
 use std::alloc::{AllocError, Global};
@@ -20,11 +20,12 @@ pub struct WeakLine {
     nets: Vec<NodeId>,
 }
 
-/// A weakening as an entry of a timeline, which has the net and the times below the depth; what its cut asks says nothing.
-fn weak_ask(weakening: &Weakening, depth: Time, place: usize) -> Ask
-    ensures { result ≡ weak_ask depth place weakening.now }
+/// A weakening as an entry of a timeline, which has the net and the times below the depth; what its
+/// cut asks says nothing.
+fn weak_timed_cut(weakening: &Weakening, depth: Time, place: usize) -> TimedCut
+    ensures { result ≡ weak_timed_cut depth place weakening.now }
 {
-    Ask {
+    TimedCut {
         cut: Cut {
             node: weakening.node,
             guard: Ref::FALSE,
@@ -37,14 +38,18 @@ fn weak_ask(weakening: &Weakening, depth: Time, place: usize) -> Ask
 }
 
 /// The same of all weakenings, in order.
-fn weak_asks(alloc: Global, weak: &[Weakening], depth: Time) -> Result<Vec<Ask>, AllocError>
-    ensures { IfOk result (λ asks. asks.items ≡ weak_asks depth 0 weak.now) }
+fn weak_timed_cuts(
+    alloc: Global,
+    weak: &[Weakening],
+    depth: Time,
+) -> Result<Vec<TimedCut>, AllocError>
+    ensures { IfOk result (λ timed_cuts. timed_cuts.items ≡ weak_timed_cuts depth 0 weak.now) }
 {
-    let mut asks = Vec::with_capacity(alloc, weak.len())?;
+    let mut timed_cuts = Vec::with_capacity(alloc, weak.len())?;
     for k in 0..weak.len() {
-        asks.push(weak_ask(&weak[k], depth, k))?;
+        timed_cuts.push(weak_timed_cut(&weak[k], depth, k))?;
     }
-    Ok(asks)
+    Ok(timed_cuts)
 }
 
 /// The nets of these cuts, in order, in this memory.
@@ -64,8 +69,8 @@ impl WeakLine {
     pub fn of(alloc: Global, weak: &[Weakening], depth: Time) -> Result<WeakLine, AllocError>
         ensures { IfOk result (λ line. IsWeakLine weak.now depth 0 line) }
     {
-        let asks = weak_asks(alloc, weak, depth)?;
-        let line = Timeline::of(alloc, asks.as_slice(), depth)?;
+        let timed_cuts = weak_timed_cuts(alloc, weak, depth)?;
+        let line = Timeline::of(alloc, timed_cuts.as_slice(), depth)?;
         Ok(WeakLine {
             line,
             nets: Vec::new(alloc),
@@ -84,7 +89,8 @@ impl WeakLine {
         Ok(())
     }
 
-    /// The nets that are weakened at the time that it has come to, in text order. It takes no memory.
+    /// The nets that are weakened at the time that it has come to, in text order. It takes no
+    /// memory.
     pub fn nets(&self) -> &[NodeId]
         ensures { result.now ≡ self.now.nets.items }
     {

@@ -33,7 +33,8 @@ enum Value {
 /// For a net, guard and value, and the times.
 type Asked = (&'static str, Value, Value, Time, Time);
 
-/// A net by its text, whether latches begin with their initial values, what is given, what is to follow, and the verdict.
+/// A net by its text, whether latches begin with their initial values, what is given, what is to
+/// follow, and the verdict.
 type Case = (
     &'static str,
     bool,
@@ -120,7 +121,8 @@ fn quints_of(
     Ok(quints)
 }
 
-/// The report on a task with so many steps and at most so many cubes in each list, and how many steps were used.
+/// The report on a task with so many steps and at most so many cubes in each list, and how many
+/// steps were used.
 fn report_on(
     alloc: Global,
     ready: &Ready,
@@ -342,9 +344,10 @@ fn worked_examples_have_their_verdicts(rt: HostRuntime) -> Result<(), Fail> {
 /// The literals of cubes, by the numbers of their variables.
 type Cubes = &'static [&'static [(u32, bool)]];
 
-/// A task, and what its report has to tell: the strong, the weak and the contradictory assignments, and whether the lists
-/// have more; the least assignment, the failing place, and the run, a row for each net in the order of the netlist.
-struct Told {
+/// A task, and what its report has to say: the strong, the weak and the contradictory assignments,
+/// and whether the lists have more; the least assignment, the failing place, and the run, a row for
+/// each net in the order of the netlist.
+struct Expected {
     text: &'static str,
     reset: bool,
     ant: &'static [Asked],
@@ -361,9 +364,9 @@ struct Told {
 }
 
 /// The reports of worked examples, which were found by hand.
-const REPORTS: &[Told] = &[
+const REPORTS: &[Expected] = &[
     // Strong under each assignment.
-    Told {
+    Expected {
         text: INVERTER,
         reset: false,
         ant: &[("a", Value::One, Value::P, 0, 1)],
@@ -379,7 +382,7 @@ const REPORTS: &[Told] = &[
         run: Some(&[&[false], &[true]]),
     },
     // Weak: no run is due.
-    Told {
+    Expected {
         text: INVERTER,
         reset: false,
         ant: &[],
@@ -395,7 +398,7 @@ const REPORTS: &[Told] = &[
         run: None,
     },
     // Contradictory where two variables differ.
-    Told {
+    Expected {
         text: INVERTER,
         reset: false,
         ant: &[
@@ -414,7 +417,7 @@ const REPORTS: &[Told] = &[
         run: None,
     },
     // The same with room for one cube.
-    Told {
+    Expected {
         text: INVERTER,
         reset: false,
         ant: &[
@@ -433,7 +436,7 @@ const REPORTS: &[Told] = &[
         run: None,
     },
     // At time 1 the antecedent says nothing.
-    Told {
+    Expected {
         text: INVERTER,
         reset: false,
         ant: &[("a", Value::One, Value::P, 0, 1)],
@@ -449,7 +452,7 @@ const REPORTS: &[Told] = &[
         run: None,
     },
     // The antecedent asks of a gate's output, so no run is due.
-    Told {
+    Expected {
         text: INVERTER,
         reset: false,
         ant: &[("y", Value::One, Value::P, 0, 1)],
@@ -465,7 +468,7 @@ const REPORTS: &[Told] = &[
         run: None,
     },
     // A guard.
-    Told {
+    Expected {
         text: INVERTER,
         reset: false,
         ant: &[("a", Value::One, Value::P, 0, 1)],
@@ -481,7 +484,7 @@ const REPORTS: &[Told] = &[
         run: Some(&[&[true], &[false]]),
     },
     // A latch begins with its initial value, and follows its input.
-    Told {
+    Expected {
         text: LATCH,
         reset: true,
         ant: &[("d", Value::One, Value::P, 0, 1)],
@@ -496,9 +499,9 @@ const REPORTS: &[Told] = &[
         fails: Some(("q", 1)),
         run: Some(&[&[false, false], &[true, false]]),
     },
-    // With p the output is strong and the other input is weak: such an assignment is strong alone. It is the second
-    // consequent that fails strongly.
-    Told {
+    // With p the output is strong and the other input is weak: such an assignment is strong alone.
+    // It is the second consequent that fails strongly.
+    Expected {
         text: AND_GATE,
         reset: false,
         ant: &[("a", Value::P, Value::Zero, 0, 1)],
@@ -517,7 +520,7 @@ const REPORTS: &[Told] = &[
         run: Some(&[&[false], &[false], &[false]]),
     },
     // The first time decides, and there the first consequent in text order.
-    Told {
+    Expected {
         text: INVERTER,
         reset: false,
         ant: &[("a", Value::One, Value::P, 0, 2)],
@@ -569,18 +572,18 @@ fn has_rows(run: &Run, rows: &[&[bool]]) -> bool {
             .all(|(row, bits)| row.as_slice() == *bits)
 }
 
-/// Whether a report has the lists that are to be told.
-fn has_lists(report: &Report, told: &Told) -> bool {
+/// Whether a report has the lists that it should have.
+fn has_lists(report: &Report, expected: &Expected) -> bool {
     let guards = &report.guards;
-    has_cubes(&guards.strong, told.strong)
-        && has_cubes(&guards.weak, told.weak)
-        && has_cubes(&guards.contradictory, told.contradictory)
-        && guards.contradictory.more == told.more
+    has_cubes(&guards.strong, expected.strong)
+        && has_cubes(&guards.weak, expected.weak)
+        && has_cubes(&guards.contradictory, expected.contradictory)
+        && guards.contradictory.more == expected.more
 }
 
 /// Whether it has the least assignment.
-fn has_least(report: &Report, told: &Told) -> bool {
-    match (&report.least, told.least) {
+fn has_least(report: &Report, expected: &Expected) -> bool {
+    match (&report.least, expected.least) {
         (None, None) => true,
         (Some(bits), Some(least)) => bits.as_slice() == least,
         _ => false,
@@ -588,8 +591,8 @@ fn has_least(report: &Report, told: &Told) -> bool {
 }
 
 /// Whether it has the failing place.
-fn has_place(report: &Report, names: &NetNames, told: &Told) -> bool {
-    match (report.fails, told.fails) {
+fn has_place(report: &Report, names: &NetNames, expected: &Expected) -> bool {
+    match (report.fails, expected.fails) {
         (None, None) => true,
         (Some((node, t)), Some((name, time))) => {
             names.resolve(name.as_bytes()) == Some(node) && t == time
@@ -599,48 +602,59 @@ fn has_place(report: &Report, names: &NetNames, told: &Told) -> bool {
 }
 
 /// Whether it has the run.
-fn has_run(report: &Report, told: &Told) -> bool {
-    match (&report.run, told.run) {
+fn has_run(report: &Report, expected: &Expected) -> bool {
+    match (&report.run, expected.run) {
         (None, None) => true,
         (Some(run), Some(rows)) => has_rows(run, rows),
         _ => false,
     }
 }
 
-/// Whether a report has all that is to be told.
-fn has_all(report: &Report, names: &NetNames, told: &Told) -> bool {
-    report.verdict == told.verdict
-        && has_lists(report, told)
-        && has_least(report, told)
-        && has_place(report, names, told)
-        && has_run(report, told)
+/// Whether a report has all that it should have.
+fn has_all(report: &Report, names: &NetNames, expected: &Expected) -> bool {
+    report.verdict == expected.verdict
+        && has_lists(report, expected)
+        && has_least(report, expected)
+        && has_place(report, names, expected)
+        && has_run(report, expected)
 }
 
-/// Whether the report of a worked example has all that is to be told.
-fn is_told(alloc: Global, ready: &Ready, told: &Told) -> Result<bool, Fail> {
-    let (report, _) = report_of(alloc, ready, told.reset, told.ant, told.con, 1000, told.max)?;
-    Ok(has_all(&report, &ready.names, told))
+/// Whether the report of a worked example has all that it should have.
+fn is_reported(alloc: Global, ready: &Ready, expected: &Expected) -> Result<bool, Fail> {
+    let (report, _) = report_of(
+        alloc,
+        ready,
+        expected.reset,
+        expected.ant,
+        expected.con,
+        1000,
+        expected.max,
+    )?;
+    Ok(has_all(&report, &ready.names, expected))
 }
 
 /// The same for the net of its text.
-fn is_told_by_text(alloc: Global, text: &[u8], told: &Told) -> Result<bool, Fail>
+fn is_reported_by_text(alloc: Global, text: &[u8], expected: &Expected) -> Result<bool, Fail>
     requires { length text.now ≤ 20000 }
 {
     let ready = net_of(alloc, text)?;
-    is_told(alloc, &ready, told)
+    is_reported(alloc, &ready, expected)
 }
 
 #[test]
 fn worked_examples_have_their_reports(rt: HostRuntime) -> Result<(), Fail> {
-    for (number, told) in REPORTS.iter().enumerate() {
-        let bytes = told.text.as_bytes();
+    for (number, expected) in REPORTS.iter().enumerate() {
+        let bytes = expected.text.as_bytes();
         assert!(&rt; bytes.len() <= 20000);
-        assert!(&rt; is_told_by_text(rt.alloc(), bytes, told)?, "{number}");
+        assert!(&rt;
+            is_reported_by_text(rt.alloc(), bytes, expected)?,
+            "{number}"
+        );
     }
     Ok(())
 }
 
-/// Whether a report of no steps tells nothing but its name and the verdict.
+/// Whether a report of no steps has nothing but its name and the verdict.
 fn is_blank(alloc: Global, ready: &Ready) -> Result<bool, Fail> {
     let given = &[("a", Value::One, Value::P, 0, 1)];
     let claim = &[("y", Value::One, Value::P, 0, 1)];
@@ -666,8 +680,8 @@ fn a_budget_report_is_blank(rt: HostRuntime) -> Result<(), Fail> {
     Ok(())
 }
 
-/// A net by its text, what is given, what is to follow, the verdict, and how many steps are needed, as counted by a
-/// program of its own.
+/// A net by its text, what is given, what is to follow, the verdict, and how many steps are needed,
+/// as counted by a program of its own.
 const NEEDS: &[(&str, &[Asked], &[Asked], Verdict, u32)] = &[
     (
         AND_GATE,
@@ -695,8 +709,8 @@ const NEEDS: &[(&str, &[Asked], &[Asked], Verdict, u32)] = &[
     ),
 ];
 
-/// Whether a task has its verdict with as many steps as are needed, and with more; and with fewer its verdict, or it has
-/// used all of them.
+/// Whether a task has its verdict with as many steps as are needed, and with more; and with fewer
+/// its verdict, or it has used all of them.
 fn suffice(
     alloc: Global,
     ready: &Ready,

@@ -9,7 +9,8 @@ TakesAtMost old new most = (taken : List ℕ) × (length taken ≤ most) × Cons
 
 -- some bytes more were taken, and stand behind those that were read before, at most `most` with
 -- these; at the end nothing more was there, and nothing is left
-pub record ReadOn (old new : Option (List ℕ)) (before after : List ℕ) (most : ℕ) (result : Result Bool FetchFault) : Type 0 where
+pub record ReadOn (old new : Option (List ℕ)) (before after : List ℕ) (most : ℕ)
+    (result : Result Bool FetchFault) : Type 0 where
   pub taken : List ℕ
   pub few : length (before ++ taken) ≤ most
   pub takes : Consumes old new taken

@@ -27,10 +27,11 @@ impl From<AllocError> for FetchFault {
 
 /// Files, by name.
 pub trait Files {
-    /// What they hold and were asked for, told or not, and how often reading has failed.
+    /// What they hold and were asked for, known or not, and how often reading has failed.
     ghost state: { Self → FilesState };
 
-    /// All the bytes of a file, at most `max`. With want of memory the name may not count as asked for.
+    /// All the bytes of a file, at most `max`. When memory runs out, the name may not count as
+    /// asked for.
     fn fetch(&mut self, alloc: Global, name: &str, max: u64) -> Result<Vec<u8>, FetchFault>
         requires { max ≤ 67108864 }
         ensures { MatchResult result

@@ -1,4 +1,4 @@
-//! Files and sinks of the host, of which nothing is told: `HostFiles` and `HostSink`.
+//! Files and sinks of the host, of which contracts know nothing: `HostFiles` and `HostSink`.
 
 ghost use Rattle.std.specs.Prelude.{◌≡◌, ◌<◌, ◌≤◌, [], length, take, IfOk, None, OnErr};
 ghost use Rattle.std.specs.Io.KnownBytes.{Appends, Keeps};
@@ -11,7 +11,7 @@ use std::alloc::Global;
 use std::fs;
 use std::io::Write;
 
-/// The host's files, of which nothing is told.
+/// The host's files, of which contracts know nothing.
 #[derive(Drop)]
 pub struct HostFiles<'a, R> {
     rt: &'a R,
@@ -41,8 +41,9 @@ impl<'a, R: std::rt::Files> Files for HostFiles<'a, R> {
     }
 }
 
-/// A writer of the host, as standard output, of which nothing is told. Of a writer that tells what it has, a write says
-/// that it has the bytes of the piece that count as taken behind what it had, and after a failure no more.
+/// A writer of the host, as standard output, of which contracts know nothing. Of a writer that says
+/// what it has, a write says that it has the bytes of the piece that count as taken behind what it
+/// had, and after a failure no more.
 #[derive(Drop)]
 pub struct HostSink<W> {
     writer: W,

@@ -1,4 +1,5 @@
-//! The outside: files that are fetched and sinks that take bytes, in memory and over the host; begin with `Files` and `Sink`.
+//! The outside: files that are fetched and sinks that take bytes, in memory and over the host;
+//! begin with `Files` and `Sink`.
 #![tactic(auto)]
 
 pub mod files;

@@ -1,8 +1,9 @@
-//! Files and sinks in memory, which tell what they hold and take: `MemoryFiles` and `MemorySink`.
+//! Files and sinks in memory, of which contracts know what they hold and take: `MemoryFiles` and
+//! `MemorySink`.
 ghost use Rattle.std.specs.Prelude.{◌≡◌, ◌⊎◌, ℕ, MatchResult, Some, OnOk, OnErr, IfOk, length, take, vec_capacity, ◌≤◌, ◌<◌, []};
 ghost use Rattle.ste_io.specs.Causes.{Rose};
 ghost use Rattle.ste_io.specs.InMemory.{FetchFails, WriteFails, next, taken_at_once};
-ghost use Rattle.ste_io.specs.Outside.{HasFile, IsFetched, Store, WhyNotFetched, WriteFailed, took};
+ghost use Rattle.ste_io.specs.Outside.{HasFile, IsFetched, StoredFiles, WhyNotFetched, WriteFailed, took};
 ghost use Rattle.std.specs.FinMap.{from_entries, get};
 ghost use Rattle.std.specs.FinMap as map;
 ghost use Rattle.std.specs.Option.{option_copied};
@@ -14,7 +15,8 @@ use crate::sink::{Sink, SinkFailed};
 use std::alloc::{AllocError, Global};
 use ste_base::{Items, Name};
 
-/// Files in memory. A fetch fails where its number, counted from 1, is in `failing`, and for a name that is not there.
+/// Files in memory. A fetch fails where its number, counted from 1, is in `failing`, and for a name
+/// that is not there.
 #[derive(Drop)]
 pub struct MemoryFiles {
     files: Vec<(Name, Items<u8>)>,
@@ -44,7 +46,7 @@ impl MemoryFiles {
         }
     }
 
-    /// Puts a file, or replaces it. Where memory is wanting nothing changes.
+    /// Puts a file, or replaces it. When memory runs out, nothing changes.
     pub fn add(&mut self, name: &str, bytes: &[u8]) -> Result<(), AllocError>
         ensures ok { OnOk result (HasFile name.now bytes.now
             (⟦<MemoryFiles as Files>⟧.state self.old) (⟦<MemoryFiles as Files>⟧.state self.new)) }
@@ -60,8 +62,8 @@ impl MemoryFiles {
     }
 }
 
-/// A sink in memory. It takes at most `most` bytes at a write. A write fails where its number, counted from 1, is in
-/// `failing`, and where no room is left.
+/// A sink in memory. It takes at most `most` bytes at a write. A write fails where its number,
+/// counted from 1, is in `failing`, and where no room is left.
 #[derive(Drop)]
 pub struct MemorySink {
     bytes: Vec<u8>,
@@ -118,14 +120,19 @@ impl Sink for MemorySink {
             (0 < n) × (n ≤ length piece.now) × (⟦<MemorySink as Sink>⟧.state self.new
             ≡ took (⟦<MemorySink as Sink>⟧.state self.old) (take n piece.now))) }
         ensures failed { OnErr result
-            (WriteFailed (⟦<MemorySink as Sink>⟧.state self.old) (⟦<MemorySink as Sink>⟧.state self.new) []) }
-        // It fails exactly where its number is listed or no room is left, and takes else as much as it can.
+            (WriteFailed (⟦<MemorySink as Sink>⟧.state self.old)
+            (⟦<MemorySink as Sink>⟧.state self.new) []) }
+        // It fails exactly where its number is listed or no room is left, and takes else as much as
+        // it can.
         ensures fails { OnErr result
-            (WriteFails self.old.failing.items self.old.writes self.old.room (length self.old.bytes.items)) }
+            (WriteFails self.old.failing.items self.old.writes self.old.room
+            (length self.old.bytes.items)) }
         ensures takes { OnOk result
-            (¬ WriteFails self.old.failing.items self.old.writes self.old.room (length self.old.bytes.items)) }
+            (¬ WriteFails self.old.failing.items self.old.writes self.old.room
+            (length self.old.bytes.items)) }
         ensures at_once { IfOk result (λ n. n
-            ≡ taken_at_once self.old.most self.old.room (length self.old.bytes.items) (length piece.now)) }
+            ≡ taken_at_once self.old.most self.old.room (length self.old.bytes.items)
+            (length piece.now)) }
         ensures lists { self.new.failing.items ≡ self.old.failing.items }
         ensures limits { (self.new.room ≡ self.old.room) × (self.new.most ≡ self.old.most) }
         ensures counts { self.new.writes ≡ next self.old.writes }
@@ -146,23 +153,29 @@ impl Sink for MemorySink {
 }
 
 impl Files for MemoryFiles {
-    ghost state = { λ f. record { holds = Some (from_entries f.files.items); asked = Some f.asked.items; faults = f.faults } };
+    ghost state = { λ f. record {
+      holds = Some (from_entries f.files.items);
+      asked = Some f.asked.items;
+      faults = f.faults;
+    } };
 
     fn fetch(&mut self, alloc: Global, name: &str, max: u64) -> Result<Vec<u8>, FetchFault>
         requires { max ≤ 67108864 }
         ensures fetch { MatchResult result
-            (λ bytes. IsFetched (⟦<MemoryFiles as Files>⟧.state self.old) (⟦<MemoryFiles as Files>⟧.state self.new)
+            (λ bytes. IsFetched (⟦<MemoryFiles as Files>⟧.state self.old)
+            (⟦<MemoryFiles as Files>⟧.state self.new)
             name.now max bytes.items)
             (λ fault. WhyNotFetched (⟦<MemoryFiles as Files>⟧.state self.old)
             (⟦<MemoryFiles as Files>⟧.state self.new) name.now max fault) }
         // It fails exactly where its number is listed or no file has the name.
-        ensures fails { result ≡ Err FetchFault.Failed → (store : Store) →
+        ensures fails { result ≡ Err FetchFault.Failed → (store : StoredFiles) →
             (⟦<MemoryFiles as Files>⟧.state self.old).holds ≡ Some store →
             FetchFails self.old.failing.items self.old.fetches store name.now }
-        ensures reads { OnOk result ((store : Store) →
+        ensures reads { OnOk result ((store : StoredFiles) →
             (⟦<MemoryFiles as Files>⟧.state self.old).holds ≡ Some store →
             ¬ FetchFails self.old.failing.items self.old.fetches store name.now) }
-        ensures sees { (seen : ℕ) → result ≡ Err (FetchFault.TooLarge seen) → (store : Store) →
+        ensures sees { (seen : ℕ) → result ≡ Err (FetchFault.TooLarge seen) →
+            (store : StoredFiles) →
             (⟦<MemoryFiles as Files>⟧.state self.old).holds ≡ Some store →
             ¬ FetchFails self.old.failing.items self.old.fetches store name.now }
         ensures lists { self.new.failing.items ≡ self.old.failing.items }

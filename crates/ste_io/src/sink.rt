@@ -8,7 +8,7 @@ pub struct SinkFailed;
 
 /// What takes bytes, as an output does.
 pub trait Sink {
-    /// What it has taken, told or not, and how often writing has failed.
+    /// What it has taken, known or not, and how often writing has failed.
     ghost state: { Self → SinkState };
 
     /// Takes the first bytes of a piece, one or more, and says how many.

@@ -12,8 +12,8 @@ use std::io::{self, ErrorKind, Read, Write};
 /// The most bytes that are read at once.
 const MOST_AT_ONCE: usize = 32768;
 
-/// Reads once, at most so many bytes as are left up to `most`, and puts them behind those that were read; the result is
-/// whether the reader is at its end.
+/// Reads once, at most so many bytes as are left up to `most`, and puts them behind those that were
+/// read; the result is whether the reader is at its end.
 fn read_once<R: Read>(
     reader: &mut R,
     piece: &mut [u8],

@@ -16,7 +16,8 @@ use Rattle.net_core.specs.declared.source.Source.{Source}
 use Rattle.net_core.specs.declared.source.Source.TheVariants.{Input, Free, Gate as OfGate, Latch as OfLatch}
 use Rattle.net_core.specs.Cases.{on_rows, off_rows}
 use Rattle.net_core.specs.Source.{source_of}
-use Rattle.net_core.specs.Work.{Function, SymbolicAsked, SymbolicCut, SymbolicSet, after_cut, by_gate, by_source, chain, conjunction, cover_set, cover_work, cut_set, cut_work, cuts_work, disjunction, everything, factor, factors, first_sets, gates_work, negation, no_bit, one_gate_work, row_products, rows_chains, rows_work, some_bit, some_empty, time_work, uncut, unless_weakened, whole}
+use Rattle.ste_base.specs.Functions.{Function}
+use Rattle.net_core.specs.Work.{SymbolicAsked, SymbolicCut, SymbolicSet, after_cut, by_gate, by_source, chain, conjunction, cover_set, cover_work, cut_set, cut_work, cuts_work, disjunction, everything, factor, factors, sets_below, gates_work, negation, no_bit, one_gate_work, row_products, rows_chains, rows_work, some_bit, some_empty, time_work, set_before_cuts, unless_weakened, whole}
 use Rattle.net_core.specs.Possible.{is_weakened}
 use Rattle.ste_model.specs.Work.{both_bits, consequent_work, consequents_work, only_one, only_zero, over_times, refutes, strong_findings, weak_findings}
 
@@ -130,7 +131,7 @@ module _ (v : ℕ) (one other : ℕ → SymbolicSet) (same : SameFamily v one ot
   inputs_same [] = SameSets.none
   inputs_same (input ∷ inputs) = SameSets.more (same input.0) (inputs_same inputs)
 
-  firsts_same : (n : ℕ) → SameSets v (first_sets one n) (first_sets other n)
+  firsts_same : (n : ℕ) → SameSets v (sets_below one n) (sets_below other n)
   firsts_same zero = SameSets.none
   firsts_same (suc n) = put (firsts_same n)
     where
@@ -190,7 +191,7 @@ cuts_same (d ∷ cuts) one other same = append (cut_works d.guard d.value (same 
 pub time_same : {v : ℕ} {ls ks : List SymbolicSet} (net : RawNet) (asked : SymbolicAsked) (one other : ℕ → SymbolicSet) → SameSets v ls ks → SameFamily v one other → AreSame v (time_work net ls asked one) (time_work net ks asked other)
 time_same {v} {ls} {ks} net asked one other p same =
     let all = firsts_same v one other same net.nets in
-    append (cuts_same asked.cuts (uncut net asked.weak ls one) (uncut net asked.weak ks other) (λ id. unless_same (is_weakened asked.weak id) (source_same net one other p same (source_of net id))))
+    append (cuts_same asked.cuts (set_before_cuts net asked.weak ls one) (set_before_cuts net asked.weak ks other) (λ id. unless_same (is_weakened asked.weak id) (source_same net one other p same (source_of net id))))
     (append (gates_same v one other same net asked.weak net.gates)
     (append (for_each some_bit (λ w x. same_some) all) (append (for_each no_bit (λ w x. same_none) all) (chains disjunction (or_respects _) itself (for_each no_bit (λ w x. same_none) all)))))
 

@@ -6,7 +6,8 @@ use Rattle.bool_expr.specs.declared.expr.Expr.TheFolds.{fold-roll-Expr}
 use Rattle.bool_expr.specs.Value.{value_of, value_step}
 use Rattle.dd_nodes.specs.Functions.{node_count}
 use Rattle.net_core.specs.declared.raw.RawNet.{RawNet}
-use Rattle.net_core.specs.Work.{Function, SymbolicCut, SymbolicSet, always, conjunction, everything, negation, some_empty, sum, sums, time_work}
+use Rattle.ste_base.specs.Functions.{Function}
+use Rattle.net_core.specs.Work.{SymbolicCut, SymbolicSet, always, conjunction, everything, negation, some_empty, sum, sums, time_work}
 use Rattle.ste_model.specs.Expressions.{SymbolicValue, symbolic_step, symbolic_value}
 use Rattle.ste_model.specs.Samples.{SamplesAreCounted, and_gate, guarded_set, guarded_table, one, p, plain_table, q, variable}
 use Rattle.ste_model.specs.Work.{consequents_work, strong_findings, weak_findings}

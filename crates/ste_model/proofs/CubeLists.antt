@@ -7,7 +7,8 @@ use Rattle.std.proofs.lemmas.List.Sums.{sum_by-append, sum_by-cons}
 use Rattle.std.proofs.Math.Seq.{get_or-append_seam}
 use Rattle.ste_base.specs.declared.id.VarId.{VarId}
 use Rattle.ste_model.specs.Assignments.{EachAssignment}
-use Rattle.ste_model.specs.Cubes.{AssignmentSet, AreOneSet, cofactor, are_same_sets, with_literal, cubes_from, satisfies, is_in_cube, CubesFollowCases, CubesAreExact}
+use Rattle.ste_base.specs.Functions.{Function}
+use Rattle.ste_model.specs.Cubes.{AreOneSet, first_cofactor, are_same_sets, with_literal, cubes_from, satisfies, is_in_cube, CubesFollowCases, CubesAreExact}
 
 agree : (a b : Bool) → (if a then b else not b) ≡ true → a ≡ b
 agree false false e = refl
@@ -22,71 +23,71 @@ agrees true false e = cc
 agrees true true e = refl
 
 -- sets that are called the same have the same assignments
-pub same_sets : (n : ℕ) (one other : AssignmentSet) → are_same_sets n one other ≡ true → AreOneSet n one other
+pub same_sets : (n : ℕ) (one other : Function) → are_same_sets n one other ≡ true → AreOneSet n one other
 same_sets zero one other e [] l = agree (one []) (other []) e
 same_sets zero one other e (b ∷ bits) l = absurd (omega arith)
 same_sets (suc n) one other e [] l = absurd (omega arith)
 same_sets (suc n) one other e (false ∷ bits) l =
-    same_sets n (cofactor false one) (cofactor false other) (and_parts (are_same_sets n (cofactor false one) (cofactor false other)) _ e).0 bits (omega arith)
+    same_sets n (first_cofactor false one) (first_cofactor false other) (and_parts (are_same_sets n (first_cofactor false one) (first_cofactor false other)) _ e).0 bits (omega arith)
 same_sets (suc n) one other e (true ∷ bits) l =
-    same_sets n (cofactor true one) (cofactor true other) (and_parts (are_same_sets n (cofactor false one) (cofactor false other)) _ e).1 bits (omega arith)
+    same_sets n (first_cofactor true one) (first_cofactor true other) (and_parts (are_same_sets n (first_cofactor false one) (first_cofactor false other)) _ e).1 bits (omega arith)
 
 -- and the other way round
-pub sets_same : (n : ℕ) (one other : AssignmentSet) → AreOneSet n one other → are_same_sets n one other ≡ true
+pub sets_same : (n : ℕ) (one other : Function) → AreOneSet n one other → are_same_sets n one other ≡ true
 sets_same zero one other same = agrees (one []) (other []) (same [] refl)
 sets_same (suc n) one other same =
-    and_from (are_same_sets n (cofactor false one) (cofactor false other)) _
-    (sets_same n (cofactor false one) (cofactor false other) (λ bits l. same (false ∷ bits) (ap suc l)))
-    (sets_same n (cofactor true one) (cofactor true other) (λ bits l. same (true ∷ bits) (ap suc l)))
+    and_from (are_same_sets n (first_cofactor false one) (first_cofactor false other)) _
+    (sets_same n (first_cofactor false one) (first_cofactor false other) (λ bits l. same (false ∷ bits) (ap suc l)))
+    (sets_same n (first_cofactor true one) (first_cofactor true other) (λ bits l. same (true ∷ bits) (ap suc l)))
 
 no_case : {A : Type 0} (b : Bool) (one other : A) → ¬ (b ≡ true) → (if b then one else other) ≡ other
 no_case false one other ne = refl
 no_case true one other ne = absurd (ne refl)
 
 -- the case of two cofactors that are the same
-pub from_same : (var n : ℕ) (set : AssignmentSet) → AreOneSet n (cofactor false set) (cofactor true set) → cubes_from var (suc n) set ≡ cubes_from (suc var) n (cofactor false set)
-from_same var n set same = rw (sets_same n (cofactor false set) (cofactor true set) same)
+pub from_same : (var n : ℕ) (set : Function) → AreOneSet n (first_cofactor false set) (first_cofactor true set) → cubes_from var (suc n) set ≡ cubes_from (suc var) n (first_cofactor false set)
+from_same var n set same = rw (sets_same n (first_cofactor false set) (first_cofactor true set) same)
 
 -- the case of two that differ
-pub from_differ : (var n : ℕ) (set : AssignmentSet) → ¬ AreOneSet n (cofactor false set) (cofactor true set) → cubes_from var (suc n) set ≡ with_literal var false (cubes_from (suc var) n (cofactor false set)) ++ with_literal var true (cubes_from (suc var) n (cofactor true set))
-from_differ var n set differ = no_case (are_same_sets n (cofactor false set) (cofactor true set)) _ _ (λ e. differ (same_sets n (cofactor false set) (cofactor true set) e))
+pub from_differ : (var n : ℕ) (set : Function) → ¬ AreOneSet n (first_cofactor false set) (first_cofactor true set) → cubes_from var (suc n) set ≡ with_literal var false (cubes_from (suc var) n (first_cofactor false set)) ++ with_literal var true (cubes_from (suc var) n (first_cofactor true set))
+from_differ var n set differ = no_case (are_same_sets n (first_cofactor false set) (first_cofactor true set)) _ _ (λ e. differ (same_sets n (first_cofactor false set) (first_cofactor true set) e))
 
-pub from_empty : (var n : ℕ) (set : AssignmentSet) → EachAssignment n (λ bits. set bits ≡ false) → cubes_from var n set ≡ []
+pub from_empty : (var n : ℕ) (set : Function) → EachAssignment n (λ bits. set bits ≡ false) → cubes_from var n set ≡ []
 from_empty var zero set none = rw (none [] refl)
 from_empty var (suc n) set none =
     from_same var n set (λ rest l. none (false ∷ rest) (ap suc l) ∙ sym (none (true ∷ rest) (ap suc l)))
-    ∙ from_empty (suc var) n (cofactor false set) (λ rest l. none (false ∷ rest) (ap suc l))
+    ∙ from_empty (suc var) n (first_cofactor false set) (λ rest l. none (false ∷ rest) (ap suc l))
 
-pub from_full : (var n : ℕ) (set : AssignmentSet) → EachAssignment n (λ bits. set bits ≡ true) → cubes_from var n set ≡ [] ∷ []
+pub from_full : (var n : ℕ) (set : Function) → EachAssignment n (λ bits. set bits ≡ true) → cubes_from var n set ≡ [] ∷ []
 from_full var zero set all = rw (all [] refl)
 from_full var (suc n) set all =
     from_same var n set (λ rest l. all (false ∷ rest) (ap suc l) ∙ sym (all (true ∷ rest) (ap suc l)))
-    ∙ from_full (suc var) n (cofactor false set) (λ rest l. all (false ∷ rest) (ap suc l))
+    ∙ from_full (suc var) n (first_cofactor false set) (λ rest l. all (false ∷ rest) (ap suc l))
 
 pub cubes_follow_cases : CubesFollowCases
 cubes_follow_cases = record { empty = from_empty; full = from_full; same = from_same; differ = from_differ }
 
 -- the cubes of two sets with the same assignments
-pub cubes_alike : (var n : ℕ) (one other : AssignmentSet) → AreOneSet n one other → cubes_from var n one ≡ cubes_from var n other
+pub cubes_alike : (var n : ℕ) (one other : Function) → AreOneSet n one other → cubes_from var n one ≡ cubes_from var n other
 cubes_alike var zero one other same = rw (same [] refl)
 cubes_alike var (suc n) one other same =
-    let low = cubes_alike (suc var) n (cofactor false one) (cofactor false other) (λ rest l. same (false ∷ rest) (ap suc l)) in
-    let high = cubes_alike (suc var) n (cofactor true one) (cofactor true other) (λ rest l. same (true ∷ rest) (ap suc l)) in
-    by (are_same_sets n (cofactor false one) (cofactor true one)) refl low high
+    let low = cubes_alike (suc var) n (first_cofactor false one) (first_cofactor false other) (λ rest l. same (false ∷ rest) (ap suc l)) in
+    let high = cubes_alike (suc var) n (first_cofactor true one) (first_cofactor true other) (λ rest l. same (true ∷ rest) (ap suc l)) in
+    by (are_same_sets n (first_cofactor false one) (first_cofactor true one)) refl low high
   where
-    by : (b : Bool) → are_same_sets n (cofactor false one) (cofactor true one) ≡ b
-        → cubes_from (suc var) n (cofactor false one) ≡ cubes_from (suc var) n (cofactor false other)
-        → cubes_from (suc var) n (cofactor true one) ≡ cubes_from (suc var) n (cofactor true other)
+    by : (b : Bool) → are_same_sets n (first_cofactor false one) (first_cofactor true one) ≡ b
+        → cubes_from (suc var) n (first_cofactor false one) ≡ cubes_from (suc var) n (first_cofactor false other)
+        → cubes_from (suc var) n (first_cofactor true one) ≡ cubes_from (suc var) n (first_cofactor true other)
         → cubes_from var (suc n) one ≡ cubes_from var (suc n) other
     by true e low high =
-        let together = same_sets n (cofactor false one) (cofactor true one) e in
+        let together = same_sets n (first_cofactor false one) (first_cofactor true one) e in
         from_same var n one together ∙ low
         ∙ sym (from_same var n other (λ rest l. sym (same (false ∷ rest) (ap suc l)) ∙ together rest l ∙ same (true ∷ rest) (ap suc l)))
     by false e low high =
-        let apart : ¬ AreOneSet n (cofactor false one) (cofactor true one) = λ t. cc (sets_same n (cofactor false one) (cofactor true one) t) in
+        let apart : ¬ AreOneSet n (first_cofactor false one) (first_cofactor true one) = λ t. cc (sets_same n (first_cofactor false one) (first_cofactor true one) t) in
         from_differ var n one apart
-        ∙ ap (λ cubes. with_literal var false cubes ++ with_literal var true (cubes_from (suc var) n (cofactor true one))) low
-        ∙ ap (λ cubes. with_literal var false (cubes_from (suc var) n (cofactor false other)) ++ with_literal var true cubes) high
+        ∙ ap (λ cubes. with_literal var false cubes ++ with_literal var true (cubes_from (suc var) n (first_cofactor true one))) low
+        ∙ ap (λ cubes. with_literal var false (cubes_from (suc var) n (first_cofactor false other)) ++ with_literal var true cubes) high
         ∙ sym (from_differ var n other (λ t. apart (λ rest l. same (false ∷ rest) (ap suc l) ∙ t rest l ∙ sym (same (true ∷ rest) (ap suc l)))))
 
 counted_cons : (bits : List Bool) (cube : List (VarId × Bool)) (cubes : List (List (VarId × Bool))) → count_by (is_in_cube bits) (cube ∷ cubes) ≡ (if is_in_cube bits cube then 1 else 0) + count_by (is_in_cube bits) cubes
@@ -136,7 +137,7 @@ abbrev one_if : Bool → ℕ
 one_if b = if b then 1 else 0
 
 -- which cofactor an assignment is in
-split_at : (b : Bool) (set : AssignmentSet) (rest : List Bool) → (if b then one_if (set (true ∷ rest)) else one_if (set (false ∷ rest))) ≡ one_if (set (b ∷ rest))
+split_at : (b : Bool) (set : Function) (rest : List Bool) → (if b then one_if (set (true ∷ rest)) else one_if (set (false ∷ rest))) ≡ one_if (set (b ∷ rest))
 split_at false set rest = refl
 split_at true set rest = refl
 
@@ -144,7 +145,7 @@ blank_or_none : (bits : List Bool) (b : Bool) → count_by (is_in_cube bits) (if
 blank_or_none bits true = refl
 blank_or_none bits false = refl
 
-exact_by : (var n : ℕ) (set : AssignmentSet) (before rest : List Bool) → length before ≡ var → length rest ≡ n → count_by (is_in_cube (before ++ rest)) (cubes_from var n set) ≡ (if set rest then 1 else 0)
+exact_by : (var n : ℕ) (set : Function) (before rest : List Bool) → length before ≡ var → length rest ≡ n → count_by (is_in_cube (before ++ rest)) (cubes_from var n set) ≡ (if set rest then 1 else 0)
 exact_by var zero set before (b ∷ rest) l m = absurd (omega arith)
 exact_by var zero set before [] l m = blank_or_none (before ++ []) (set [])
 exact_by var (suc n) set before [] l m = absurd (omega arith)
@@ -152,28 +153,28 @@ exact_by var (suc n) set before (b ∷ rest) l m =
     let longer : length (before ++ b ∷ []) ≡ suc var = length-append before (b ∷ []) ∙ omega arith in
     let one : (before ++ b ∷ []) ++ rest ≡ before ++ b ∷ rest = append_assoc before (b ∷ []) rest in
     let at : get_or (before ++ b ∷ rest) var false ≡ b = ap (λ (k : ℕ). get_or (before ++ b ∷ rest) k false) (sym l) ∙ get_or-append_seam before b rest false in
-    let part : (bit : Bool) → count_by (is_in_cube (before ++ b ∷ rest)) (cubes_from (suc var) n (cofactor bit set)) ≡ (if set (bit ∷ rest) then 1 else 0) =
-    λ bit. subst (λ (bits : List Bool). count_by (is_in_cube bits) (cubes_from (suc var) n (cofactor bit set)) ≡ (if set (bit ∷ rest) then 1 else 0)) one
-    (exact_by (suc var) n (cofactor bit set) (before ++ b ∷ []) rest longer (omega arith)) in
-    by (are_same_sets n (cofactor false set) (cofactor true set)) refl at part (omega arith)
+    let part : (bit : Bool) → count_by (is_in_cube (before ++ b ∷ rest)) (cubes_from (suc var) n (first_cofactor bit set)) ≡ (if set (bit ∷ rest) then 1 else 0) =
+    λ bit. subst (λ (bits : List Bool). count_by (is_in_cube bits) (cubes_from (suc var) n (first_cofactor bit set)) ≡ (if set (bit ∷ rest) then 1 else 0)) one
+    (exact_by (suc var) n (first_cofactor bit set) (before ++ b ∷ []) rest longer (omega arith)) in
+    by (are_same_sets n (first_cofactor false set) (first_cofactor true set)) refl at part (omega arith)
   where
     to : (c : Bool) → set (false ∷ rest) ≡ set (true ∷ rest) → set (false ∷ rest) ≡ set (c ∷ rest)
     to false e = refl
     to true e = e
 
-    by : (same : Bool) → are_same_sets n (cofactor false set) (cofactor true set) ≡ same
+    by : (same : Bool) → are_same_sets n (first_cofactor false set) (first_cofactor true set) ≡ same
         → get_or (before ++ b ∷ rest) var false ≡ b
-        → ((bit : Bool) → count_by (is_in_cube (before ++ b ∷ rest)) (cubes_from (suc var) n (cofactor bit set)) ≡ (if set (bit ∷ rest) then 1 else 0))
+        → ((bit : Bool) → count_by (is_in_cube (before ++ b ∷ rest)) (cubes_from (suc var) n (first_cofactor bit set)) ≡ (if set (bit ∷ rest) then 1 else 0))
         → length rest ≡ n
         → count_by (is_in_cube (before ++ b ∷ rest)) (cubes_from var (suc n) set) ≡ (if set (b ∷ rest) then 1 else 0)
     by true e at part m =
-        let together = same_sets n (cofactor false set) (cofactor true set) e in
+        let together = same_sets n (first_cofactor false set) (first_cofactor true set) e in
         ap (count_by (is_in_cube (before ++ b ∷ rest))) (from_same var n set together) ∙ part false
         ∙ ap one_if (to b (together rest m))
     by false e at part m =
-        let apart : ¬ AreOneSet n (cofactor false set) (cofactor true set) = λ t. cc (sets_same n (cofactor false set) (cofactor true set) t) in
+        let apart : ¬ AreOneSet n (first_cofactor false set) (first_cofactor true set) = λ t. cc (sets_same n (first_cofactor false set) (first_cofactor true set) t) in
         ap (count_by (is_in_cube (before ++ b ∷ rest))) (from_differ var n set apart)
-        ∙ in_both (before ++ b ∷ rest) var b (cubes_from (suc var) n (cofactor false set)) (cubes_from (suc var) n (cofactor true set)) (one_if (set (false ∷ rest))) (one_if (set (true ∷ rest))) at (part false) (part true)
+        ∙ in_both (before ++ b ∷ rest) var b (cubes_from (suc var) n (first_cofactor false set)) (cubes_from (suc var) n (first_cofactor true set)) (one_if (set (false ∷ rest))) (one_if (set (true ∷ rest))) at (part false) (part true)
         ∙ split_at b set rest
 
 pub cubes_are_exact : CubesAreExact

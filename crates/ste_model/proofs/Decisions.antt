@@ -42,7 +42,7 @@ some_or_not P or_not (x ∷ xs) = elim (or_not x) [
 
 -- ---- facts of assignments
 
--- what can be decided of each assignment is told by a function
+-- what can be decided of each assignment is given by a function
 test : {A : Type 0} → Dec A → Bool
 test (yes h) = true
 test (no h) = false

@@ -1,6 +1,7 @@
 -- The sample of a graph: expressions give way to their functions, and then the number is counted.
 use Rattle.std.proofs.Common.{ℕ, List, [], ◌∷◌, ◌++◌, refl}
-use Rattle.net_core.specs.Work.{Function, SymbolicCut, SymbolicSet, conjunction, negation, some_empty, sum, sums, time_work}
+use Rattle.ste_base.specs.Functions.{Function}
+use Rattle.net_core.specs.Work.{SymbolicCut, SymbolicSet, conjunction, negation, some_empty, sum, sums, time_work}
 use Rattle.ste_model.specs.declared.task.Edge.{Edge}
 use Rattle.ste_model.specs.Expressions.{SymbolicValue}
 use Rattle.ste_model.specs.GraphSamples.{GraphSamplesAreCounted, edge_in, edge_out, latch_alone, short_graph, short_sets, short_tables}

@@ -11,7 +11,8 @@ use Rattle.net_core.specs.declared.raw.RawNet.{RawNet}
 use Rattle.net_core.specs.Possible.{ArePossible}
 use Rattle.net_core.specs.Run.{IsSettled}
 use Rattle.net_core.specs.Sets.{neither}
-use Rattle.net_core.specs.Work.{Function, SymbolicSet, chain, disjunction, never, set_at, sum}
+use Rattle.ste_base.specs.Functions.{Function}
+use Rattle.net_core.specs.Work.{SymbolicSet, chain, disjunction, never, set_at, sum}
 use Rattle.net_core.proofs.Possible.{one_family, some_family}
 use Rattle.ste_model.specs.declared.task.Edge.{Edge}
 use Rattle.ste_model.specs.declared.task.Graph.{Graph}

@@ -1,4 +1,4 @@
--- Each finding of a graph is told by a function of the assignments, and so there is exactly one verdict.
+-- Each finding of a graph is given by a function of the assignments, and so there is exactly one verdict.
 use Rattle.std.proofs.Common.{◌≡◌, ℕ, Bool, true, not, List, refl, subst}
 use Rattle.std.specs.Prelude.{All, Any, IsTrue}
 use Rattle.net_core.specs.declared.bit_set.BitSet.{BitSet}
@@ -12,7 +12,7 @@ use Rattle.ste_model.specs.declared.verdict.Verdict.{Verdict}
 use Rattle.ste_model.specs.declared.verdict.Verdict.TheVariants.{Pass, Weak, Strong, Vacuous, Budget}
 use Rattle.ste_model.specs.Edges.{IsGraph, asked_on, bind_cuts}
 use Rattle.ste_model.specs.Found.{IsVerdict}
-use Rattle.ste_model.specs.GraphFound.{FailsOn, GraphFindingsAreTold, IsGraphContradictory, IsGraphFound, IsGraphStrong, IsGraphVerdict, IsGraphWeak, OneGraphVerdict}
+use Rattle.ste_model.specs.GraphFound.{FailsOn, GraphFindingsAreDecided, IsGraphContradictory, IsGraphFound, IsGraphStrong, IsGraphVerdict, IsGraphWeak, OneGraphVerdict}
 use Rattle.ste_model.specs.GraphTable.{IsFeasible, IsLeastClosed, VertexState}
 use Rattle.ste_model.proofs.Decisions.{set_or_not, some_or_not, tells_each, tells_some, told}
 use Rattle.ste_model.proofs.Findings.{verdict_from}
@@ -71,8 +71,8 @@ module _ (net : RawNet) (graph : Graph) (settled : IsSettled net) (good : IsGrap
   weak_or_not : (bits : List Bool) → Dec (IsGraphWeak net graph bits)
   weak_or_not bits = and_or_not (not_or_not (strong_or_not bits)) (found_or_not (λ set cut. IsTrue cut.on × (set ≡ both)) (λ set cut. and_or_not (same_or_not cut.on true) (set_or_not set both)) bits)
 
-pub graph_findings_are_told : GraphFindingsAreTold
-graph_findings_are_told = record {
+pub graph_findings_are_decided : GraphFindingsAreDecided
+graph_findings_are_decided = record {
   strong = λ net vars graph settled good. told vars (IsGraphStrong net graph) (strong_or_not net graph settled good);
   weak = λ net vars graph settled good. told vars (IsGraphWeak net graph) (weak_or_not net graph settled good);
   contradictory = λ net vars graph settled good. told vars (IsGraphContradictory net graph) (contradictory_or_not net graph settled good);
@@ -80,9 +80,9 @@ graph_findings_are_told = record {
 
 some_verdict : (net : RawNet) (vars : ℕ) (graph : Graph) → IsSettled net → IsGraph graph → (verdict : Verdict) × IsGraphVerdict net vars graph verdict
 some_verdict net vars graph settled good =
-    let s = graph_findings_are_told.strong net vars graph settled good in
-    let w = graph_findings_are_told.weak net vars graph settled good in
-    let c = graph_findings_are_told.contradictory net vars graph settled good in (
+    let s = graph_findings_are_decided.strong net vars graph settled good in
+    let w = graph_findings_are_decided.weak net vars graph settled good in
+    let c = graph_findings_are_decided.contradictory net vars graph settled good in (
       _,
       verdict_from vars (IsGraphStrong net graph) (IsGraphWeak net graph) (IsGraphContradictory net graph) _ _ _
           (tells_some vars s.0 (IsGraphStrong net graph) s.1) (tells_some vars w.0 (IsGraphWeak net graph) w.1) (tells_each vars c.0 (IsGraphContradictory net graph) c.1),

@@ -1,4 +1,4 @@
--- The functions of the results tell the findings of a graph, assignment by assignment.
+-- The functions of the results give the findings of a graph, assignment by assignment.
 use Rattle.std.proofs.Common.{◌≡◌, ℕ, ◌<◌, Bool, true, false, not, List, map, length, get_or, refl, subst, ◌∙◌}
 use Rattle.std.specs.Prelude.{All, Any, Contains, IsTrue, ◌↔◌}
 use Rattle.std.specs.List.{flat_map}
@@ -10,7 +10,8 @@ use Rattle.net_core.specs.declared.raw.RawNet.{RawNet}
 use Rattle.net_core.specs.Possible.{ArePossible}
 use Rattle.net_core.specs.Run.{IsSettled}
 use Rattle.net_core.specs.Sets.{both, only}
-use Rattle.net_core.specs.Work.{Function, SymbolicCut, SymbolicSet, conjunction, negation, set_at, some_empty, sum}
+use Rattle.ste_base.specs.Functions.{Function}
+use Rattle.net_core.specs.Work.{SymbolicCut, SymbolicSet, conjunction, negation, set_at, some_empty, sum}
 use Rattle.net_core.proofs.Possible.{one_family}
 use Rattle.ste_model.specs.declared.task.Edge.{Edge}
 use Rattle.ste_model.specs.declared.task.Graph.{Graph}

@@ -21,7 +21,7 @@ use Rattle.ste_model.specs.declared.task.Assertion.{Assertion}
 use Rattle.ste_model.specs.Asked.{asked_at, cuts_at, depth}
 use Rattle.ste_model.specs.Found.{IsTableOf}
 use Rattle.ste_model.specs.Report.{IsFailingPlace}
-use Rattle.ste_model.specs.Shown.{IsFilled, IsFirst, IsOpen, IsPrinted}
+use Rattle.ste_model.specs.Shown.{IsFilled, IsFirstBit, IsOpen, IsPrinted}
 use Rattle.ste_model.proofs.Tables.{same_table}
 use Rattle.ste_model.proofs.Verdicts.{some_or_not}
 
@@ -93,7 +93,7 @@ one_filled cuts id b c f g = elim (open_or_asked cuts id) [
   | inr any ↦ one_asked cuts id b c f.asked g.asked any
 ]
 
-pub one_first : (reset : Bool) (latch : Latch) (cuts : List Cut) (b c : Bool) → IsFirst reset latch cuts b → IsFirst reset latch cuts c → MayStart reset latch b → MayStart reset latch c → b ≡ c
+pub one_first : (reset : Bool) (latch : Latch) (cuts : List Cut) (b c : Bool) → IsFirstBit reset latch cuts b → IsFirstBit reset latch cuts c → MayStart reset latch b → MayStart reset latch c → b ≡ c
 one_first reset latch cuts b c f g s t = elim (open_or_asked cuts latch.output.0) [
   | inl none ↦ by reset latch.init refl (f.rest none) (g.rest none) s t
   | inr any ↦ one_asked cuts latch.output.0 b c f.asked g.asked any

@@ -3,7 +3,7 @@ use Rattle.std.proofs.Common.{◌≡◌, ℕ, suc, zero, Bool, true, false, List
 use Rattle.std.specs.Prelude.{◌⊎◌, take, slice_get, Some}
 use Rattle.ste_model.specs.Assignments.{IsBefore, AssignmentsAreOrdered}
 
--- a bit more in front of both changes nothing
+-- one more bit in front of both changes nothing
 behind_front : (bit : Bool) (one other : List Bool) → IsBefore one other → IsBefore (bit ∷ one) (bit ∷ other)
 behind_front bit one other h = record { place = suc h.place; same = ap (λ bits. bit ∷ bits) h.same; earlier = h.earlier; later = h.later }
 

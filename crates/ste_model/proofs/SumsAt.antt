@@ -8,7 +8,8 @@ use Rattle.net_core.specs.declared.bit_set.BitSet.{BitSet}
 use Rattle.net_core.specs.declared.raw.RawNet.{RawNet}
 use Rattle.net_core.specs.Run.{Cut}
 use Rattle.net_core.specs.Sets.{IsEmptyAt, both, neither, only}
-use Rattle.net_core.specs.Work.{Function, SymbolicCut, SymbolicSet, conjunction, first_sets, no_bit, set_at, some_empty, sum}
+use Rattle.ste_base.specs.Functions.{Function}
+use Rattle.net_core.specs.Work.{SymbolicCut, SymbolicSet, conjunction, sets_below, no_bit, set_at, some_empty, sum}
 use Rattle.net_core.proofs.GateSets.{sum_cons}
 use Rattle.bool_expr.specs.Value.{value_of}
 use Rattle.ste_model.specs.declared.task.Bind.{Bind}
@@ -78,24 +79,24 @@ empty_bits false false = (λ h. refl, λ e. refl)
 empty_bits true o = (λ h. absurd (cc h), λ e. absurd (cc (parts_of true false o false e).0))
 empty_bits false true = (λ h. absurd (cc h), λ e. absurd (cc (parts_of false false true false e).1))
 
-first_empty : (sets : ℕ → SymbolicSet) (n : ℕ) (bits : List Bool) → IsTrue (sum (map no_bit (first_sets sets n)) bits) ↔ ((id : ℕ) × (id < n) × (set_at bits (sets id) ≡ neither))
+first_empty : (sets : ℕ → SymbolicSet) (n : ℕ) (bits : List Bool) → IsTrue (sum (map no_bit (sets_below sets n)) bits) ↔ ((id : ℕ) × (id < n) × (set_at bits (sets id) ≡ neither))
 first_empty sets zero bits = (λ h. absurd (cc h), λ at. absurd (let l = at.1 in omega arith))
 first_empty sets (suc n) bits = (
-  λ h. elim (or_cases (sum (map no_bit (first_sets sets n)) bits) (no_bit (sets n) bits) (sym last ∙ h)) [
+  λ h. elim (or_cases (sum (map no_bit (sets_below sets n)) bits) (no_bit (sets n) bits) (sym last ∙ h)) [
     | inl early ↦ let at = (first_empty sets n bits).0 early in (at.0, let l = at.1 in omega arith, at.2)
     | inr here ↦ (n, omega arith, (empty_bits ((sets n).zero bits) ((sets n).one bits)).0 here)
   ],
   λ at. last ∙ elim (below at.0 at.1) [
-    | inl early ↦ or_left (sum (map no_bit (first_sets sets n)) bits) (no_bit (sets n) bits) ((first_empty sets n bits).1 (at.0, early, at.2))
-    | inr same ↦ or_right (sum (map no_bit (first_sets sets n)) bits) (no_bit (sets n) bits) ((empty_bits ((sets n).zero bits) ((sets n).one bits)).1 (subst (λ (k : ℕ). set_at bits (sets k) ≡ neither) same at.2))
+    | inl early ↦ or_left (sum (map no_bit (sets_below sets n)) bits) (no_bit (sets n) bits) ((first_empty sets n bits).1 (at.0, early, at.2))
+    | inr same ↦ or_right (sum (map no_bit (sets_below sets n)) bits) (no_bit (sets n) bits) ((empty_bits ((sets n).zero bits) ((sets n).one bits)).1 (subst (λ (k : ℕ). set_at bits (sets k) ≡ neither) same at.2))
   ],
 )
   where
     alone : (f : Function) (bs : List Bool) → sum (f ∷ []) bs ≡ f bs
     alone f bs = refl
 
-    last : sum (map no_bit (first_sets sets (suc n))) bits ≡ (sum (map no_bit (first_sets sets n)) bits || no_bit (sets n) bits)
-    last = ap (λ (fs : List Function). sum fs bits) (map-append no_bit (first_sets sets n) (sets n ∷ [])) ∙ sum_append (map no_bit (first_sets sets n)) (no_bit (sets n) ∷ []) bits
+    last : sum (map no_bit (sets_below sets (suc n))) bits ≡ (sum (map no_bit (sets_below sets n)) bits || no_bit (sets n) bits)
+    last = ap (λ (fs : List Function). sum fs bits) (map-append no_bit (sets_below sets n) (sets n ∷ [])) ∙ sum_append (map no_bit (sets_below sets n)) (no_bit (sets n) ∷ []) bits
 
     below : (k : ℕ) → k < suc n → (k < n) ⊎ (k ≡ n)
     below k l = elim (cases_lt k n) [ inl less ↦ inl less | inr more ↦ inr (omega arith) ]

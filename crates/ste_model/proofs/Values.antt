@@ -7,7 +7,8 @@ use Rattle.bool_expr.specs.declared.expr.Expr.{map-Expr, roll-Expr}
 use Rattle.bool_expr.specs.declared.expr.Expr.TheOpen.{Expr-F, Const, Var, Not, All, Odd, Any}
 use Rattle.bool_expr.specs.declared.expr.Expr.TheFolds.{ind-Expr, fold-roll-Expr}
 use Rattle.bool_expr.specs.Value.{flips, value_of, value_step}
-use Rattle.net_core.specs.Work.{Function, always, conjunction, disjunction, never, whole}
+use Rattle.ste_base.specs.Functions.{Function}
+use Rattle.net_core.specs.Work.{always, conjunction, disjunction, never, whole}
 use Rattle.ste_model.specs.Expressions.{FunctionsAreValues, SymbolicValue, exclusive_disjunction, symbolic_step, symbolic_value}
 
 -- the functions of expressions

@@ -1,4 +1,4 @@
--- Each finding is told by a function of the assignments, and so there is exactly one verdict.
+-- Each finding is given by a function of the assignments, and so there is exactly one verdict.
 use Rattle.std.proofs.Common.{◌≡◌, ℕ, ◌<◌, zero, suc, Bool, true, false, not, List, [], ◌∷◌, length, get_or, arith, refl, sym, subst, ◌∙◌, ap}
 use Rattle.std.specs.Prelude.{Any, IsTrue, ◌↔◌}
 use Rattle.std.proofs.Math.Decide.{dec_lt}
@@ -12,7 +12,7 @@ use Rattle.ste_model.specs.declared.verdict.Verdict.{Verdict}
 use Rattle.ste_model.specs.declared.verdict.Verdict.TheVariants.{Pass, Weak, Strong, Vacuous, Budget}
 use Rattle.ste_model.specs.Asked.{asked_at, cuts_at, depth}
 use Rattle.ste_model.specs.Assignments.{EachAssignment, SomeAssignment, Tells}
-use Rattle.ste_model.specs.Found.{FindingsAreTold, IsContradictory, IsEmptySomewhere, IsFound, IsStrong, IsTableOf, IsVerdict, IsVerdictOf, IsWeak, OneVerdict}
+use Rattle.ste_model.specs.Found.{FindingsAreDecided, IsContradictory, IsEmptySomewhere, IsFound, IsStrong, IsTableOf, IsVerdict, IsVerdictOf, IsWeak, OneVerdict}
 use Rattle.ste_model.proofs.Findings.{found_in}
 use Rattle.ste_model.proofs.Tables.{same_table, some_table}
 
@@ -117,14 +117,14 @@ module _ (net : RawNet) (task : Assertion) (settled : IsSettled net) where
         | no h ↦ no (λ found. h (found_in Says net task bits settled made.0 made.1 found))
       ]
 
-  strong_or_not : (bits : List Bool) → Dec (IsStrong net task bits)
+  pub strong_or_not : (bits : List Bool) → Dec (IsStrong net task bits)
   strong_or_not = found_or_not (λ set cut. IsTrue cut.on × (set ≡ only (not cut.value))) (λ set cut. and_or_not (same_or_not cut.on true) (set_or_not set (only (not cut.value))))
 
   weak_or_not : (bits : List Bool) → Dec (IsWeak net task bits)
   weak_or_not bits = and_or_not (not_or_not (strong_or_not bits)) (found_or_not (λ set cut. IsTrue cut.on × (set ≡ both)) (λ set cut. and_or_not (same_or_not cut.on true) (set_or_not set both)) bits)
 
-pub findings_are_told : FindingsAreTold
-findings_are_told = record {
+pub findings_are_decided : FindingsAreDecided
+findings_are_decided = record {
   strong = λ net vars task settled. told vars (IsStrong net task) (strong_or_not net task settled);
   weak = λ net vars task settled. told vars (IsWeak net task) (weak_or_not net task settled);
   contradictory = λ net vars task settled. told vars (IsContradictory net task) (contradictory_or_not net task settled);

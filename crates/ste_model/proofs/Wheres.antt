@@ -1,4 +1,4 @@
--- The functions of the results tell the findings, assignment by assignment.
+-- The functions of the results give the findings, assignment by assignment.
 use Rattle.std.proofs.Common.{◌≡◌, ℕ, ◌<◌, zero, suc, Bool, true, false, not, List, [], ◌∷◌, map, filter, length, get_or, arith, sym, ap, refl, subst, ◌∙◌, inl, inr}
 use Rattle.std.specs.Prelude.{Any, IsTrue, ◌↔◌, ◌&&◌, ◌||◌, if◌then◌else◌}
 use Rattle.std.specs.List.{list_any}
@@ -11,7 +11,8 @@ use Rattle.net_core.specs.declared.bit_set.BitSet.{BitSet}
 use Rattle.net_core.specs.declared.raw.RawNet.{RawNet}
 use Rattle.net_core.specs.Run.{Cut, IsSettled}
 use Rattle.net_core.specs.Sets.{both, neither, only}
-use Rattle.net_core.specs.Work.{Function, SymbolicSet, SymbolicCut, set_at, conjunction, disjunction, never, whole, sum, no_bit, some_empty, first_sets}
+use Rattle.ste_base.specs.Functions.{Function}
+use Rattle.net_core.specs.Work.{SymbolicSet, SymbolicCut, set_at, conjunction, disjunction, never, whole, sum, no_bit, some_empty, sets_below}
 use Rattle.ste_model.specs.declared.task.Assertion.{Assertion}
 use Rattle.ste_model.specs.declared.task.Quint.{Quint}
 use Rattle.ste_model.specs.Asked.{asked_at, cuts_at, quint_at, depth}
@@ -62,9 +63,9 @@ empty_is w bits = by (w.zero bits) (w.one bits)
     by true o = (λ h. absurd (cc h), λ e. absurd (let f : true ≡ false = ap (λ (s : BitSet). s.zero) e in cc f))
     by false true = (λ h. absurd (cc h), λ e. absurd (let f : true ≡ false = ap (λ (s : BitSet). s.one) e in cc f))
 
-any_empty : (sets : ℕ → SymbolicSet) (n : ℕ) (bits : List Bool) → list_any (λ g. g bits) (map no_bit (first_sets sets n)) ≡ true → (id : ℕ) × (id < n) × (set_at bits (sets id) ≡ neither)
+any_empty : (sets : ℕ → SymbolicSet) (n : ℕ) (bits : List Bool) → list_any (λ g. g bits) (map no_bit (sets_below sets n)) ≡ true → (id : ℕ) × (id < n) × (set_at bits (sets id) ≡ neither)
 any_empty sets zero bits h = absurd (cc h)
-any_empty sets (suc n) bits h = elim (or_cases (list_any (λ g. g bits) (map no_bit (first_sets sets n))) (no_bit (sets n) bits || false) (sym (map_append sets n bits) ∙ h)) [
+any_empty sets (suc n) bits h = elim (or_cases (list_any (λ g. g bits) (map no_bit (sets_below sets n))) (no_bit (sets n) bits || false) (sym (map_append sets n bits) ∙ h)) [
   | inl early ↦ let e = any_empty sets n bits early in (e.0, let l = e.1 in omega arith, e.2)
   | inr last ↦ (n, omega arith, (empty_is (sets n) bits).0 (no_false (no_bit (sets n) bits) last))
 ]
@@ -73,16 +74,16 @@ any_empty sets (suc n) bits h = elim (or_cases (list_any (λ g. g bits) (map no_
     no_false true e = refl
     no_false false e = e
 
-    map_append : (s : ℕ → SymbolicSet) (k : ℕ) (bs : List Bool) → list_any (λ g. g bs) (map no_bit (first_sets s (suc k))) ≡ (list_any (λ g. g bs) (map no_bit (first_sets s k)) || (no_bit (s k) bs || false))
-    map_append s k bs = ap (λ (fs : List Function). list_any (λ g. g bs) fs) (map-append no_bit (first_sets s k) (s k ∷ [])) ∙ list_any-append (λ g. g bs) (map no_bit (first_sets s k)) (no_bit (s k) ∷ [])
+    map_append : (s : ℕ → SymbolicSet) (k : ℕ) (bs : List Bool) → list_any (λ g. g bs) (map no_bit (sets_below s (suc k))) ≡ (list_any (λ g. g bs) (map no_bit (sets_below s k)) || (no_bit (s k) bs || false))
+    map_append s k bs = ap (λ (fs : List Function). list_any (λ g. g bs) fs) (map-append no_bit (sets_below s k) (s k ∷ [])) ∙ list_any-append (λ g. g bs) (map no_bit (sets_below s k)) (no_bit (s k) ∷ [])
 
-empty_at : (sets : ℕ → SymbolicSet) (n id : ℕ) (bits : List Bool) → id < n → set_at bits (sets id) ≡ neither → list_any (λ g. g bits) (map no_bit (first_sets sets n)) ≡ true
+empty_at : (sets : ℕ → SymbolicSet) (n id : ℕ) (bits : List Bool) → id < n → set_at bits (sets id) ≡ neither → list_any (λ g. g bits) (map no_bit (sets_below sets n)) ≡ true
 empty_at sets zero id bits lt e = absurd (omega arith)
 empty_at sets (suc n) id bits lt e =
-    ap (λ (fs : List Function). list_any (λ g. g bits) fs) (map-append no_bit (first_sets sets n) (sets n ∷ [])) ∙ list_any-append (λ g. g bits) (map no_bit (first_sets sets n)) (no_bit (sets n) ∷ [])
+    ap (λ (fs : List Function). list_any (λ g. g bits) fs) (map-append no_bit (sets_below sets n) (sets n ∷ [])) ∙ list_any-append (λ g. g bits) (map no_bit (sets_below sets n)) (no_bit (sets n) ∷ [])
     ∙ elim (cases_lt id n) [
-      | inl early ↦ or_left (list_any (λ g. g bits) (map no_bit (first_sets sets n))) (no_bit (sets n) bits || false) (empty_at sets n id bits early e)
-      | inr late ↦ let same : id ≡ n = omega arith in or_right (list_any (λ g. g bits) (map no_bit (first_sets sets n))) (no_bit (sets n) bits || false)
+      | inl early ↦ or_left (list_any (λ g. g bits) (map no_bit (sets_below sets n))) (no_bit (sets n) bits || false) (empty_at sets n id bits early e)
+      | inr late ↦ let same : id ≡ n = omega arith in or_right (list_any (λ g. g bits) (map no_bit (sets_below sets n))) (no_bit (sets n) bits || false)
           (or_left (no_bit (sets n) bits) false ((empty_is (sets n) bits).1 (subst (λ (k : ℕ). set_at bits (sets k) ≡ neither) same e)))
     ]
 
@@ -157,7 +158,7 @@ module _ (net : RawNet) (vars : ℕ) (task : Assertion) (table : ℕ → ℕ →
   empty_found h =
       let e = any_through (λ t. some_empty net (table t) ∷ []) (depth task) bits (sym (sum_any (all_empty net task table) bits) ∙ h) in
       let f : some_empty net (table e.0) bits ≡ true = no_false (some_empty net (table e.0) bits) e.2 in
-      let g = any_empty (table e.0) net.nets bits (sym (sum_any (map no_bit (first_sets (table e.0) net.nets)) bits) ∙ f) in
+      let g = any_empty (table e.0) net.nets bits (sym (sum_any (map no_bit (sets_below (table e.0) net.nets)) bits) ∙ f) in
       (e.0, e.1, (g.0, g.1, g.2))
     where
       no_false : (b : Bool) → (b || false) ≡ true → b ≡ true
@@ -167,7 +168,7 @@ module _ (net : RawNet) (vars : ℕ) (task : Assertion) (table : ℕ → ℕ →
   found_empty : IsEmptySomewhere net task here → contradictory_where net task table bits ≡ true
   found_empty (t, lt, (id, inside, e)) =
       sum_any (all_empty net task table) bits ∙ through_at (λ k. some_empty net (table k) ∷ []) (depth task) t bits lt
-      (or_left (some_empty net (table t) bits) false (sum_any (map no_bit (first_sets (table t) net.nets)) bits ∙ empty_at (table t) net.nets id bits inside e))
+      (or_left (some_empty net (table t) bits) false (sum_any (map no_bit (sets_below (table t) net.nets)) bits ∙ empty_at (table t) net.nets id bits inside e))
 
   pub contradictory_is : IsTrue (contradictory_where net task table bits) ↔ IsContradictory net task bits
   contradictory_is = (

@@ -9,14 +9,16 @@ use Rattle.ste_model.specs.Holds.{RunMeets}
 abbrev pub Breaks : (ℕ → Bool) → Cut → Type 0
 Breaks bit cut = IsTrue cut.on × (bit cut.node ≡ not cut.value)
 
--- The run breaks the consequent at time t and at its quintuple of number k: this is the first one in text order that
--- applies there and whose net has the opposite bit.
-pub record BreaksAt (task : Assertion) (bits : List Bool) (run : ℕ → ℕ → Bool) (t k : ℕ) : Type 0 where
+-- The run breaks the consequent at time t and at its quintuple of number k: this is the first one
+-- in text order that applies there and whose net has the opposite bit.
+pub record BreaksAt (task : Assertion) (bits : List Bool) (run : ℕ → ℕ → Bool) (t k : ℕ) :
+    Type 0 where
   pub cut : Cut
   pub within : t < depth task
   pub here : slice_get (cuts_at task.con bits t) k ≡ Some cut
   pub broken : Breaks (run t) cut
-  pub first : (j : ℕ) (other : Cut) → j < k → slice_get (cuts_at task.con bits t) j ≡ Some other → ¬ Breaks (run t) other
+  pub first : (j : ℕ) (other : Cut) → j < k → slice_get (cuts_at task.con bits t) j ≡ Some other →
+      ¬ Breaks (run t) other
 
 -- Law: a run meets the consequent, or breaks it at some place, and not both.
 pub record MeetsOrBreaks : Type 0 where

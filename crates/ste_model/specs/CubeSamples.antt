@@ -1,10 +1,11 @@
 -- Law, as samples: the cubes of each set of assignments of two variables x and y, worked by hand.
 use Rattle.std.specs.Prelude.{◌≡◌, Bool, false, true, if◌then◌else◌, [], ◌∷◌, slice_index_or}
 use Rattle.ste_base.specs.declared.id.VarId.{VarId}
-use Rattle.ste_model.specs.Cubes.{AssignmentSet, cubes_of}
+use Rattle.ste_base.specs.Functions.{Function}
+use Rattle.ste_model.specs.Cubes.{cubes_of}
 
 -- the set that has the assignments 00, 01, 10 and 11 of x and y where these bits are 1
-abbrev pub table : Bool → Bool → Bool → Bool → AssignmentSet
+abbrev pub table : Bool → Bool → Bool → Bool → Function
 table a b c d bits =
     if slice_index_or bits 0 false then (if slice_index_or bits 1 false then d else c)
     else (if slice_index_or bits 1 false then b else a)

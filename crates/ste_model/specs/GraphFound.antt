@@ -1,5 +1,6 @@
--- Meaning, and laws. What is found of an assertion graph under an assignment, and its verdict over all assignments. Source:
--- Yang and Seger; the names of the verdicts and their order are choices of this project.
+-- Meaning, and laws. What is found of an assertion graph under an assignment, and its verdict over
+-- all assignments. Source: Yang and Seger; the names of the verdicts and their order are choices of
+-- this project.
 use Rattle.std.specs.Prelude.{◌≡◌, ℕ, Bool, List, All, Any, ◌⊎◌}
 use Rattle.net_core.specs.declared.bit_set.BitSet.{BitSet}
 use Rattle.net_core.specs.declared.raw.RawNet.{RawNet}
@@ -15,14 +16,17 @@ use Rattle.ste_model.specs.GraphHolds.{GraphHolds}
 use Rattle.ste_model.specs.GraphTable.{IsFeasible, IsLeastClosed, VertexState}
 
 -- the edge is feasible under the table, and some consequent of it fails so in its possible sets
-abbrev pub FailsOn : ((ℕ → BitSet) → Cut → Type 0) → RawNet → List Bool → (ℕ → VertexState) → Edge → Type 0
+abbrev pub FailsOn : ((ℕ → BitSet) → Cut → Type 0) → RawNet → List Bool → (ℕ → VertexState) → Edge →
+    Type 0
 FailsOn Fails net bits table edge =
-    (sets : ℕ → BitSet) × IsFeasible net bits table edge sets × Any (Fails sets) (bind_cuts edge.con bits)
+    (sets : ℕ → BitSet) × IsFeasible net bits table edge sets
+    × Any (Fails sets) (bind_cuts edge.con bits)
 
 -- under the least closed table some edge has a consequent that fails so
 abbrev pub IsGraphFound : ((ℕ → BitSet) → Cut → Type 0) → RawNet → Graph → List Bool → Type 0
 IsGraphFound Fails net graph bits =
-    (table : ℕ → VertexState) × IsLeastClosed net graph bits table × Any (FailsOn Fails net bits table) graph.edges
+    (table : ℕ → VertexState) × IsLeastClosed net graph bits table
+    × Any (FailsOn Fails net bits table) graph.edges
 
 -- a strong assignment: some consequent is found strong
 abbrev pub IsGraphStrong : RawNet → Graph → List Bool → Type 0
@@ -30,7 +34,8 @@ IsGraphStrong net graph bits = IsGraphFound FailsStrongly net graph bits
 
 -- a weak assignment: it is not strong, and some consequent is found weak
 abbrev pub IsGraphWeak : RawNet → Graph → List Bool → Type 0
-IsGraphWeak net graph bits = (¬ IsGraphStrong net graph bits) × IsGraphFound FailsWeakly net graph bits
+IsGraphWeak net graph bits = (¬ IsGraphStrong net graph bits)
+    × IsGraphFound FailsWeakly net graph bits
 
 -- a contradictory assignment: under the least closed table no edge is feasible
 abbrev pub IsGraphContradictory : RawNet → Graph → List Bool → Type 0
@@ -41,10 +46,11 @@ IsGraphContradictory net graph bits =
 -- the verdict of a graph over so many variables
 abbrev pub IsGraphVerdict : RawNet → ℕ → Graph → Verdict → Type 0
 IsGraphVerdict net vars graph verdict =
-    IsVerdict vars (IsGraphStrong net graph) (IsGraphWeak net graph) (IsGraphContradictory net graph) verdict
+    IsVerdict vars (IsGraphStrong net graph) (IsGraphWeak net graph)
+    (IsGraphContradictory net graph) verdict
 
--- Law: in a net without loops some function of the assignments tells each finding.
-pub record GraphFindingsAreTold : Type 0 where
+-- Law: in a net without loops some function of the assignments decides each finding.
+pub record GraphFindingsAreDecided : Type 0 where
   pub strong : (net : RawNet) (vars : ℕ) (graph : Graph) → IsSettled net → IsGraph graph →
       (function : List Bool → Bool) × Tells vars function (IsGraphStrong net graph)
   pub weak : (net : RawNet) (vars : ℕ) (graph : Graph) → IsSettled net → IsGraph graph →
@@ -63,4 +69,5 @@ pub record OneGraphVerdict : Type 0 where
 abbrev pub GraphPassHolds : Type 0
 GraphPassHolds =
     (net : RawNet) (vars : ℕ) (graph : Graph) (verdict : Verdict) → IsSettled net → IsGraph graph →
-    (verdict ≡ Pass) ⊎ (verdict ≡ Vacuous) → IsGraphVerdict net vars graph verdict → GraphHolds net vars graph
+    (verdict ≡ Pass) ⊎ (verdict ≡ Vacuous) → IsGraphVerdict net vars graph verdict →
+    GraphHolds net vars graph

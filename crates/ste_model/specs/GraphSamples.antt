@@ -51,7 +51,8 @@ unreached = record { reached = never; latches = nothing ∷ [] }
 abbrev pub reached_with : SymbolicSet → SymbolicState
 reached_with set = record { reached = always; latches = set ∷ [] }
 
--- vertex 0 is reached from round 1 on, and each vertex behind it one round later, vertex 1 with the first variable in the latch
+-- vertex 0 is reached from round 1 on, and each vertex behind it one round later, vertex 1 with the
+-- first variable in the latch
 abbrev pub short_tables : ℕ → ℕ → SymbolicState
 short_tables zero vertex = unreached
 short_tables (suc n) zero = reached_with everything
@@ -61,7 +62,8 @@ short_tables (suc (suc zero)) (suc (suc vertex)) = unreached
 short_tables (suc (suc (suc n))) (suc (suc zero)) = reached_with everything
 short_tables (suc (suc (suc n))) (suc (suc (suc vertex))) = unreached
 
--- on the first edge d is the first variable, on the second one it is free; q is what the latch is at the source
+-- on the first edge d is the first variable, on the second one it is free; q is what the latch is
+-- at the source
 abbrev pub sets_from : ℕ → ℕ → ℕ → SymbolicSet
 sets_from n zero zero = exactly p
 sets_from n (suc vertex) zero = everything
@@ -73,7 +75,8 @@ sets_from (suc (suc n)) (suc vertex) (suc id) = exactly p
 abbrev pub short_sets : ℕ → Edge → ℕ → SymbolicSet
 short_sets n edge id = sets_from n edge.from id
 
--- Law: a graph of two edges over a latch takes 8 nodes: with p and r the variables, p, !p, r, !r, p & !r, !p & r, p ^ r and
--- !(p ^ r).
+-- Law: a graph of two edges over a latch takes 8 nodes: with p and r the variables, p, !p, r, !r, p
+-- & !r, !p & r, p ^ r and !(p ^ r).
 abbrev pub GraphSamplesAreCounted : Type 0
-GraphSamplesAreCounted = node_count 2 (graph_work latch_alone short_graph short_tables short_sets) ≡ 8
+GraphSamplesAreCounted = node_count 2 (graph_work latch_alone short_graph short_tables short_sets)
+    ≡ 8

@@ -7,7 +7,8 @@ use Rattle.dd_nodes.specs.Functions.{node_count}
 use Rattle.net_core.specs.declared.cover.Lit.TheVariants.{One}
 use Rattle.net_core.specs.declared.raw.Init.TheVariants.{Free}
 use Rattle.net_core.specs.declared.raw.RawNet.{RawNet}
-use Rattle.net_core.specs.Work.{Function, SymbolicSet, always, conjunction, everything, negation}
+use Rattle.ste_base.specs.Functions.{Function}
+use Rattle.net_core.specs.Work.{SymbolicSet, always, conjunction, everything, negation}
 use Rattle.ste_model.specs.declared.task.Assertion.{Assertion}
 use Rattle.ste_model.specs.declared.task.Quint.{Quint}
 use Rattle.ste_model.specs.Work.{task_work}
@@ -15,7 +16,8 @@ use Rattle.ste_model.specs.Work.{task_work}
 abbrev pub id_of : ℕ → NodeId
 id_of n = record { 0 = n }
 
--- y = a & b, where a is net 0, b is net 1 and y is net 2; b is an input, or a latch's output that takes a's bit
+-- y = a & b, where a is net 0, b is net 1 and y is net 2; b is an input, or a latch's output that
+-- takes a's bit
 abbrev pub and_gate : Bool → RawNet
 and_gate false = record {
   nets = 3;
@@ -48,7 +50,8 @@ abbrev pub q : Function
 q bits = slice_index_or bits 1 false
 
 abbrev pub quint : Expr → ℕ → Expr → ℕ → ℕ → Quint
-quint guard node value from to = record { guard = guard; node = id_of node; value = value; from = from; to = to }
+quint guard node value from to =
+    record { guard = guard; node = id_of node; value = value; from = from; to = to }
 
 -- the bit of a function alone
 abbrev pub exactly : Function → SymbolicSet
@@ -81,7 +84,10 @@ guarded_task = record {
 
 -- what a is, and what the latch is one time later
 abbrev pub guarded_set : SymbolicSet
-guarded_set = record { zero = negation (conjunction q p); one = negation (conjunction q (negation p)) }
+guarded_set = record {
+  zero = negation (conjunction q p);
+  one = negation (conjunction q (negation p));
+}
 
 -- where y can be 0: always at time 0, and at time 1 where a can be
 abbrev pub guarded_table : ℕ → ℕ → SymbolicSet
@@ -91,8 +97,8 @@ guarded_table (suc t) (suc zero) = guarded_set
 guarded_table zero (suc (suc id)) = record { zero = always; one = guarded_set.one }
 guarded_table (suc t) (suc (suc id)) = guarded_set
 
--- Law: an AND of two variables takes 7 nodes: p, !p, q, !q, p & q, p & !q and !(p & q). With a guard and a latch, over two
--- times, it takes 8.
+-- Law: an AND of two variables takes 7 nodes: p, !p, q, !q, p & q, p & !q and !(p & q). With a
+-- guard and a latch, over two times, it takes 8.
 pub record SamplesAreCounted : Type 0 where
   pub plain : node_count 2 (task_work (and_gate false) plain_task plain_table) ≡ 7
   pub guarded : node_count 2 (task_work (and_gate true) guarded_task guarded_table) ≡ 8

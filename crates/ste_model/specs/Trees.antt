@@ -1,5 +1,5 @@
--- Meaning. What tasks say, with trees for their expressions: two tasks that say the same differ only in where they lie in
--- memory.
+-- Meaning. What tasks say, with trees for their expressions: two tasks that say the same differ
+-- only in where they lie in memory.
 use Rattle.std.specs.Prelude.{ℕ, Bool, List, map}
 use Rattle.bool_expr.specs.Tree.{Tree, tree_of}
 use Rattle.ste_model.specs.declared.task.Bind.{Bind}
@@ -47,10 +47,18 @@ pub data TaskTree : Type 0 where
 
 -- the same of what the program holds
 abbrev pub quint_tree : Quint → QuintTree
-quint_tree quint = record { guard = tree_of quint.guard; node = quint.node.0; value = tree_of quint.value; from = quint.from; to = quint.to }
+quint_tree quint =
+    record {
+      guard = tree_of quint.guard;
+      node = quint.node.0;
+      value = tree_of quint.value;
+      from = quint.from;
+      to = quint.to;
+    }
 
 abbrev pub bind_tree : Bind → BindTree
-bind_tree bind = record { guard = tree_of bind.guard; node = bind.node.0; value = tree_of bind.value }
+bind_tree bind =
+    record { guard = tree_of bind.guard; node = bind.node.0; value = tree_of bind.value }
 
 abbrev pub weak_tree : Weakening → WeakTree
 weak_tree weakening = record { node = weakening.node.0; from = weakening.from; to = weakening.to }
@@ -66,5 +74,6 @@ edge_tree edge = record {
 
 abbrev pub task_tree : Task → TaskTree
 task_tree (Ste task) =
-    assertion task.name task.reset (map quint_tree task.ant) (map quint_tree task.con) (map weak_tree task.weak)
+    assertion task.name task.reset (map quint_tree task.ant) (map quint_tree task.con)
+    (map weak_tree task.weak)
 task_tree (Gste task) = graph task.name task.reset task.vertices (map edge_tree task.edges)

@@ -59,7 +59,8 @@ fn is_weak_at_start(weak: &[Weakening], node: NodeId) -> bool
     some_of_start(weak, node)
 }
 
-/// Whether a quintuple asks of an input or free net, or at time 0 alone of a latch output that is not weakened then.
+/// Whether a quintuple asks of an input or free net, or at time 0 alone of a latch output that is
+/// not weakened then.
 fn is_quint_bindable(net: &Net, weak: &[Weakening], quint: &Quint) -> bool
     requires { quint.now.node.0 < net.now.raw.nets }
     ensures { IsTrue result ↔ IsQuintBindable net.now.raw weak.now quint.now }
@@ -73,8 +74,8 @@ fn is_quint_bindable(net: &Net, weak: &[Weakening], quint: &Quint) -> bool
     is_latch_output(net, quint.node) && !is_weak_at_start(weak, quint.node)
 }
 
-/// Whether each quintuple asks of an input or free net, or at time 0 alone of a latch output that is not weakened then, so
-/// that a run can be made to meet them all. It takes no memory.
+/// Whether each quintuple asks of an input or free net, or at time 0 alone of a latch output that
+/// is not weakened then, so that a run can be made to meet them all. It takes no memory.
 pub fn are_quints_bindable(net: &Net, weak: &[Weakening], quints: &[Quint]) -> bool
     requires { All (λ quint. quint.node.0 < net.now.raw.nets) quints.now }
     ensures { IsTrue result ↔ All (IsQuintBindable net.now.raw weak.now) quints.now }
@@ -114,8 +115,9 @@ pub fn are_edges_free(net: &Net, edges: &[Edge]) -> bool
     true
 }
 
-/// Whether the antecedent of a task asks of inputs and free nets alone, and in an assertion also, at time 0 alone, of latch
-/// outputs that are not weakened then, so that a run can be made to meet it. It takes no memory.
+/// Whether the antecedent of a task asks of inputs and free nets alone, and in an assertion also,
+/// at time 0 alone, of latch outputs that are not weakened then, so that a run can be made to meet
+/// it. It takes no memory.
 pub fn bindable(net: &Net, task: &Task) -> bool
     requires { AsksOfNets net.now.raw task.now }
     ensures { IsTrue result ↔ IsBindable net.now.raw task.now }

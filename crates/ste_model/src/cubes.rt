@@ -2,8 +2,8 @@
 
 use ste_base::{Items, VarId};
 
-/// The assignments in which some variables have these bits: different variables, in the order of declaration. The blank
-/// cube has all assignments.
+/// The assignments in which some variables have these bits: different variables, in the order of
+/// declaration. The blank cube has all assignments.
 pub type Cube = Items<(VarId, bool)>;
 
 /// The first cubes of a list of cubes, in its order, and whether it has more.

@@ -1,6 +1,6 @@
 //! The laws of assertion graphs: each is the contract of a function that does nothing.
 
-ghost use Rattle.ste_model.specs.GraphFound.{GraphFindingsAreTold, GraphPassHolds, OneGraphVerdict};
+ghost use Rattle.ste_model.specs.GraphFound.{GraphFindingsAreDecided, GraphPassHolds, OneGraphVerdict};
 ghost use Rattle.ste_model.specs.GraphHops.{PathsAreShown};
 ghost use Rattle.ste_model.specs.GraphNeed.{GraphResultsAreFindings, OneGraphNeed};
 ghost use Rattle.ste_model.specs.GraphReport.{OneGraphReportOf};
@@ -19,9 +19,9 @@ pub fn one_least_closed()
     ensures { OneLeastClosed }
 {}
 
-/// Some function of the assignments tells each finding of a graph.
-pub fn graph_findings_are_told()
-    ensures { GraphFindingsAreTold }
+/// Some function of the assignments decides each finding of a graph.
+pub fn graph_findings_are_decided()
+    ensures { GraphFindingsAreDecided }
 {}
 
 /// A graph has exactly one verdict.
@@ -34,8 +34,8 @@ pub fn graph_pass_holds()
     ensures { GraphPassHolds }
 {}
 
-/// Weakening more nets takes no bit out of a table, and makes no assignment of an assertion strong that was neither strong
-/// nor contradictory.
+/// Weakening more nets takes no bit out of a table, and makes no assignment of an assertion strong
+/// that was neither strong nor contradictory.
 pub fn weakened_grow()
     ensures { WeakenedGrow }
 {}
@@ -45,13 +45,14 @@ pub fn found_has_candidate()
     ensures { FoundHasCandidate }
 {}
 
-/// Where hops tell what is known of the edges under the least closed table, the path along them is the shown one; where there
-/// is none there is no candidate.
+/// Where hops say what is known of the edges under the least closed table, the path along them is
+/// the shown one; where there is none there is no candidate.
 pub fn paths_are_shown()
     ensures { PathsAreShown }
 {}
 
-/// A printed run along a candidate path meets the antecedents, and breaks the consequents where the failure is strong.
+/// A printed run along a candidate path meets the antecedents, and breaks the consequents where the
+/// failure is strong.
 pub fn due_breaks_along()
     ensures { DueBreaksAlong }
 {}
@@ -61,7 +62,8 @@ pub fn one_graph_need()
     ensures { OneGraphNeed }
 {}
 
-/// The functions of the results tell under which assignments a graph is strong, weak and contradictory.
+/// The functions of the results give under which assignments a graph is strong, weak and
+/// contradictory.
 pub fn graph_results_are_findings()
     ensures { GraphResultsAreFindings }
 {}

@@ -3,7 +3,7 @@
 ghost use Rattle.ste_model.specs.Assignments.{AssignmentsAreOrdered};
 ghost use Rattle.ste_model.specs.Breaks.{MeetsOrBreaks};
 ghost use Rattle.ste_model.specs.Expressions.{FunctionsAreValues};
-ghost use Rattle.ste_model.specs.Found.{FindingsAreTold, OneVerdict, PassHolds};
+ghost use Rattle.ste_model.specs.Found.{FindingsAreDecided, OneVerdict, PassHolds};
 ghost use Rattle.ste_model.specs.Need.{OneNeed, ResultsAreFindings};
 ghost use Rattle.ste_model.specs.Report.{OneReportOf};
 ghost use Rattle.ste_model.specs.Samples.{SamplesAreCounted};
@@ -24,9 +24,9 @@ pub fn meets_or_breaks()
     ensures { MeetsOrBreaks }
 {}
 
-/// Some function of the assignments tells each finding.
-pub fn findings_are_told()
-    ensures { FindingsAreTold }
+/// Some function of the assignments decides each finding.
+pub fn findings_are_decided()
+    ensures { FindingsAreDecided }
 {}
 
 /// An assertion has exactly one verdict.
@@ -44,7 +44,8 @@ pub fn functions_are_values()
     ensures { FunctionsAreValues }
 {}
 
-/// The functions of the results tell under which assignments an assertion is strong, weak and contradictory.
+/// The functions of the results give under which assignments an assertion is strong, weak and
+/// contradictory.
 pub fn results_are_findings()
     ensures { ResultsAreFindings }
 {}
@@ -54,7 +55,8 @@ pub fn one_need()
     ensures { OneNeed }
 {}
 
-/// The work functions of an AND of two variables have 7 nodes; with a guard and a latch, over two times, they have 8.
+/// The work functions of an AND of two variables have 7 nodes; with a guard and a latch, over two
+/// times, they have 8.
 pub fn samples_are_counted()
     ensures { SamplesAreCounted }
 {}

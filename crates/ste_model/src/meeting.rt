@@ -44,8 +44,8 @@ fn is_met(run: &Run, bits: &[bool], quint: &Quint) -> bool
     has_bit_from(row_of(run, quint.node), quint.from, quint.to, bit)
 }
 
-/// Whether a run meets quintuples under an assignment: at each time at which one applies its net has its value's bit. A
-/// time or net without a bit in the run has 0. It takes no memory.
+/// Whether a run meets quintuples under an assignment: at each time at which one applies its net
+/// has its value's bit. A time or net without a bit in the run has 0. It takes no memory.
 pub fn meets(run: &Run, bits: &[bool], quints: &[Quint]) -> bool
     ensures { IsTrue result ↔ RunMeets (cuts_at quints.now bits.now) (run_of run.now) }
 {

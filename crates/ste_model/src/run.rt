@@ -2,7 +2,8 @@
 
 use ste_base::Items;
 
-/// A run of so many time steps: a row for each net, in the order of `NodeId`, with one bit for each time step.
+/// A run of so many time steps: a row for each net, in the order of `NodeId`, with one bit for each
+/// time step.
 #[derive(Debug, Drop)]
 pub struct Run {
     pub length: u32,

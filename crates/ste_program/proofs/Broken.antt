@@ -47,7 +47,7 @@ use Rattle.ste_io.specs.Outside.{FilesState}
 use Rattle.work_pool.specs.Told.{IsToldOf}
 use Rattle.ste_program.specs.Check.{IsCheck, task_steps}
 use Rattle.ste_program.specs.Holds.{BreaksAlong, BreaksIn, BreaksTask, GraphHoldsOf, HoldsOf, TaskHoldsOf}
-use Rattle.ste_program.specs.Report.{CheckBreaks, CheckHolds, IsWritten, PassHolds, PassesHold, RunsBreak, TheyBreak}
+use Rattle.ste_program.specs.Report.{CheckBreaks, CheckHolds, IsWritten, ReportedPassHolds, PassesHold, RunsBreak, TheyBreak}
 use Rattle.ste_program.specs.private.Made.{AreBindsIn, IsCheckable}
 use Rattle.ste_program.proofs.TaskLists.{ants_in, checkable_ant, checkable_con, cons_in, graph_over, promised}
 use Rattle.ste_program.proofs.TasksDeclared.{tasks_declared}
@@ -86,7 +86,7 @@ no_budget : (name : List ℕ) (report : TaskReport) → (report.verdict ≡ Pass
 no_budget name report (inl pass) over = let both : Pass ≡ Budget = sym pass ∙ ap (λ (r : TaskReport). r.verdict) over in cc both
 no_budget name report (inr vacuous) over = let both : Vacuous ≡ Budget = sym vacuous ∙ ap (λ (r : TaskReport). r.verdict) over in cc both
 
--- where pass is told of a task, it holds
+-- where pass is reported for a task, it holds
 task_holds : (models : List Model) (net : RawNet) (vars steps cubes : ℕ) (task : Task) (report : TaskReport) → IsFree (IsRefusal models) → IsFlat models net → IsSettled net → IsCheckable net.nets vars task → (report.verdict ≡ Pass) ⊎ (report.verdict ≡ Vacuous) →
     IsToldOf net vars steps cubes task report → TaskHoldsOf models vars task
 task_holds models net vars steps cubes (Ste task) report sound flat settled checkable says (inl told) = held models net vars task sound flat (pass_holds net vars task report.verdict settled says told.judged)
@@ -114,7 +114,7 @@ action_holds (info net) asked net_text second_text passes bytes written = tt
 action_holds (sim net inputs) asked net_text second_text passes bytes written = tt
 action_holds (bench stages) asked net_text second_text passes bytes written = check_holds asked.steps asked.cubes asked.wave asked.nodes (pipeline_net stages) (pipeline_tasks stages) passes written.report written.check
 
-pub passes_hold : (command : Option Command) (files : FilesState) → PassHolds command files
+pub passes_hold : (command : Option Command) (files : FilesState) → ReportedPassHolds command files
 passes_hold command files passes bytes report = action_holds report.asked.action report.asked report.net_text report.second_text passes bytes report.written
 
 -- the finding under the least assignment of a strong failure
@@ -132,7 +132,7 @@ meets_as quints bits nets one other inside same meets = λ t k d l on.
     let cut = get_or (cuts_at quints bits t) k d in
     same t cut.node (asks_of_nets nets bits t quints inside k d l) ∙ meets t k d l on
 
--- a run that a report tells breaks the assertion
+-- a run that a report shows breaks the assertion
 module _ (models : List Model) (net : RawNet) (vars cubes : ℕ) (task : Assertion) (sound : IsFree (IsRefusal models)) (flat : IsFlat models net) (settled : IsSettled net) (ant : All (λ quint. quint.node.0 < net.nets) task.ant) (con : All (λ quint. quint.node.0 < net.nets) task.con) where
   printed_breaks : (bits : List Bool) (run : Run) → IsStrong net task bits → IsPrinted net task bits (run_of run) → RunMeets (cuts_at task.ant bits) (run_of run) → BreaksIn models task bits run
   printed_breaks bits run strong printed meets =
@@ -218,11 +218,11 @@ module _ (models : List Model) (net : RawNet) (vars : ℕ) (graph : Graph) (soun
 
 -- ---- tasks
 
--- a report of budget tells no run
+-- a report of budget shows no run
 no_run : (name : List ℕ) (report : TaskReport) (run : Run) → report.run ≡ Some run → report ≡ budget_report name → ⊥
 no_run name report run is over = let both : Some run ≡ None = sym is ∙ ap (λ (r : TaskReport). r.run) over in cc both
 
--- a run that is told of a task breaks it
+-- a run that is shown of a task breaks it
 task_breaks : (models : List Model) (net : RawNet) (vars steps cubes : ℕ) (task : Task) (report : TaskReport) (run : Run) → IsFree (IsRefusal models) → IsFlat models net → IsSettled net → IsCheckable net.nets vars task → report.run ≡ Some run →
     IsToldOf net vars steps cubes task report → (bits : List Bool) × (report.least ≡ Some bits) × (length bits ≡ vars) × BreaksTask models task bits report.path run
 task_breaks models net vars steps cubes (Ste task) report run sound flat settled checkable is (inl told) =
@@ -231,7 +231,7 @@ task_breaks models net vars steps cubes (Ste task) report run sound flat settled
 task_breaks models net vars steps cubes (Gste graph) report run sound flat settled checkable is (inl told) = graph_broken models net vars graph sound flat settled checkable report run is told.shown told.run
 task_breaks models net vars steps cubes (Gste graph) report run sound flat settled checkable is (inr over) = absurd (no_run graph.name report run is over.0)
 
--- where a check tells a run, it breaks its task
+-- where a check shows a run, it breaks its task
 check_breaks : (steps : Option ℕ) (cubes : ℕ) (wave nodes : Bool) (net_text task_text : List ℕ) (passes : Bool) (bytes : List ℕ) (written : IsCheck steps cubes wave nodes net_text task_text passes bytes) → CheckBreaks steps cubes wave nodes net_text task_text passes bytes written
 check_breaks given cubes wave nodes net_text task_text passes bytes written = λ place task report run here there is.
     let r = written.reading in

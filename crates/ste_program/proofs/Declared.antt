@@ -12,12 +12,12 @@ use Rattle.bool_expr.specs.declared.token.Sign.{Sign}
 use Rattle.bool_expr.specs.Grammar.{Level, Phrase, Expression, chained, literal, named, negated, bracketed, single, joined, parts, spelling, tree}
 use Rattle.bool_expr.specs.Read.{first_unknown, number_in, place_by}
 use Rattle.bool_expr.specs.Tokens.{Token, closing, sign}
-use Rattle.bool_expr.specs.Tree.{Tree, Trees, all_of, bit, chain, more, none, opposite, place, tree_of, tree_step, under}
+use Rattle.bool_expr.specs.Tree.{Tree, Trees, all_of, bit, tree_of_chain, more, none, opposite, place, tree_of, tree_step, under}
 use Rattle.bool_expr.proofs.Places.{within_names}
 use Rattle.assert_syntax.specs.Forms.{Entry, Form}
 use Rattle.assert_syntax.specs.Forms as form
 use Rattle.assert_syntax.specs.Parses.{Parse, is_deep, tree_over}
-use Rattle.assert_syntax.specs.Places.{Context, clause_fault, context_of, fault_or, first_fault, form_fault, line_fault, may_stand, unknown_fault, vars_behind}
+use Rattle.assert_syntax.specs.Places.{Context, clause_fault, context_of, fault_or, first_task_fault, form_fault, line_fault, may_stand_at, unknown_fault, vars_behind}
 use Rattle.assert_syntax.specs.Spelled as said
 use Rattle.assert_syntax.specs.declared.form.LineFault.{LineFault}
 use Rattle.assert_syntax.specs.declared.form.LineFault.TheVariants.{Bad, Deep}
@@ -83,7 +83,7 @@ named_below vars word number (Some n) is within e =
     lt-ltb (place_by number word) vars (subst (λ (k : Option ℕ). unwrap_or k 0 < vars) (sym is) (within word n is))
 
 -- the tree of a chain reads what its parts read
-chain_reads : (vars : ℕ) (s : Sign) (part : Tree) (rest : List Tree) → reads_tree vars part ≡ true → reads_trees vars (all_of rest) ≡ true → reads_tree vars (chain s (part ∷ rest)) ≡ true
+chain_reads : (vars : ℕ) (s : Sign) (part : Tree) (rest : List Tree) → reads_tree vars part ≡ true → reads_trees vars (all_of rest) ≡ true → reads_tree vars (tree_of_chain s (part ∷ rest)) ≡ true
 chain_reads vars s part [] h all = h
 chain_reads vars s part (next ∷ rest) h all = and_from (reads_tree vars part) (reads_trees vars (all_of (next ∷ rest))) h all
 
@@ -140,7 +140,7 @@ clause_reads names vars (Some value) (Some guard) times l e =
     (phrase_reads (number_in names) vars guard within both.1) (phrase_reads (number_in names) vars value within both.0)
 
 -- the same of what is spelled
-abbrev pub quint_reads : ℕ → said.QuintTree → Bool
+abbrev pub quint_reads : ℕ → said.RawQuintTree → Bool
 quint_reads vars quint = reads_tree vars quint.guard && reads_tree vars quint.value
 
 -- the variables behind some lines are no fewer than those before them
@@ -162,14 +162,14 @@ vars_grow names (line ∷ lines) =
     omega (arith, here, rest)
 
 -- one more clause of a side or of the other
-with_clause : (vars : ℕ) (b : Bool) (quint : said.QuintTree) (later : List said.QuintTree) → quint_reads vars quint ≡ true → list_all (quint_reads vars) later ≡ true → list_all (quint_reads vars) (if b then quint ∷ later else later) ≡ true
+with_clause : (vars : ℕ) (b : Bool) (quint : said.RawQuintTree) (later : List said.RawQuintTree) → quint_reads vars quint ≡ true → list_all (quint_reads vars) later ≡ true → list_all (quint_reads vars) (if b then quint ∷ later else later) ≡ true
 with_clause vars true quint later h all = and_from (quint_reads vars quint) (list_all (quint_reads vars) later) h all
 with_clause vars false quint later h all = all
 
-with_line : (parse : Parse) (side : Side) (context : Context) (vars line : ℕ) (form : Form) (later : List said.QuintTree) → length context.vars ≤ vars → line_fault parse context form ≡ None → list_all (quint_reads vars) later ≡ true →
+with_line : (parse : Parse) (side : Side) (context : Context) (vars line : ℕ) (form : Form) (later : List said.RawQuintTree) → length context.vars ≤ vars → line_fault parse context form ≡ None → list_all (quint_reads vars) later ≡ true →
     list_all (quint_reads vars) (said.quints_with parse side context.vars line form later) ≡ true
 with_line parse side context vars line (form.clause clause) later l e all =
-    let fine = else_none (may_stand (form.clause clause) context.place) (form_fault parse context (form.clause clause)) Bad e in
+    let fine = else_none (may_stand_at (form.clause clause) context.place) (form_fault parse context (form.clause clause)) Bad e in
     with_clause vars (said.is_side side clause.side) (said.quint_said parse context.vars line clause) later
     (clause_reads context.vars vars (parse clause.value) (parse clause.guard) clause.span l fine) all
 with_line parse side context vars line (form.vars names) later l e all = all
@@ -180,24 +180,24 @@ with_line parse side context vars line (form.weak node times) later l e all = al
 with_line parse side context vars line form.ending later l e all = all
 with_line parse side context vars line form.wrong later l e all = all
 
-pub quints_read : (parse : Parse) (side : Side) (vars : ℕ) (earlier lines : List Entry) → first_fault parse earlier lines ≡ None → length (said.vars_with (context_of earlier).vars lines) ≤ vars →
+pub quints_read : (parse : Parse) (side : Side) (vars : ℕ) (earlier lines : List Entry) → first_task_fault parse earlier lines ≡ None → length (said.vars_with (context_of earlier).vars lines) ≤ vars →
     list_all (quint_reads vars) (said.quints_of parse side (context_of earlier).vars lines) ≡ true
 quints_read parse side vars earlier [] e l = refl
 quints_read parse side vars earlier (line ∷ lines) e l =
-    let both = no_fault_or line.line (line_fault parse (context_of earlier) line.form) (first_fault parse (line ∷ earlier) lines) e in
+    let both = no_fault_or line.line (line_fault parse (context_of earlier) line.form) (first_task_fault parse (line ∷ earlier) lines) e in
     let grown = vars_grow (context_of earlier).vars (line ∷ lines) in
     with_line parse side (context_of earlier) vars line.line line.form (said.quints_of parse side (vars_behind line.form (context_of earlier).vars) lines) (omega (arith, grown, l)) both.0
     (quints_read parse side vars (line ∷ earlier) lines both.1 l)
 
 -- bound quintuples read what is spelled
-pub bound_reads : (vars : ℕ) (net : List ℕ → ℕ) (raws : List RawQuint) (quints : List Quint) → list_all (quint_reads vars) (map said.quint_tree raws) ≡ true → map bound.quint_tree quints ≡ map (quint_bound net) raws → ReadBelow vars quints
+pub bound_reads : (vars : ℕ) (net : List ℕ → ℕ) (raws : List RawQuint) (quints : List Quint) → list_all (quint_reads vars) (map said.raw_quint_tree raws) ≡ true → map bound.quint_tree quints ≡ map (quint_bound net) raws → ReadBelow vars quints
 bound_reads vars net [] [] all e = λ k d l. absurd (omega (arith, l))
 bound_reads vars net [] (q ∷ quints) all e = absurd (cc e)
 bound_reads vars net (r ∷ raws) [] all e = absurd (cc e)
 bound_reads vars net (r ∷ raws) (q ∷ quints) all e =
     let first : bound.quint_tree q ≡ quint_bound net r = cc e in
     let rest : map bound.quint_tree quints ≡ map (quint_bound net) raws = cc e in
-    let both = and_parts (quint_reads vars (said.quint_tree r)) (list_all (quint_reads vars) (map said.quint_tree raws)) all in
+    let both = and_parts (quint_reads vars (said.raw_quint_tree r)) (list_all (quint_reads vars) (map said.raw_quint_tree raws)) all in
     let sides = and_parts (reads_tree vars (tree_of r.guard)) (reads_tree vars (tree_of r.value)) both.0 in
     let guard : reads vars q.guard ≡ true = tree_read vars q.guard ∙ ap (λ (t : bound.QuintTree). reads_tree vars t.guard) first ∙ sides.0 in
     let value : reads vars q.value ≡ true = tree_read vars q.value ∙ ap (λ (t : bound.QuintTree). reads_tree vars t.value) first ∙ sides.1 in

@@ -5,13 +5,13 @@ use Rattle.std.specs.declared.alloc.Global.{Global}
 use Rattle.command_line.specs.Bounds.{IsBounded}
 use Rattle.command_line.proofs.Ranges.{commands_are_bounded}
 use Rattle.command_line.specs.Command.{Command, command_of}
-use Rattle.ste_io.specs.Outside.{FilesState, SinkState, Store, took, with_names}
-use Rattle.ste_program.specs.Answer.{AskedSome, BrokeOff, IsDecided, NoneRose, Reported, WantedMemory, WasFaulted, WasRefused, WentOut, WhyNoReport, status_of}
+use Rattle.ste_io.specs.Outside.{FilesState, SinkState, StoredFiles, took, with_names}
+use Rattle.ste_program.specs.Answer.{AskedSome, BrokeOff, IsDecided, NoneRose, Reported, WasOutOfMemory, WasFaulted, WasRefused, WentOut, WhyNoReport, status_of}
 use Rattle.ste_program.specs.Command.{files_of, files_up_to, net_file, second_file}
 use Rattle.ste_program.specs.Message.{cannot_write, message_of, out_of_memory}
-use Rattle.ste_program.specs.Order.{IsFirst, refusals}
+use Rattle.ste_program.specs.Order.{IsFirstRefusal, refusals}
 use Rattle.ste_program.specs.Report.{IsReport}
-use Rattle.ste_program.specs.private.Endings.{IsEnded, IsTold}
+use Rattle.ste_program.specs.private.Endings.{IsEnded, IsMessageWritten}
 use Rattle.ste_program.specs.private.Made.{IsMade}
 use Rattle.ste_program.specs.declared.refusal.File.{File}
 use Rattle.ste_program.specs.declared.refusal.File.TheVariants as file
@@ -108,7 +108,7 @@ pub report_broke : (command : Option Command) (files files' : FilesState) (out o
 report_broke command files files' out out' err err' passes bytes made broken =
     inr (inl (record { passes = passes; bytes = bytes; report = made.report; asking = made.asking; broken = broken.0; told = broken.1 }))
 
--- a refusal that could not be told, or of a file that could not be read
+-- a refusal that could not be reported, or of a file that could not be read
 pub ended_faulted : (command : Option Command) (files files' : FilesState) (out err err' : SinkState) (found : Refusal) (result : Status) → WhyNoReport command files files' found → IsEnded command found result err err' → result ≡ Faulted → WasFaulted command files files' out out err err'
 ended_faulted command files files' out err err' found result (inl unread) (inl (inl told)) e =
     inl (record {
@@ -131,7 +131,7 @@ ended_faulted command files files' out err err' found result why (inr (inl told)
 ended_faulted command files files' out err err' found result why (inr (inr broke)) e =
     inr (inr (record { message = out_of_memory; cause = inl refl; untouched = refl; broken = broke.1 }))
 
--- a refusal that was told
+-- a refusal that was reported
 pub ended_refused : (command : Option Command) (files files' : FilesState) (out err err' : SinkState) (found : Refusal) (result : Status) → WhyNoReport command files files' found → IsEnded command found result err err' → result ≡ Refused → WasRefused command files files' out out err err'
 ended_refused command files files' out err err' found result (inl unread) (inl (inl told)) e =
     let kind : status_of found ≡ Faulted = ap status_of unread.found_is in
@@ -144,19 +144,19 @@ ended_refused command files files' out err err' found result why (inl (inr broke
 ended_refused command files files' out err err' found result why (inr (inl told)) e = let is = told.0 in absurd (cc (is, e))
 ended_refused command files files' out err err' found result why (inr (inr broke)) e = let is = broke.0 in absurd (cc (is, e))
 
--- want of memory that was told
-pub ended_wanting : (command : Option Command) (files files' : FilesState) (out err err' : SinkState) (found : Refusal) (result : Status) → WhyNoReport command files files' found → IsEnded command found result err err' → result ≡ NoMemory → WantedMemory out out err err'
-ended_wanting command files files' out err err' found result (inl unread) (inl (inl told)) e =
+-- that memory is out was reported
+pub ended_out_of_memory : (command : Option Command) (files files' : FilesState) (out err err' : SinkState) (found : Refusal) (result : Status) → WhyNoReport command files files' found → IsEnded command found result err err' → result ≡ NoMemory → WasOutOfMemory out out err err'
+ended_out_of_memory command files files' out err err' found result (inl unread) (inl (inl told)) e =
     let kind : status_of found ≡ Faulted = ap status_of unread.found_is in
     let is = told.0 in absurd (cc (kind, is, e))
-ended_wanting command files files' out err err' found result (inr (inl memory)) (inl (inl told)) e =
+ended_out_of_memory command files files' out err err' found result (inr (inl memory)) (inl (inl told)) e =
     record { untouched = refl; told = subst (λ (f : Refusal). WentOut (message_of command f) err err') memory.0 told.1 }
-ended_wanting command files files' out err err' found result (inr (inr refused)) (inl (inl told)) e =
+ended_out_of_memory command files files' out err err' found result (inr (inr refused)) (inl (inl told)) e =
     let kind = refused.kind in
     let is = told.0 in absurd (cc (kind, is, e))
-ended_wanting command files files' out err err' found result why (inl (inr broke)) e = let is = broke.0 in absurd (cc (is, e))
-ended_wanting command files files' out err err' found result why (inr (inl told)) e = record { untouched = refl; told = told.1 }
-ended_wanting command files files' out err err' found result why (inr (inr broke)) e = let is = broke.0 in absurd (cc (is, e))
+ended_out_of_memory command files files' out err err' found result why (inl (inr broke)) e = let is = broke.0 in absurd (cc (is, e))
+ended_out_of_memory command files files' out err err' found result why (inr (inl told)) e = record { untouched = refl; told = told.1 }
+ended_out_of_memory command files files' out err err' found result why (inr (inr broke)) e = let is = broke.0 in absurd (cc (is, e))
 
 -- the status that goes with a refusal is none of a report
 kind_of : (command : Option Command) (files files' : FilesState) (found : Refusal) → WhyNoReport command files files' found → (status_of found ≡ Faulted) ⊎ ((status_of found ≡ NoMemory) ⊎ (status_of found ≡ Refused))
@@ -187,10 +187,10 @@ ended_not_failed command files files' err err' found result why (inl (inr broke)
 ended_not_failed command files files' err err' found result why (inr (inl told)) e = let is = told.0 in absurd (cc (is, e))
 ended_not_failed command files files' err err' found result why (inr (inr broke)) e = let is = broke.0 in absurd (cc (is, e))
 
--- want of memory that was told
-pub told_wanting : (out err err' : SinkState) (result : Status) → IsTold out_of_memory NoMemory result err err' → result ≡ NoMemory → WantedMemory out out err err'
-told_wanting out err err' result (inl told) e = record { untouched = refl; told = told.1 }
-told_wanting out err err' result (inr broke) e = let is = broke.0 in absurd (cc (is, e))
+-- that memory is out was reported
+pub out_of_memory_written : (out err err' : SinkState) (result : Status) → IsMessageWritten out_of_memory NoMemory result err err' → result ≡ NoMemory → WasOutOfMemory out out err err'
+out_of_memory_written out err err' result (inl told) e = record { untouched = refl; told = told.1 }
+out_of_memory_written out err err' result (inr broke) e = let is = broke.0 in absurd (cc (is, e))
 
 went_later : (bytes : List ℕ) (sink sink' : SinkState) → WentOut bytes sink sink' → sink.faults ≤ sink'.faults
 went_later bytes sink sink' e = same_count sink.faults sink'.faults (ap (λ (s : SinkState). s.faults) e)
@@ -213,7 +213,7 @@ reported_later command passes files files' out out' err err' r = (went_later r.b
 -- no count of the sinks fell
 pub sinks_later : (command : Option Command) (files files' : FilesState) (out out' err err' : SinkState) (result : Status) →
     (result ≡ Passed → Reported command true files files' out out' err err') → (result ≡ NotPassed → Reported command false files files' out out' err err') →
-    (result ≡ Refused → WasRefused command files files' out out' err err') → (result ≡ Faulted → WasFaulted command files files' out out' err err') → (result ≡ NoMemory → WantedMemory out out' err err') →
+    (result ≡ Refused → WasRefused command files files' out out' err err') → (result ≡ Faulted → WasFaulted command files files' out out' err err') → (result ≡ NoMemory → WasOutOfMemory out out' err err') →
     (out.faults ≤ out'.faults) × (err.faults ≤ err'.faults)
 sinks_later command files files' out out' err err' Passed a b c d e = reported_later command true files files' out out' err err' (a refl)
 sinks_later command files files' out out' err err' NotPassed a b c d e = reported_later command false files files' out out' err err' (b refl)
@@ -222,7 +222,7 @@ sinks_later command files files' out out' err err' Faulted a b c d e = fault_lat
 sinks_later command files files' out out' err err' NoMemory a b c d e = let r = e refl in (same_sink out out' r.untouched, went_later _ err err' r.told)
 
 -- what a report is on is not refused
-report_silent : (command : Option Command) (files : FilesState) (passes : Bool) (bytes : List ℕ) (store : Store) (found : Refusal) → IsReport command files passes bytes → files.holds ≡ Some store → IsFirst (refusals command store) found → ⊥
+report_silent : (command : Option Command) (files : FilesState) (passes : Bool) (bytes : List ℕ) (store : StoredFiles) (found : Refusal) → IsReport command files passes bytes → files.holds ≡ Some store → IsFirstRefusal (refusals command store) found → ⊥
 report_silent command files passes bytes store found report told first =
     none_first (refusals command store) found (reported_silent command files store passes bytes told report) first
 

@@ -1,15 +1,15 @@
--- The texts of a command: which names were asked for, and which refusal is the first where a file is not at hand.
+-- The texts of a command: which names were asked for, and which refusal is the first where a file is not available.
 use Rattle.std.proofs.Common.{◌≡◌, ◌<◌, ◌≤◌, ℕ, List, [], ◌∷◌, ◌++◌, length, take, Option, None, Some, refl, ap, sym, ◌∙◌, arith, inl, inr, subst, append_assoc, append-nil}
 use Rattle.std.specs.Prelude.{IsSomeAnd, option_to_list}
 use Rattle.std.specs.FinMap.{get}
 use Rattle.command_line.specs.Command.{Action, Command}
 use Rattle.ste_io.specs.Causes.{Rose}
-use Rattle.ste_io.specs.Outside.{FilesState, IsTooLarge, Store, asked_for, with_name, with_names}
+use Rattle.ste_io.specs.Outside.{FilesState, IsTooLarge, StoredFiles, asked_for, with_name, with_names}
 use Rattle.ste_program.specs.Answer.{AskedSome, WhyNoReport, status_of}
 use Rattle.ste_program.specs.Command.{file_of, files_of, files_up_to, net_file, second_file}
-use Rattle.ste_program.specs.Order.{AllSilent, IsFirst, is_large, is_missing, refusals, stages_before}
+use Rattle.ste_program.specs.Order.{AllSilent, IsFirstRefusal, is_large, is_missing, refusals, stages_before}
 use Rattle.ste_program.specs.Report.{IsRead, greatest, text_at}
-use Rattle.ste_program.specs.private.Texts.{FileFails, IsAtHand, WhyNoFile}
+use Rattle.ste_program.specs.private.Texts.{FileFails, IsAvailable, WhyNoFile}
 use Rattle.ste_program.specs.declared.refusal.File.{File}
 use Rattle.ste_program.specs.declared.refusal.File.TheVariants as file
 use Rattle.ste_program.specs.declared.refusal.Refusal.{Refusal}
@@ -52,14 +52,14 @@ all_names None (Some second) = refl
 all_names (Some name) None = refl
 all_names (Some name) (Some second) = refl
 
--- what is read, where it is told
-pub read_told : (name : Option (List ℕ)) (holds : Option Store) (text : List ℕ) → IsRead holds name text → (store : Store) → holds ≡ Some store → text_at name store ≡ Some text
+-- what is read, where it is known
+pub read_told : (name : Option (List ℕ)) (holds : Option StoredFiles) (text : List ℕ) → IsRead holds name text → (store : StoredFiles) → holds ≡ Some store → text_at name store ≡ Some text
 read_told name None text read store told = absurd (cc told)
-read_told name (Some held) text read store told = subst (λ (s : Store). text_at name s ≡ Some text) (let same : held ≡ store = cc in same) read
+read_told name (Some held) text read store told = subst (λ (s : StoredFiles). text_at name s ≡ Some text) (let same : held ≡ store = cc in same) read
 
-large_told : (name : List ℕ) (holds : Option Store) → IsTooLarge holds name greatest → (store : Store) → holds ≡ Some store → IsSomeAnd (get store name) (λ bytes. greatest < length bytes)
+large_told : (name : List ℕ) (holds : Option StoredFiles) → IsTooLarge holds name greatest → (store : StoredFiles) → holds ≡ Some store → IsSomeAnd (get store name) (λ bytes. greatest < length bytes)
 large_told name None large store told = absurd (cc told)
-large_told name (Some held) large store told = subst (λ (s : Store). IsSomeAnd (get s name) (λ bytes. greatest < length bytes)) (let same : held ≡ store = cc in same) large
+large_told name (Some held) large store told = subst (λ (s : StoredFiles). IsSomeAnd (get s name) (λ bytes. greatest < length bytes)) (let same : held ≡ store = cc in same) large
 
 -- what holds of the bytes that are read
 pub of_held : (P : List ℕ → Type 0) (held : Option (List ℕ)) (text : List ℕ) → held ≡ Some text → P text → IsSomeAnd held P
@@ -72,7 +72,7 @@ not_missing : (held : Option (List ℕ)) (P : List ℕ → Type 0) → IsSomeAnd
 not_missing held P some none = subst (λ (found : Option (List ℕ)). IsSomeAnd found P) none some
 
 -- a file that is read is neither missing nor too large
-pub held_silent : (which : File) (action : Action) (store : Store) (text : List ℕ) → text_at (file_of action which) store ≡ Some text → length text ≤ greatest →
+pub held_silent : (which : File) (action : Action) (store : StoredFiles) (text : List ℕ) → text_at (file_of action which) store ≡ Some text → length text ≤ greatest →
     ((other : Refusal) → ¬ is_missing which action store other) × ((other : Refusal) → ¬ is_large which action store other)
 held_silent which action store text held small = (
   (λ other h. let none = h.1 in absurd (cc (held, none))),
@@ -85,11 +85,11 @@ record IsNext (command : Command) (before between : FilesState) (which : File) (
   pub some : (n : ℕ) × (names ≡ take n (files_of (Some command)))
   pub up_to : names ++ option_to_list (file_of command.action which) ≡ files_up_to command which
   pub all : (n : ℕ) × (files_up_to command which ≡ take n (files_of (Some command)))
-  pub reached : (store : Store) → before.holds ≡ Some store → AllSilent (stages_before which command store)
-  pub placed : (store : Store) → before.holds ≡ Some store → (found : Refusal) → is_large which command.action store found →
-      ((other : Refusal) → ¬ is_missing which command.action store other) → IsFirst (refusals (Some command) store) found
+  pub reached : (store : StoredFiles) → before.holds ≡ Some store → AllSilent (stages_before which command store)
+  pub placed : (store : StoredFiles) → before.holds ≡ Some store → (found : Refusal) → is_large which command.action store found →
+      ((other : Refusal) → ¬ is_missing which command.action store other) → IsFirstRefusal (refusals (Some command) store) found
 
--- the file cannot be had
+-- the file cannot be fetched
 fails : (command : Command) (before between after : FilesState) (which : File) (names : List (List ℕ)) (found : Refusal) → IsNext command before between which names →
     WhyNoFile which (file_of command.action which) between after found → WhyNoReport (Some command) before after found
 fails command before between after which names found next (name, named, why) =
@@ -130,7 +130,7 @@ fails command before between after which names found next (name, named, why) =
       asking = some_asked after same;
     }))
 
--- the netlist's file cannot be had
+-- the netlist's file cannot be fetched
 pub first_fails : (command : Command) (before after : FilesState) (found : Refusal) → WhyNoFile file.Net (net_file command.action) before after found → WhyNoReport (Some command) before after found
 first_fails command before after found why =
     fails command before before after file.Net [] found (record {
@@ -142,11 +142,11 @@ first_fails command before after found why =
       placed = λ store told found large not_missing. inr (not_missing, inl large);
     }) why
 
--- the second file cannot be had, behind the netlist's, which is at hand
-pub second_fails : (command : Command) (before between after : FilesState) (text : List ℕ) (found : Refusal) → IsAtHand (net_file command.action) before between text →
+-- the second file cannot be fetched, behind the netlist's, which is available
+pub second_fails : (command : Command) (before between after : FilesState) (text : List ℕ) (found : Refusal) → IsAvailable (net_file command.action) before between text →
     WhyNoFile file.Second (second_file command.action) between after found → WhyNoReport (Some command) before after found
 second_fails command before between after text found net why =
-    let net_silent = λ (store : Store) (told : before.holds ≡ Some store).
+    let net_silent = λ (store : StoredFiles) (told : before.holds ≡ Some store).
     held_silent file.Net command.action store text (read_told (net_file command.action) before.holds text net.read store told) net.small in
     fails command before between after file.Second (option_to_list (net_file command.action)) found (record {
       before_is = net.asking;

@@ -1,4 +1,4 @@
--- What is told with few steps, where no task says budget, is told with more steps too.
+-- The reports with few steps, where no task says budget, are those with more steps too.
 use Rattle.std.proofs.Common.{◌≡◌, ◌∙◌, ◌*◌, ◌≤◌, ◌||◌, ℕ, Bool, true, false, List, [], ◌∷◌, length, Option, Some, None, ap, arith, refl, subst, sym, inl, inr}
 use Rattle.std.proofs.Math.Nat.{mul-le-mul_left}
 use Rattle.std.specs.Prelude.{IfSome}

@@ -13,7 +13,7 @@ use Rattle.bool_expr.specs.Tree.{tree_of}
 use Rattle.assert_syntax.specs.Forms.{Entry, Form}
 use Rattle.assert_syntax.specs.Forms as form
 use Rattle.assert_syntax.specs.Parses.{Parse}
-use Rattle.assert_syntax.specs.Places.{Context, context_of, first_fault, form_fault, line_fault, may_stand, vars_behind, vertices_behind}
+use Rattle.assert_syntax.specs.Places.{Context, context_of, first_task_fault, form_fault, line_fault, may_stand_at, vars_behind, vertices_behind}
 use Rattle.assert_syntax.specs.Spelled as said
 use Rattle.assert_syntax.specs.declared.form.LineFault.TheVariants.{Bad}
 use Rattle.assert_syntax.specs.declared.form.Side.{Side}
@@ -31,17 +31,17 @@ use Rattle.ste_program.proofs.Declared.{clause_reads, else_none, no_fault_or, re
 -- ---- the variables of bindings
 
 -- the expressions of a binding that is spelled read variables below this number
-abbrev pub bind_reads : ℕ → said.BindTree → Bool
+abbrev pub bind_reads : ℕ → said.RawBindTree → Bool
 bind_reads vars bind = reads_tree vars bind.guard && reads_tree vars bind.value
 
-with_clause : (vars : ℕ) (b : Bool) (bind : said.BindTree) (later : List said.BindTree) → bind_reads vars bind ≡ true → list_all (bind_reads vars) later ≡ true → list_all (bind_reads vars) (if b then bind ∷ later else later) ≡ true
+with_clause : (vars : ℕ) (b : Bool) (bind : said.RawBindTree) (later : List said.RawBindTree) → bind_reads vars bind ≡ true → list_all (bind_reads vars) later ≡ true → list_all (bind_reads vars) (if b then bind ∷ later else later) ≡ true
 with_clause vars true bind later h all = and_from (bind_reads vars bind) (list_all (bind_reads vars) later) h all
 with_clause vars false bind later h all = all
 
-with_line : (parse : Parse) (side : Side) (context : Context) (vars line : ℕ) (form : Form) (later : List said.BindTree) → length context.vars ≤ vars → line_fault parse context form ≡ None → list_all (bind_reads vars) later ≡ true →
+with_line : (parse : Parse) (side : Side) (context : Context) (vars line : ℕ) (form : Form) (later : List said.RawBindTree) → length context.vars ≤ vars → line_fault parse context form ≡ None → list_all (bind_reads vars) later ≡ true →
     list_all (bind_reads vars) (said.binds_with parse side context.vars line form later) ≡ true
 with_line parse side context vars line (form.clause clause) later l e all =
-    let fine = else_none (may_stand (form.clause clause) context.place) (form_fault parse context (form.clause clause)) Bad e in
+    let fine = else_none (may_stand_at (form.clause clause) context.place) (form_fault parse context (form.clause clause)) Bad e in
     with_clause vars (said.is_side side clause.side) (said.bind_said parse context.vars line clause) later
     (clause_reads context.vars vars (parse clause.value) (parse clause.guard) clause.span l fine) all
 with_line parse side context vars line (form.vars names) later l e all = all
@@ -52,11 +52,11 @@ with_line parse side context vars line (form.weak node times) later l e all = al
 with_line parse side context vars line form.ending later l e all = all
 with_line parse side context vars line form.wrong later l e all = all
 
-pub binds_read : (parse : Parse) (side : Side) (vars : ℕ) (earlier lines : List Entry) → first_fault parse earlier lines ≡ None → ((names : List (List ℕ)) (rest : List Entry) → length names ≤ length (said.vars_with names rest)) →
+pub binds_read : (parse : Parse) (side : Side) (vars : ℕ) (earlier lines : List Entry) → first_task_fault parse earlier lines ≡ None → ((names : List (List ℕ)) (rest : List Entry) → length names ≤ length (said.vars_with names rest)) →
     length (said.vars_with (context_of earlier).vars lines) ≤ vars → list_all (bind_reads vars) (said.binds_of parse side (context_of earlier).vars lines) ≡ true
 binds_read parse side vars earlier [] e grow l = refl
 binds_read parse side vars earlier (line ∷ lines) e grow l =
-    let both = no_fault_or line.line (line_fault parse (context_of earlier) line.form) (first_fault parse (line ∷ earlier) lines) e in
+    let both = no_fault_or line.line (line_fault parse (context_of earlier) line.form) (first_task_fault parse (line ∷ earlier) lines) e in
     let grown = grow (context_of earlier).vars (line ∷ lines) in
     with_line parse side (context_of earlier) vars line.line line.form (said.binds_of parse side (vars_behind line.form (context_of earlier).vars) lines) (omega (arith, grown, l)) both.0
     (binds_read parse side vars (line ∷ earlier) lines both.1 grow l)
@@ -147,7 +147,7 @@ vertices_grow vertices (line ∷ lines) =
 -- ---- the edges
 
 -- an edge that is spelled lies between two of so many vertices, and its bindings read variables below this number
-abbrev pub edge_fits : ℕ → ℕ → said.EdgeTree → Bool
+abbrev pub edge_fits : ℕ → ℕ → said.RawEdgeTree → Bool
 edge_fits vars vertices edge =
     nat_lt edge.from vertices && (nat_lt edge.to vertices && (list_all (bind_reads vars) edge.ant && list_all (bind_reads vars) edge.con))
 
@@ -163,7 +163,7 @@ new_edge parse names vertices vars line from to lines count binds l =
     (and_from (nat_lt (said.vertex_number all to) count) (list_all (bind_reads vars) ant && list_all (bind_reads vars) con) (lt-ltb (said.vertex_number all to) count (omega (arith, two, l)))
     (and_from (list_all (bind_reads vars) ant) (list_all (bind_reads vars) con) (binds Antecedent) (binds Consequent)))
 
-with_edge : (parse : Parse) (names vertices : List (List ℕ)) (vars line : ℕ) (form : Form) (lines : List Entry) (later : List said.EdgeTree) (grown : List (List ℕ)) → ((side : Side) → list_all (bind_reads vars) (said.binds_of parse side (vars_behind form names) lines) ≡ true) →
+with_edge : (parse : Parse) (names vertices : List (List ℕ)) (vars line : ℕ) (form : Form) (lines : List Entry) (later : List said.RawEdgeTree) (grown : List (List ℕ)) → ((side : Side) → list_all (bind_reads vars) (said.binds_of parse side (vars_behind form names) lines) ≡ true) →
     length (vertices_behind form vertices) ≤ length grown → list_all (edge_fits vars (length grown)) later ≡ true →
     list_all (edge_fits vars (length (said.vertices_with form vertices grown))) (said.edges_with parse names vertices line form lines later) ≡ true
 with_edge parse names vertices vars line (form.edge from to) lines later grown binds l all =
@@ -177,12 +177,12 @@ with_edge parse names vertices vars line (form.weak node times) lines later grow
 with_edge parse names vertices vars line form.ending lines later grown binds l all = all
 with_edge parse names vertices vars line form.wrong lines later grown binds l all = all
 
-pub edges_fit : (parse : Parse) (vars : ℕ) (earlier lines : List Entry) → first_fault parse earlier lines ≡ None → ((names : List (List ℕ)) (rest : List Entry) → length names ≤ length (said.vars_with names rest)) →
+pub edges_fit : (parse : Parse) (vars : ℕ) (earlier lines : List Entry) → first_task_fault parse earlier lines ≡ None → ((names : List (List ℕ)) (rest : List Entry) → length names ≤ length (said.vars_with names rest)) →
     length (said.vars_with (context_of earlier).vars lines) ≤ vars →
     list_all (edge_fits vars (length (said.vertices_of (context_of earlier).vertices lines))) (said.edges_of parse (context_of earlier).vars (context_of earlier).vertices lines) ≡ true
 edges_fit parse vars earlier [] e grow l = refl
 edges_fit parse vars earlier (line ∷ lines) e grow l =
-    let both = no_fault_or line.line (line_fault parse (context_of earlier) line.form) (first_fault parse (line ∷ earlier) lines) e in
+    let both = no_fault_or line.line (line_fault parse (context_of earlier) line.form) (first_task_fault parse (line ∷ earlier) lines) e in
     let vertices = (context_of earlier).vertices in
     let behind = vertices_behind line.form vertices in
     with_edge parse (context_of earlier).vars vertices vars line.line line.form lines (said.edges_of parse (vars_behind line.form (context_of earlier).vars) behind lines) (said.vertices_of behind lines)
@@ -190,14 +190,14 @@ edges_fit parse vars earlier (line ∷ lines) e grow l =
 
 -- ---- bound graphs
 
-bound_binds : (vars : ℕ) (net : List ℕ → ℕ) (raws : List RawBind) (binds : List Bind) → list_all (bind_reads vars) (map said.bind_tree raws) ≡ true → map bound.bind_tree binds ≡ map (bind_bound net) raws → BindsReadBelow vars binds
+bound_binds : (vars : ℕ) (net : List ℕ → ℕ) (raws : List RawBind) (binds : List Bind) → list_all (bind_reads vars) (map said.raw_bind_tree raws) ≡ true → map bound.bind_tree binds ≡ map (bind_bound net) raws → BindsReadBelow vars binds
 bound_binds vars net [] [] all e = λ k d l. absurd (omega (arith, l))
 bound_binds vars net [] (q ∷ binds) all e = absurd (cc e)
 bound_binds vars net (r ∷ raws) [] all e = absurd (cc e)
 bound_binds vars net (r ∷ raws) (q ∷ binds) all e =
     let first : bound.bind_tree q ≡ bind_bound net r = cc e in
     let rest : map bound.bind_tree binds ≡ map (bind_bound net) raws = cc e in
-    let both = and_parts (bind_reads vars (said.bind_tree r)) (list_all (bind_reads vars) (map said.bind_tree raws)) all in
+    let both = and_parts (bind_reads vars (said.raw_bind_tree r)) (list_all (bind_reads vars) (map said.raw_bind_tree raws)) all in
     let sides = and_parts (reads_tree vars (tree_of r.guard)) (reads_tree vars (tree_of r.value)) both.0 in
     let guard : reads vars q.guard ≡ true = tree_read vars q.guard ∙ ap (λ (t : bound.BindTree). reads_tree vars t.guard) first ∙ sides.0 in
     let value : reads vars q.value ≡ true = tree_read vars q.value ∙ ap (λ (t : bound.BindTree). reads_tree vars t.value) first ∙ sides.1 in
@@ -215,16 +215,16 @@ pub record IsEdgeDeclared (vars vertices : ℕ) (edge : Edge) : Type 0 where
 below : (n m : ℕ) → nat_lt n m ≡ true → n < m
 below n m e = grind (arith, e)
 
-pub bound_edges : (vars vertices : ℕ) (net : List ℕ → ℕ) (raws : List RawEdge) (edges : List Edge) → list_all (edge_fits vars vertices) (map said.edge_tree raws) ≡ true → map bound.edge_tree edges ≡ map (edge_bound net) raws → All (IsEdgeDeclared vars vertices) edges
+pub bound_edges : (vars vertices : ℕ) (net : List ℕ → ℕ) (raws : List RawEdge) (edges : List Edge) → list_all (edge_fits vars vertices) (map said.raw_edge_tree raws) ≡ true → map bound.edge_tree edges ≡ map (edge_bound net) raws → All (IsEdgeDeclared vars vertices) edges
 bound_edges vars vertices net [] [] all e = λ k d l. absurd (omega (arith, l))
 bound_edges vars vertices net [] (q ∷ edges) all e = absurd (cc e)
 bound_edges vars vertices net (r ∷ raws) [] all e = absurd (cc e)
 bound_edges vars vertices net (r ∷ raws) (q ∷ edges) all e =
     let first : bound.edge_tree q ≡ edge_bound net r = cc e in
     let rest : map bound.edge_tree edges ≡ map (edge_bound net) raws = cc e in
-    let ant = list_all (bind_reads vars) (map said.bind_tree r.ant) in
-    let con = list_all (bind_reads vars) (map said.bind_tree r.con) in
-    let both = and_parts (edge_fits vars vertices (said.edge_tree r)) (list_all (edge_fits vars vertices) (map said.edge_tree raws)) all in
+    let ant = list_all (bind_reads vars) (map said.raw_bind_tree r.ant) in
+    let con = list_all (bind_reads vars) (map said.raw_bind_tree r.con) in
+    let both = and_parts (edge_fits vars vertices (said.raw_edge_tree r)) (list_all (edge_fits vars vertices) (map said.raw_edge_tree raws)) all in
     let one = and_parts (nat_lt r.from vertices) (nat_lt r.to vertices && (ant && con)) both.0 in
     let two = and_parts (nat_lt r.to vertices) (ant && con) one.1 in
     let sides = and_parts ant con two.1 in

@@ -6,7 +6,7 @@ use Rattle.blif_syntax.specs.declared.models.Item.{Item}
 use Rattle.blif_syntax.specs.declared.models.Model.{Model}
 use Rattle.hierarchy.specs.declared.fault.NetFault.{NetFault}
 use Rattle.hierarchy.specs.declared.fault.NetFault.TheVariants.{Recursive}
-use Rattle.hierarchy.specs.Faults.{Else, HasBadFormal, HasDoubleModel, HasDrivenTwice, HasGateTooWide, HasMissingFormal, HasMixedClocks, HasRecursive, HasTooDeep, HasTooManyNodes, HasUnknownModel, IsFirst, IsRecursive, IsRefusal}
+use Rattle.hierarchy.specs.Faults.{Else, HasBadFormal, HasDoubleModel, HasDrivenTwice, HasGateTooWide, HasMissingFormal, HasMixedClocks, HasRecursive, HasTooDeep, HasTooManyNodes, HasUnknownModel, IsFirstOfKind, IsRecursive, IsRefusal}
 use Rattle.hierarchy.specs.Lines.{UseLine}
 
 -- there is one fault of the kind at most
@@ -23,7 +23,7 @@ else_once kind others first rest one other (inr f) (inr g) = rest one other f.1 
 abbrev OnceALine : (ℕ → Item → NetFault → Type 0) → Type 0
 OnceALine kind = (number : ℕ) (item : Item) (one other : NetFault) → kind number item one → kind number item other → one ≡ other
 
-same_line : (models : List Model) (kind : ℕ → Item → NetFault → Type 0) (one other : NetFault) → OnceALine kind → (f : IsFirst models kind one) → (g : IsFirst models kind other) → f.number ≡ g.number → f.place ≡ g.place → one ≡ other
+same_line : (models : List Model) (kind : ℕ → Item → NetFault → Type 0) (one other : NetFault) → OnceALine kind → (f : IsFirstOfKind models kind one) → (g : IsFirstOfKind models kind other) → f.number ≡ g.number → f.place ≡ g.place → one ≡ other
 same_line models kind one other once f g numbers places =
     let a = f.line.found in
     let b = g.line.found in
@@ -32,19 +32,19 @@ same_line models kind one other once f g numbers places =
     let both : Some f.item ≡ Some g.item = sym f.line.at ∙ (ap (λ (m : Model). slice_get m.items f.place) model ∙ (ap (slice_get g.line.model.items) places ∙ g.line.at)) in cc in
     once g.number g.item one other (subst (λ n. kind n g.item one) numbers (subst (λ i. kind f.number i one) item f.faulty)) g.faulty
 
-by_place : (models : List Model) (kind : ℕ → Item → NetFault → Type 0) (one other : NetFault) → OnceALine kind → (f : IsFirst models kind one) → (g : IsFirst models kind other) → f.number ≡ g.number →
+by_place : (models : List Model) (kind : ℕ → Item → NetFault → Type 0) (one other : NetFault) → OnceALine kind → (f : IsFirstOfKind models kind one) → (g : IsFirstOfKind models kind other) → f.number ≡ g.number →
     (f.place ≡ g.place) ⊎ ((f.place < g.place) ⊎ (g.place < f.place)) → one ≡ other
 by_place models kind one other once f g numbers (inl places) = same_line models kind one other once f g numbers places
 by_place models kind one other once f g numbers (inr (inl l)) = absurd (g.least f.number f.place f.item one (inr (numbers, l)) f.line f.faulty)
 by_place models kind one other once f g numbers (inr (inr l)) = absurd (f.least g.number g.place g.item other (inr (sym numbers, l)) g.line g.faulty)
 
-by_number : (models : List Model) (kind : ℕ → Item → NetFault → Type 0) (one other : NetFault) → OnceALine kind → (f : IsFirst models kind one) → (g : IsFirst models kind other) →
+by_number : (models : List Model) (kind : ℕ → Item → NetFault → Type 0) (one other : NetFault) → OnceALine kind → (f : IsFirstOfKind models kind one) → (g : IsFirstOfKind models kind other) →
     (f.number ≡ g.number) ⊎ ((f.number < g.number) ⊎ (g.number < f.number)) → one ≡ other
 by_number models kind one other once f g (inl numbers) = by_place models kind one other once f g numbers (cases_order f.place g.place)
 by_number models kind one other once f g (inr (inl l)) = absurd (g.least f.number f.place f.item one (inl l) f.line f.faulty)
 by_number models kind one other once f g (inr (inr l)) = absurd (f.least g.number g.place g.item other (inl l) g.line g.faulty)
 
-first_once : (models : List Model) (kind : ℕ → Item → NetFault → Type 0) → OnceALine kind → Once (IsFirst models kind)
+first_once : (models : List Model) (kind : ℕ → Item → NetFault → Type 0) → OnceALine kind → Once (IsFirstOfKind models kind)
 first_once models kind once one other f g = by_number models kind one other once f g (cases_order f.number g.number)
 
 some_same : (one other : NetFault) → Some one ≡ Some other → one ≡ other

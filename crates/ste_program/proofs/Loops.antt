@@ -49,6 +49,6 @@ same_name models one other f g (inl e) =
 same_name models one other f g (inr (inl l)) = absurd (f.stuck.stuck (settles_alike models g.net f.net g.flat f.flat f.id (g.stuck.least f.id l)))
 same_name models one other f g (inr (inr l)) = absurd (g.stuck.stuck (settles_alike models f.net g.net f.flat g.flat g.id (f.stuck.least g.id l)))
 
--- a netlist's loops are told of by one net
+-- a netlist's loops are reported by one net
 pub one_loop : (models : List Model) (one other : List ℕ) → IsLoop models one → IsLoop models other → one ≡ other
 one_loop models one other f g = same_name models one other f g (cases_order f.id g.id)

@@ -3,7 +3,7 @@ use Rattle.std.proofs.Common.{◌≡◌, ◌<◌, ℕ, List, [], length, Option,
 use Rattle.std.specs.Prelude.{◌≢◌}
 use Rattle.blif_lines.specs.declared.lines.Line.{Line}
 use Rattle.blif_lines.specs.Lines.{lines_of}
-use Rattle.blif_syntax.specs.Answer.{IsAnswer, entries_of, fault_of}
+use Rattle.blif_syntax.specs.Answer.{IsBlifAnswer, entries_of, fault_of}
 use Rattle.blif_syntax.specs.Covered.{AreCovered}
 use Rattle.blif_syntax.specs.Places.{first_fault}
 use Rattle.blif_syntax.specs.Spelled.{models_of}
@@ -17,7 +17,7 @@ use Rattle.blif_syntax.proofs.Sound.{read_is_sayable}
 use Rattle.ste_program.specs.Netlist.{IsNetlist, IsNetlistFault, net_lines}
 
 -- what the reader of netlists gives, of the lines of a text
-pub models_read : (text : List ℕ) (lines : List Line) (models : Models) → lines ≡ lines_of text → IsAnswer (entries_of lines) (Ok models) → 0 < length models.models → IsNetlist text models.models × AreCovered models.models
+pub models_read : (text : List ℕ) (lines : List Line) (models : Models) → lines ≡ lines_of text → IsBlifAnswer (entries_of lines) (Ok models) → 0 < length models.models → IsNetlist text models.models × AreCovered models.models
 models_read text lines models same h some = (
   record { sound = subst (λ (ls : List Line). first_fault [] (entries_of ls) ≡ None) same h.0; spelled = subst (λ (ls : List Line). models.models ≡ models_of (entries_of ls)) same h.1; some = some },
   subst (λ (ms : List Model). AreCovered ms) (sym h.1) (read_is_sayable.covered lines h.0),
@@ -28,7 +28,7 @@ abbrev fault_at : Option (ℕ × LineFault) → BlifFault
 fault_at None = NoModel
 fault_at (Some (line, kind)) = fault_of line kind
 
-only_fault : (lines : List Entry) (found : BlifFault) → found ≢ OutOfMemory → IsAnswer lines (Err found) → found ≡ fault_at (first_fault [] lines)
+only_fault : (lines : List Entry) (found : BlifFault) → found ≢ OutOfMemory → IsBlifAnswer lines (Err found) → found ≡ fault_at (first_fault [] lines)
 only_fault lines (BadLine line) stated h = sym (ap fault_at h)
 only_fault lines (UnknownWord line word) stated h = sym (ap fault_at h)
 only_fault lines (LeftOut line word) stated h = sym (ap fault_at h)
@@ -39,7 +39,7 @@ only_fault lines OutOfMemory stated h = absurd (stated refl)
 pub one_fault : (text : List ℕ) (one other : BlifFault) → IsNetlistFault text one → IsNetlistFault text other → one ≡ other
 one_fault text one other f g = only_fault (net_lines text) one f.0 f.1 ∙ sym (only_fault (net_lines text) other g.0 g.1)
 
-fault_of_lines : (lines : List Entry) (found : BlifFault) → first_fault [] lines ≡ None → 0 < length (models_of lines) → found ≢ OutOfMemory → IsAnswer lines (Err found) → ⊥
+fault_of_lines : (lines : List Entry) (found : BlifFault) → first_fault [] lines ≡ None → 0 < length (models_of lines) → found ≢ OutOfMemory → IsBlifAnswer lines (Err found) → ⊥
 fault_of_lines lines (BadLine line) e some stated h = absurd (cc (e, h))
 fault_of_lines lines (UnknownWord line word) e some stated h = absurd (cc (e, h))
 fault_of_lines lines (LeftOut line word) e some stated h = absurd (cc (e, h))

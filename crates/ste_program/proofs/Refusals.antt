@@ -3,10 +3,10 @@
 use Rattle.std.proofs.Common.{◌≡◌, ℕ, List, Bool, Option, None, Some, Result, Ok, Err, refl, ap, sym, ◌∙◌, inl, inr, subst}
 use Rattle.std.specs.Prelude.{IsSomeAnd, MatchResult}
 use Rattle.command_line.specs.Command.{Action, Command}
-use Rattle.ste_io.specs.Outside.{FilesState, Store}
-use Rattle.ste_program.specs.Answer.{IsFound, WhyNoReport}
+use Rattle.ste_io.specs.Outside.{FilesState, StoredFiles}
+use Rattle.ste_program.specs.Answer.{IsStatedRefusal, WhyNoReport}
 use Rattle.ste_program.specs.Command.{net_file, second_file}
-use Rattle.ste_program.specs.Order.{AllSilent, IsFirst, OneRefusal, ReportedIsNotRefused, refusals, text_stages}
+use Rattle.ste_program.specs.Order.{AllSilent, IsFirstRefusal, OneRefusal, ReportedIsNotRefused, refusals, text_stages}
 use Rattle.ste_program.specs.Report.{IsReport, IsWritten, text_at}
 use Rattle.ste_program.specs.private.Made.{IsMade}
 use Rattle.ste_program.specs.private.Texts.{AreTexts, OrMemory}
@@ -18,8 +18,8 @@ use Rattle.ste_program.proofs.TextStages.{text_once, text_silent, text_told}
 
 -- at most one refusal is the first of two texts that are held
 one_in_texts : (action : Action) (steps : Option ℕ) (net second : Option (List ℕ)) (one other : Refusal) →
-    IsSomeAnd net (λ net_text. IsSomeAnd second (λ second_text. IsFirst (text_stages action steps net_text second_text) one)) →
-    IsSomeAnd net (λ net_text. IsSomeAnd second (λ second_text. IsFirst (text_stages action steps net_text second_text) other)) → one ≡ other
+    IsSomeAnd net (λ net_text. IsSomeAnd second (λ second_text. IsFirstRefusal (text_stages action steps net_text second_text) one)) →
+    IsSomeAnd net (λ net_text. IsSomeAnd second (λ second_text. IsFirstRefusal (text_stages action steps net_text second_text) other)) → one ≡ other
 one_in_texts action steps None second one other f g = absurd f
 one_in_texts action steps (Some net_text) None one other f g = absurd f
 one_in_texts action steps (Some net_text) (Some second_text) one other f g = one_first (text_stages action steps net_text second_text) one other (text_once action steps net_text second_text) f g
@@ -27,7 +27,7 @@ one_in_texts action steps (Some net_text) (Some second_text) one other f g = one
 same : (x one other : Refusal) → one ≡ x → other ≡ x → one ≡ other
 same x one other f g = f ∙ sym g
 
-all_once : (command : Option Command) (store : Store) → AllOnce (refusals command store)
+all_once : (command : Option Command) (store : StoredFiles) → AllOnce (refusals command store)
 all_once None store = ((λ one other f g. same _ one other f g), tt)
 all_once (Some command) store = (
   (λ one other f g. same _ one other f.0 g.0),
@@ -49,7 +49,7 @@ one_refusal command store one other f g = one_first (refusals command store) one
 
 -- the first refusal of both texts is the first
 found_in_texts : (command : Command) (before after : FilesState) (net_text second_text : List ℕ) (found : Refusal) → AreTexts command before after net_text second_text →
-    IsFirst (text_stages command.action command.steps net_text second_text) found → IsFound (Some command) before after found
+    IsFirstRefusal (text_stages command.action command.steps net_text second_text) found → IsStatedRefusal (Some command) before after found
 found_in_texts command before after net_text second_text found texts first = record {
   kind = first_told (text_stages command.action command.steps net_text second_text) found (text_told command.action command.steps net_text second_text) first;
   first = λ store told.
@@ -65,8 +65,8 @@ found_in_texts command before after net_text second_text found texts first = rec
             two.0,
             inr (
               two.1,
-              inl (of_held (λ text. IsSomeAnd (text_at (second_file command.action) store) (λ t. IsFirst (text_stages command.action command.steps text t) found)) (text_at (net_file command.action) store) net_text net
-                  (of_held (λ t. IsFirst (text_stages command.action command.steps net_text t) found) (text_at (second_file command.action) store) second_text second first)),
+              inl (of_held (λ text. IsSomeAnd (text_at (second_file command.action) store) (λ t. IsFirstRefusal (text_stages command.action command.steps text t) found)) (text_at (net_file command.action) store) net_text net
+                  (of_held (λ t. IsFirstRefusal (text_stages command.action command.steps net_text t) found) (text_at (second_file command.action) store) second_text second first)),
             ),
           ),
         ),
@@ -77,7 +77,7 @@ found_in_texts command before after net_text second_text found texts first = rec
 
 -- the texts that were fetched are refused
 unreported : (command : Command) (before after : FilesState) (net_text second_text : List ℕ) (found : Refusal) → AreTexts command before after net_text second_text →
-    OrMemory (IsFirst (text_stages command.action command.steps net_text second_text)) found → WhyNoReport (Some command) before after found
+    OrMemory (IsFirstRefusal (text_stages command.action command.steps net_text second_text)) found → WhyNoReport (Some command) before after found
 unreported command before after net_text second_text found texts (inl memory) =
     inr (inl (memory, (2, texts.asking ∙ ap (asked before) (all_names (net_file command.action) (second_file command.action)))))
 unreported command before after net_text second_text found texts (inr first) = inr (inr (found_in_texts command before after net_text second_text found texts first))
@@ -103,7 +103,7 @@ made_of command before after net_text second_text passes bytes texts written = r
 -- a report, or why there is none, with the texts that were fetched for it
 pub made_or_not : {T : Type 0} (result : Result T Refusal) (passes : T → Bool) (bytes : T → List ℕ) (given : Option Command) (command : Command) (before after : FilesState) (net_text second_text : List ℕ) →
     given ≡ Some command → AreTexts command before after net_text second_text →
-    MatchResult result (λ made. IsWritten command.action command net_text second_text (passes made) (bytes made)) (λ found. OrMemory (IsFirst (text_stages command.action command.steps net_text second_text)) found) →
+    MatchResult result (λ made. IsWritten command.action command net_text second_text (passes made) (bytes made)) (λ found. OrMemory (IsFirstRefusal (text_stages command.action command.steps net_text second_text)) found) →
     MatchResult result (λ made. IsMade given before after (passes made) (bytes made)) (λ found. WhyNoReport given before after found)
 made_or_not (Ok made) passes bytes given command before after net_text second_text is texts h =
     subst (λ (c : Option Command). IsMade c before after (passes made) (bytes made)) (sym is) (made_of command before after net_text second_text (passes made) (bytes made) texts h)
@@ -111,7 +111,7 @@ made_or_not (Err found) passes bytes given command before after net_text second_
     subst (λ (c : Option Command). WhyNoReport c before after found) (sym is) (unreported command before after net_text second_text found texts h)
 
 -- what is reported is not refused
-reported_silent_of : (command : Command) (files : FilesState) (store : Store) (passes : Bool) (bytes : List ℕ) → files.holds ≡ Some store → (report : IsReport (Some command) files passes bytes) → report.asked ≡ command → AllSilent (refusals (Some report.asked) store)
+reported_silent_of : (command : Command) (files : FilesState) (store : StoredFiles) (passes : Bool) (bytes : List ℕ) → files.holds ≡ Some store → (report : IsReport (Some command) files passes bytes) → report.asked ≡ command → AllSilent (refusals (Some report.asked) store)
 reported_silent_of command files store passes bytes told r is =
     let c = r.asked in
     let net = read_told (net_file c.action) files.holds r.net_text r.net_read store told in
@@ -127,8 +127,8 @@ reported_silent_of command files store passes bytes told r is =
             two.1,
             (
               (λ other h. none_first (text_stages c.action c.steps r.net_text r.second_text) other (text_silent c.action c r.net_text r.second_text passes bytes r.written)
-                  (of_text (λ t. IsFirst (text_stages c.action c.steps r.net_text t) other) (text_at (second_file c.action) store) r.second_text second
-                  (of_text (λ text. IsSomeAnd (text_at (second_file c.action) store) (λ t. IsFirst (text_stages c.action c.steps text t) other)) (text_at (net_file c.action) store) r.net_text net h))),
+                  (of_text (λ t. IsFirstRefusal (text_stages c.action c.steps r.net_text t) other) (text_at (second_file c.action) store) r.second_text second
+                  (of_text (λ text. IsSomeAnd (text_at (second_file c.action) store) (λ t. IsFirstRefusal (text_stages c.action c.steps text t) other)) (text_at (net_file c.action) store) r.net_text net h))),
               tt,
             ),
           ),

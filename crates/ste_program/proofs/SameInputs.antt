@@ -4,10 +4,10 @@ use Rattle.std.specs.Prelude.{◌≢◌, ◌&&◌, find, nat_lt, not, option_map
 use Rattle.std.specs.Option.{option_or}
 use Rattle.blif_lines.specs.declared.lines.Line.{Line}
 use Rattle.blif_syntax.specs.declared.models.Model.{Model}
-use Rattle.clock_step.specs.Answer.{IsAnswer}
-use Rattle.clock_step.specs.Faults.{first_fault, names_of, order_fault, rows_fault}
+use Rattle.clock_step.specs.Answer.{IsInputsAnswer}
+use Rattle.clock_step.specs.Faults.{first_input_fault, names_of, order_fault, rows_fault}
 use Rattle.clock_step.specs.Forms.{order_of}
-use Rattle.clock_step.specs.Order.{first_double, first_unknown, is_driven, is_undriven, is_undriven_source}
+use Rattle.clock_step.specs.Order.{first_double_net, first_unknown_net, is_driven, is_undriven, is_undriven_source}
 use Rattle.clock_step.specs.declared.fault.InputFault.{InputFault}
 use Rattle.clock_step.specs.declared.fault.InputFault.TheVariants.{BadLine, DoubleName, UnknownNode, NotAnInput, TooMany, OutOfMemory}
 use Rattle.clock_step.specs.declared.inputs.Inputs.{Inputs}
@@ -30,21 +30,21 @@ driven_at net other same (Some id) = ap (λ (undriven : ℕ → Bool). not (undr
 -- the names of a line have the same fault
 abbrev names_by : (List ℕ → Option ℕ) → ℕ → List (List ℕ) → (Option ℕ → Bool) → Option InputFault
 names_by net_of line names driven =
-    option_or (option_map (DoubleName line) (first_double net_of [] names))
-    (option_or (option_map (UnknownNode line) (first_unknown net_of names))
+    option_or (option_map (DoubleName line) (first_double_net net_of [] names))
+    (option_or (option_map (UnknownNode line) (first_unknown_net net_of names))
     (option_map (NotAnInput line) (find (λ name. driven (net_of name)) names)))
 
 order_same : (net_of : List ℕ → Option ℕ) (net other : RawNet) (line : ℕ) (names : Option (List (List ℕ))) → AreSame net other → order_fault net_of net line names ≡ order_fault net_of other line names
 order_same net_of net other line None same = refl
 order_same net_of net other line (Some names) same = ap (names_by net_of line names) (λ i found. driven_at net other (undriven_same net other same) found i)
 
-faults_same : (net_of : List ℕ → Option ℕ) (net other : RawNet) (lines : List Line) → AreSame net other → first_fault net_of net lines ≡ first_fault net_of other lines
+faults_same : (net_of : List ℕ → Option ℕ) (net other : RawNet) (lines : List Line) → AreSame net other → first_input_fault net_of net lines ≡ first_input_fault net_of other lines
 faults_same net_of net other [] same = refl
 faults_same net_of net other (line ∷ lines) same =
     ap (λ fault. option_or fault (rows_fault (length (names_of (line ∷ lines))) net.nets 0 lines)) (order_same net_of net other line.number (order_of line.words) same)
     ∙ ap (λ n. option_or (order_fault net_of other line.number (order_of line.words)) (rows_fault (length (names_of (line ∷ lines))) n 0 lines)) same.nets
 
-answer_same : (net_of : List ℕ → Option ℕ) (net other : RawNet) (lines : List Line) (answer : Result Inputs InputFault) → AreSame net other → IsAnswer net_of net lines answer → IsAnswer net_of other lines answer
+answer_same : (net_of : List ℕ → Option ℕ) (net other : RawNet) (lines : List Line) (answer : Result Inputs InputFault) → AreSame net other → IsInputsAnswer net_of net lines answer → IsInputsAnswer net_of other lines answer
 answer_same net_of net other lines (Ok inputs) same h = (sym (faults_same net_of net other lines same) ∙ h.0, h.1)
 answer_same net_of net other lines (Err (BadLine line)) same h = sym (faults_same net_of net other lines same) ∙ h
 answer_same net_of net other lines (Err (DoubleName line name)) same h = sym (faults_same net_of net other lines same) ∙ h
@@ -54,13 +54,13 @@ answer_same net_of net other lines (Err (TooMany line)) same h = sym (faults_sam
 answer_same net_of net other lines (Err OutOfMemory) same h = h
 
 -- an answer over one flat net of a hierarchy is one over another
-pub inputs_moved : (models : List Model) (net other : RawNet) (lines : List Line) (answer : Result Inputs InputFault) → IsFlat models net → IsFlat models other → IsAnswer (net_named models) net lines answer → IsAnswer (net_named models) other lines answer
+pub inputs_moved : (models : List Model) (net other : RawNet) (lines : List Line) (answer : Result Inputs InputFault) → IsFlat models net → IsFlat models other → IsInputsAnswer (net_named models) net lines answer → IsInputsAnswer (net_named models) other lines answer
 inputs_moved models net other lines answer f g h = answer_same (net_named models) net other lines answer (flats_same models net other f g) h
 
 -- lines have one fault at most
-pub one_input_fault : (net_of : List ℕ → Option ℕ) (net : RawNet) (lines : List Line) (one other : InputFault) → one ≢ OutOfMemory → other ≢ OutOfMemory → IsAnswer net_of net lines (Err one) → IsAnswer net_of net lines (Err other) → one ≡ other
+pub one_input_fault : (net_of : List ℕ → Option ℕ) (net : RawNet) (lines : List Line) (one other : InputFault) → one ≢ OutOfMemory → other ≢ OutOfMemory → IsInputsAnswer net_of net lines (Err one) → IsInputsAnswer net_of net lines (Err other) → one ≡ other
 one_input_fault net_of net lines one other a b f g = one_answer net_of net lines (Err one) (Err other) (λ e. a (cc e)) (λ e. b (cc e)) f g
 
 -- lines that spell inputs have no fault
-pub spelled_has_no_fault : (net_of : List ℕ → Option ℕ) (net : RawNet) (lines : List Line) (inputs : Inputs) (fault : InputFault) → fault ≢ OutOfMemory → IsAnswer net_of net lines (Ok inputs) → IsAnswer net_of net lines (Err fault) → ⊥
+pub spelled_has_no_fault : (net_of : List ℕ → Option ℕ) (net : RawNet) (lines : List Line) (inputs : Inputs) (fault : InputFault) → fault ≢ OutOfMemory → IsInputsAnswer net_of net lines (Ok inputs) → IsInputsAnswer net_of net lines (Err fault) → ⊥
 spelled_has_no_fault net_of net lines inputs fault told f g = one_answer net_of net lines (Ok inputs) (Err fault) (λ e. absurd (cc e)) (λ e. told (cc e)) f g

@@ -2,7 +2,7 @@
 use Rattle.std.proofs.Common.{◌≡◌, ◌∙◌, List, [], ◌∷◌, ℕ, Bool, Option, Result, Ok, Err, ap, subst, inl, inr}
 use Rattle.blif_lines.specs.Lines.{lines_of}
 use Rattle.blif_syntax.specs.declared.models.Model.{Model}
-use Rattle.clock_step.specs.Answer.{IsAnswer}
+use Rattle.clock_step.specs.Answer.{IsInputsAnswer}
 use Rattle.clock_step.specs.Simulation.{AreOutputs}
 use Rattle.clock_step.specs.declared.inputs.Inputs.{Inputs}
 use Rattle.clock_step.specs.declared.fault.InputFault.{InputFault}
@@ -11,7 +11,7 @@ use Rattle.net_core.specs.declared.raw.RawNet.{RawNet}
 use Rattle.net_names.specs.Names.{AreNamesOf, named_by}
 use Rattle.net_names.specs.declared.names.NetNames.{NetNames}
 use Rattle.ste_program.specs.Netlist.{IsNetlist}
-use Rattle.ste_program.specs.Order.{IsFirst, has_faulty_inputs, sim_stages}
+use Rattle.ste_program.specs.Order.{IsFirstRefusal, has_faulty_inputs, sim_stages}
 use Rattle.ste_program.specs.Simulated.{IsSimulated, sim_text}
 use Rattle.ste_program.specs.private.Made.{IsNetOf}
 use Rattle.ste_program.specs.private.Simulated.{AreNotGiven, own_names}
@@ -22,12 +22,12 @@ use Rattle.ste_program.proofs.TextStages.{behind_netlist}
 use Rattle.ste_program.proofs.Told.{by_names}
 
 -- an answer by the names is one by the netlist
-by_netlist : (models : List Model) (net : RawNet) (names : NetNames) (text : List ℕ) (answer : Result Inputs InputFault) → AreNamesOf models names → IsAnswer (named_by names) net (lines_of text) answer → IsAnswer (net_named models) net (lines_of text) answer
-by_netlist models net names text answer named h = subst (λ (net_of : List ℕ → Option ℕ). IsAnswer net_of net (lines_of text) answer) (by_names models names named) h
+by_netlist : (models : List Model) (net : RawNet) (names : NetNames) (text : List ℕ) (answer : Result Inputs InputFault) → AreNamesOf models names → IsInputsAnswer (named_by names) net (lines_of text) answer → IsInputsAnswer (net_named models) net (lines_of text) answer
+by_netlist models net names text answer named h = subst (λ (net_of : List ℕ → Option ℕ). IsInputsAnswer net_of net (lines_of text) answer) (by_names models names named) h
 
 -- the inputs' text is refused
 pub inputs_fail : (net_text input_text : List ℕ) (models : List Model) (net : RawNet) (names : NetNames) (found : Refusal) → IsNetlist net_text models → IsNetOf models net names → OrMemory (AreNotGiven net names input_text) found →
-    OrMemory (IsFirst (sim_stages net_text input_text)) found
+    OrMemory (IsFirstRefusal (sim_stages net_text input_text)) found
 inputs_fail net_text input_text models net names found spelled n (inl memory) = inl memory
 inputs_fail net_text input_text models net names found spelled n (inr (fault, is, told, answer)) =
     behind_netlist net_text models net names (has_faulty_inputs net_text input_text ∷ []) found spelled n
@@ -35,7 +35,7 @@ inputs_fail net_text input_text models net names found spelled n (inr (fault, is
 
 -- the outputs are written
 pub is_simulated : (net_text input_text : List ℕ) (models : List Model) (net : RawNet) (names : NetNames) (inputs : Inputs) (rows : List (List Bool)) (bytes : List ℕ) → IsNetlist net_text models → IsNetOf models net names →
-    IsAnswer (named_by names) net (lines_of input_text) (Ok inputs) → AreOutputs net inputs rows → bytes ≡ sim_text (own_names names net.outputs) rows → IsSimulated net_text input_text bytes
+    IsInputsAnswer (named_by names) net (lines_of input_text) (Ok inputs) → AreOutputs net inputs rows → bytes ≡ sim_text (own_names names net.outputs) rows → IsSimulated net_text input_text bytes
 is_simulated net_text input_text models net names inputs rows bytes spelled n answer run written = record {
   models = models;
   net = net;

@@ -5,6 +5,7 @@ use Rattle.std.specs.List.{flat_map}
 use Rattle.std.proofs.lemmas.List.Elements.{All-cons}
 use Rattle.std.proofs.lemmas.List.{length-map}
 use Rattle.std.proofs.Math.Nat.{le-div_iff_mul-le, mul-div-le, mul-le-mul_left, mul_comm}
+use Rattle.ste_base.specs.Limits.{most_variables}
 use Rattle.blif_syntax.specs.declared.models.Model.{Model}
 use Rattle.hierarchy.specs.Names.{net_named}
 use Rattle.hierarchy.specs.Nets.{nets}
@@ -23,11 +24,11 @@ use Rattle.ste_model.specs.declared.task.Quint.{Quint}
 use Rattle.ste_model.specs.declared.task.Task.{Task}
 use Rattle.ste_model.specs.declared.task.Task.TheVariants.{Ste, Gste}
 use Rattle.ste_model.specs.declared.task.Tasks.{Tasks}
-use Rattle.task_binding.specs.Answer.{IsAnswer}
+use Rattle.task_binding.specs.Answer.{IsBindAnswer}
 use Rattle.task_binding.specs.Bound.{bind_bound, edge_bound, mark_bound, net_by, quint_bound, task_bound, weak_bound}
 use Rattle.task_binding.specs.Mentions.{AllNamed, bind_mention, edge_mentions, mark_mention, mentions_of, quint_mention, task_mentions, weak_mention}
 use Rattle.task_binding.specs.declared.unknown.Mention.{Mention}
-use Rattle.assert_syntax.specs.Spelled.{task_tree}
+use Rattle.assert_syntax.specs.Spelled.{raw_task_tree}
 use Rattle.assert_syntax.proofs.Whole.{a_parse}
 use Rattle.ste_program.specs.TaskFile.{AreTasks}
 use Rattle.work_pool.specs.Pool.{IsTaskOver}
@@ -226,22 +227,22 @@ all_checkable models vars (r ∷ raws) (t ∷ tasks) all e declared =
     (all_checkable models vars raws tasks (all_right (λ (m : Mention). IsSome (net_named models m.node)) (task_mentions r) (mentions_of raws) all) rest (λ k d l. declared (suc k) d (omega (arith, l))))
 
 -- tasks that are read and bound keep the promises of what is prepared
-pub promised : (models : List Model) (raws : RawTasks) (net : RawNet) (tasks : Tasks) → IsFlat models net → IsAnswer (net_named models) (length (nets models)) raws (Ok tasks) → All (AreDeclared (length tasks.vars)) tasks.tasks →
+pub promised : (models : List Model) (raws : RawTasks) (net : RawNet) (tasks : Tasks) → IsFlat models net → IsBindAnswer (net_named models) (length (nets models)) raws (Ok tasks) → All (AreDeclared (length tasks.vars)) tasks.tasks →
     All (IsCheckable net.nets (length tasks.vars)) tasks.tasks
 promised models raws net tasks flat bound declared =
     subst (λ n. All (IsCheckable n (length tasks.vars)) tasks.tasks) (sym flat.nets) (all_checkable models (length tasks.vars) raws.tasks tasks.tasks bound.0 bound.2.1 declared)
 
 -- there are as many bound tasks as there were
-pub as_many : (models : List Model) (raws : RawTasks) (tasks : Tasks) → IsAnswer (net_named models) (length (nets models)) raws (Ok tasks) → length raws.tasks ≡ length tasks.tasks
+pub as_many : (models : List Model) (raws : RawTasks) (tasks : Tasks) → IsBindAnswer (net_named models) (length (nets models)) raws (Ok tasks) → length raws.tasks ≡ length tasks.tasks
 as_many models raws tasks bound =
     sym (length-map raws.tasks (task_bound (net_by (net_named models)))) ∙ (sym (ap length bound.2.1) ∙ length-map tasks.tasks tree.task_tree)
 
 -- a task file that is read has a task
-pub some_tasks : (models : List Model) (task_text : List ℕ) (raws : RawTasks) (tasks : Tasks) → AreTasks task_text raws → IsAnswer (net_named models) (length (nets models)) raws (Ok tasks) → 0 < length tasks.tasks
+pub some_tasks : (models : List Model) (task_text : List ℕ) (raws : RawTasks) (tasks : Tasks) → AreTasks task_text raws → IsBindAnswer (net_named models) (length (nets models)) raws (Ok tasks) → 0 < length tasks.tasks
 some_tasks models task_text raws tasks read bound =
     let h = read a_parse.0 a_parse.1 in
     let same = as_many models raws tasks bound in
-    let some : 0 < length raws.tasks = not_none raws.tasks (λ e. h.3 (sym h.2 ∙ ap (map task_tree) e)) in
+    let some : 0 < length raws.tasks = not_none raws.tasks (λ e. h.3 (sym h.2 ∙ ap (map raw_task_tree) e)) in
     omega (arith, same, some)
   where
     not_none : (raw : List RawTask) → (raw ≡ [] → ⊥) → 0 < length raw
@@ -249,8 +250,8 @@ some_tasks models task_text raws tasks read bound =
     not_none (task ∷ raw) some = omega arith
 
 -- the variables of bound tasks are as few as those that were read
-pub few_vars : (models : List Model) (raws : RawTasks) (tasks : Tasks) → length raws.vars ≤ 1000 → IsAnswer (net_named models) (length (nets models)) raws (Ok tasks) → length tasks.vars ≤ 1000
-few_vars models raws tasks few bound = subst (λ (vars : List (List ℕ)). length vars ≤ 1000) (sym bound.2.0) few
+pub few_vars : (models : List Model) (raws : RawTasks) (tasks : Tasks) → length raws.vars ≤ most_variables → IsBindAnswer (net_named models) (length (nets models)) raws (Ok tasks) → length tasks.vars ≤ most_variables
+few_vars models raws tasks few bound = subst (λ (vars : List (List ℕ)). length vars ≤ most_variables) (sym bound.2.0) few
 
 -- the steps of all tasks together are bounded
 all_steps : (steps : Option ℕ) (raws tasks : ℕ) → are_too_many steps raws ≡ false → raws ≡ tasks → 0 < tasks → tasks * task_steps steps tasks ≤ 16000000

@@ -4,10 +4,10 @@ use Rattle.std.specs.Prelude.{◌≢◌}
 use Rattle.blif_lines.specs.declared.lines.Line.{Line}
 use Rattle.blif_lines.specs.Lines.{lines_of}
 use Rattle.assert_syntax.specs.Forms.{Entry}
-use Rattle.assert_syntax.specs.Answer.{IsAnswer, entries_of}
+use Rattle.assert_syntax.specs.Answer.{IsTasksAnswer, task_entries_of}
 use Rattle.assert_syntax.specs.Parses.{IsParse, Parse}
-use Rattle.assert_syntax.specs.Places.{first_fault}
-use Rattle.assert_syntax.specs.Spelled.{task_tree}
+use Rattle.assert_syntax.specs.Places.{first_task_fault}
+use Rattle.assert_syntax.specs.Spelled.{raw_task_tree}
 use Rattle.assert_syntax.specs.declared.fault.TaskFault.{TaskFault}
 use Rattle.assert_syntax.specs.declared.fault.TaskFault.TheVariants.{BadLine, TooDeep, DoubleName, UnknownVar, TooMany, NoTask, OutOfMemory}
 use Rattle.assert_syntax.specs.declared.form.LineFault.{LineFault}
@@ -17,8 +17,8 @@ use Rattle.assert_syntax.proofs.Whole.{a_parse}
 use Rattle.ste_program.specs.TaskFile.{AreTasks, IsTasksFault, task_lines}
 
 -- what the reader of task files gives, of the lines of a text
-pub tasks_read : (text : List ℕ) (lines : List Line) (raw : RawTasks) → lines ≡ lines_of text → ((parse : Parse) → IsParse parse → IsAnswer parse (entries_of lines) (Ok raw)) → AreTasks text raw
-tasks_read text lines raw same h = λ parse is. subst (λ (ls : List Line). IsAnswer parse (entries_of ls) (Ok raw)) same (h parse is)
+pub tasks_read : (text : List ℕ) (lines : List Line) (raw : RawTasks) → lines ≡ lines_of text → ((parse : Parse) → IsParse parse → IsTasksAnswer parse (task_entries_of lines) (Ok raw)) → AreTasks text raw
+tasks_read text lines raw same h = λ parse is. subst (λ (ls : List Line). IsTasksAnswer parse (task_entries_of ls) (Ok raw)) same (h parse is)
 
 -- the fault of a line, by what is wrong with it
 abbrev fault_of : ℕ → LineFault → TaskFault
@@ -33,7 +33,7 @@ abbrev fault_at : Option (ℕ × LineFault) → TaskFault
 fault_at None = NoTask
 fault_at (Some (line, kind)) = fault_of line kind
 
-only_fault : (parse : Parse) (lines : List Entry) (found : TaskFault) → found ≢ OutOfMemory → IsAnswer parse lines (Err found) → found ≡ fault_at (first_fault parse [] lines)
+only_fault : (parse : Parse) (lines : List Entry) (found : TaskFault) → found ≢ OutOfMemory → IsTasksAnswer parse lines (Err found) → found ≡ fault_at (first_task_fault parse [] lines)
 only_fault parse lines (BadLine line) stated h = sym (ap fault_at h)
 only_fault parse lines (TooDeep line) stated h = sym (ap fault_at h)
 only_fault parse lines (DoubleName line name) stated h = sym (ap fault_at h)
@@ -47,7 +47,7 @@ pub one_fault : (text : List ℕ) (one other : TaskFault) → IsTasksFault text 
 one_fault text one other f g =
     only_fault a_parse.0 (task_lines text) one f.0 (f.1 a_parse.0 a_parse.1) ∙ sym (only_fault a_parse.0 (task_lines text) other g.0 (g.1 a_parse.0 a_parse.1))
 
-fault_of_lines : (parse : Parse) (lines : List Entry) (raw : RawTasks) (found : TaskFault) → IsAnswer parse lines (Ok raw) → found ≢ OutOfMemory → IsAnswer parse lines (Err found) → ⊥
+fault_of_lines : (parse : Parse) (lines : List Entry) (raw : RawTasks) (found : TaskFault) → IsTasksAnswer parse lines (Ok raw) → found ≢ OutOfMemory → IsTasksAnswer parse lines (Err found) → ⊥
 fault_of_lines parse lines raw (BadLine line) read stated h = let none = read.0 in absurd (cc (none, h))
 fault_of_lines parse lines raw (TooDeep line) read stated h = let none = read.0 in absurd (cc (none, h))
 fault_of_lines parse lines raw (DoubleName line name) read stated h = let none = read.0 in absurd (cc (none, h))
@@ -61,7 +61,7 @@ pub no_fault : (text : List ℕ) (raw : RawTasks) (found : TaskFault) → AreTas
 no_fault text raw found read faulty = fault_of_lines a_parse.0 (task_lines text) raw found (read a_parse.0 a_parse.1) faulty.0 (faulty.1 a_parse.0 a_parse.1)
 
 -- a text spells the same variables, and tasks with the same trees
-pub same_tasks : (text : List ℕ) (one other : RawTasks) → AreTasks text one → AreTasks text other → (one.vars ≡ other.vars) × (map task_tree one.tasks ≡ map task_tree other.tasks)
+pub same_tasks : (text : List ℕ) (one other : RawTasks) → AreTasks text one → AreTasks text other → (one.vars ≡ other.vars) × (map raw_task_tree one.tasks ≡ map raw_task_tree other.tasks)
 same_tasks text one other f g =
     let a = f a_parse.0 a_parse.1 in
     let b = g a_parse.0 a_parse.1 in

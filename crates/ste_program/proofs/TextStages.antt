@@ -17,17 +17,17 @@ use Rattle.net_core.specs.Run.{IsSettled}
 use Rattle.net_gen.specs.Pipeline.{pipeline_net, pipeline_tasks}
 use Rattle.net_core.specs.declared.raw.RawNet.{RawNet}
 use Rattle.flat_net.specs.Flat.{IsFlat}
-use Rattle.assert_syntax.specs.Spelled.{task_tree}
+use Rattle.assert_syntax.specs.Spelled.{raw_task_tree}
 use Rattle.assert_syntax.specs.declared.fault.TaskFault.{TaskFault}
 use Rattle.assert_syntax.specs.declared.tasks.RawTasks.{RawTasks}
 use Rattle.ste_model.specs.declared.task.Tasks.{Tasks}
-use Rattle.task_binding.specs.Answer.{IsAnswer}
+use Rattle.task_binding.specs.Answer.{IsBindAnswer}
 use Rattle.task_binding.specs.declared.fault.BindFault.{BindFault}
 use Rattle.task_binding.proofs.Alike as binding
 use Rattle.ste_program.specs.Answer.{status_of}
 use Rattle.ste_program.specs.Check.{IsCheck, are_too_many}
 use Rattle.ste_program.specs.Netlist.{IsLoop, IsNetlist}
-use Rattle.ste_program.specs.Order.{AllSilent, CannotBind, HasTooManySteps, IsFaultyFor, IsFirst, check_stages, has_faulty_hierarchy, has_faulty_inputs, has_faulty_tasks, has_loop, info_stages, is_faulty, is_unbound, text_stages}
+use Rattle.ste_program.specs.Order.{AllSilent, CannotBind, HasTooManySteps, IsFaultyFor, IsFirstRefusal, check_stages, has_faulty_hierarchy, has_faulty_inputs, has_faulty_tasks, has_loop, info_stages, is_faulty, is_unbound, text_stages}
 use Rattle.ste_program.specs.Reading.{OneReading}
 use Rattle.ste_program.specs.Report.{IsWritten}
 use Rattle.ste_program.specs.TaskFile.{AreTasks}
@@ -64,11 +64,11 @@ loop_once net_text one other f g =
     f.1 ∙ (ap (λ (name : List ℕ). refusal.Loop name) names ∙ sym g.1)
 
 -- an answer on tasks that a text spells, as one on others that it spells
-moved : (net_text task_text : List ℕ) (models : List Model) (raw : RawTasks) (fault : BindFault) → IsNetlist net_text models → AreTasks task_text raw → CannotBind net_text task_text fault → IsAnswer (net_named models) (length (nets models)) raw (Err fault)
+moved : (net_text task_text : List ℕ) (models : List Model) (raw : RawTasks) (fault : BindFault) → IsNetlist net_text models → AreTasks task_text raw → CannotBind net_text task_text fault → IsBindAnswer (net_named models) (length (nets models)) raw (Err fault)
 moved net_text task_text models raw fault spelled read h =
     let same = netlist.one_netlist net_text h.models models h.netlist spelled in
     let trees = tasks.same_tasks task_text h.raw raw h.spelled read in
-    subst (λ (ms : List Model). IsAnswer (net_named ms) (length (nets ms)) raw (Err fault)) same
+    subst (λ (ms : List Model). IsBindAnswer (net_named ms) (length (nets ms)) raw (Err fault)) same
     (binding.answered_alike (net_named h.models) (length (nets h.models)) h.raw raw (Err fault) trees.0 trees.1 h.answer)
 
 unbound_once : (net_text task_text : List ℕ) (one other : Refusal) → is_unbound net_text task_text one → is_unbound net_text task_text other → one ≡ other
@@ -79,11 +79,11 @@ unbound_once net_text task_text one other f g =
 
 -- a fault of an input file over one flat net is one over another
 input_fault_moved : (net_text input_text : List ℕ) (models : List Model) (net : RawNet) (fault : InputFault) → IsNetlist net_text models → IsFlat models net → (h : IsFaultyFor net_text input_text fault) →
-    inputs.IsAnswer (net_named models) net (lines_of input_text) (Err fault)
+    inputs.IsInputsAnswer (net_named models) net (lines_of input_text) (Err fault)
 input_fault_moved net_text input_text models net fault spelled flat h =
     let same = netlist.one_netlist net_text h.models models h.netlist spelled in
     inputs_moved models h.net net (lines_of input_text) (Err fault) (subst (λ (ms : List Model). IsFlat ms h.net) same h.flat) flat
-    (subst (λ (ms : List Model). inputs.IsAnswer (net_named ms) h.net (lines_of input_text) (Err fault)) same h.answer)
+    (subst (λ (ms : List Model). inputs.IsInputsAnswer (net_named ms) h.net (lines_of input_text) (Err fault)) same h.answer)
 
 inputs_once : (net_text input_text : List ℕ) (one other : Refusal) → has_faulty_inputs net_text input_text one → has_faulty_inputs net_text input_text other → one ≡ other
 inputs_once net_text input_text one other f g =
@@ -102,7 +102,7 @@ text_once (info net) steps net_text second_text = (faulty_once net_text, (hierar
 text_once (sim net inputs) steps net_text second_text = (faulty_once net_text, (hierarchy_once net_text, (loop_once net_text, (inputs_once net_text second_text, tt))))
 text_once (bench stages) steps net_text second_text = check_once steps (pipeline_net stages) (pipeline_tasks stages)
 
--- what a stage of the texts gives is told with status 2
+-- what a stage of the texts gives is reported with status 2
 check_told : (steps : Option ℕ) (net_text task_text : List ℕ) → AllTold (check_stages steps net_text task_text)
 check_told steps net_text task_text =
     ((λ found h. ap status_of h.1), ((λ found h. ap status_of h.1), ((λ found h. ap status_of h.1), ((λ found h. ap status_of h.1), ((λ found h. ap status_of h.1), ((λ found h. ap status_of h.is), tt))))))
@@ -128,7 +128,7 @@ loop_silent : (net_text : List ℕ) (models : List Model) (net : RawNet) → IsN
 loop_silent net_text models net spelled flat settled other h =
     no_loop models net h.0 flat settled (subst (λ (ms : List Model). IsLoop ms h.0) (netlist.one_netlist net_text h.2.0 models h.2.1 spelled) h.2.2)
 
-unbound_silent : (net_text task_text : List ℕ) (models : List Model) (raw : RawTasks) (bound : Tasks) → IsNetlist net_text models → AreTasks task_text raw → IsAnswer (net_named models) (length (nets models)) raw (Ok bound) → (other : Refusal) → ¬ is_unbound net_text task_text other
+unbound_silent : (net_text task_text : List ℕ) (models : List Model) (raw : RawTasks) (bound : Tasks) → IsNetlist net_text models → AreTasks task_text raw → IsBindAnswer (net_named models) (length (nets models)) raw (Ok bound) → (other : Refusal) → ¬ is_unbound net_text task_text other
 unbound_silent net_text task_text models raw bound spelled read answer other h =
     binding.no_fault (net_named models) (length (nets models)) raw bound h.0 h.2.told answer (moved net_text task_text models raw h.0 spelled read h.2)
 
@@ -137,11 +137,11 @@ steps_silent : (steps : Option ℕ) (task_text : List ℕ) (raw : RawTasks) → 
 steps_silent steps task_text raw read few other h =
     let trees = tasks.same_tasks task_text h.raw raw h.spelled read in
     let many = h.many in
-    let as_many : length h.raw.tasks ≡ length raw.tasks = sym (length-map h.raw.tasks task_tree) ∙ (ap length trees.1 ∙ length-map raw.tasks task_tree) in
+    let as_many : length h.raw.tasks ≡ length raw.tasks = sym (length-map h.raw.tasks raw_task_tree) ∙ (ap length trees.1 ∙ length-map raw.tasks raw_task_tree) in
     let wrong : true ≡ false = sym many ∙ (ap (are_too_many steps) as_many ∙ few) in
     absurd (cc wrong)
 
-inputs_silent : (net_text input_text : List ℕ) (models : List Model) (net : RawNet) (given : Inputs) → IsNetlist net_text models → IsFlat models net → inputs.IsAnswer (net_named models) net (lines_of input_text) (Ok given) →
+inputs_silent : (net_text input_text : List ℕ) (models : List Model) (net : RawNet) (given : Inputs) → IsNetlist net_text models → IsFlat models net → inputs.IsInputsAnswer (net_named models) net (lines_of input_text) (Ok given) →
     (other : Refusal) → ¬ has_faulty_inputs net_text input_text other
 inputs_silent net_text input_text models net given spelled flat answer other h =
     spelled_has_no_fault (net_named models) net (lines_of input_text) given h.0 h.2.told answer (input_fault_moved net_text input_text models net h.0 spelled flat h.2)
@@ -185,47 +185,47 @@ one_reading net_text task_text models others net other bound others_tasks f g =
     let same = netlist.one_netlist net_text models others f.flattened.netlist g.flattened.netlist in
     let trees = tasks.same_tasks task_text f.raw g.raw f.spelled g.spelled in
     let there = binding.answered_alike (net_named models) (length (nets models)) f.raw g.raw (Ok bound) trees.0 trees.1 f.bound in
-    let here : IsAnswer (net_named models) (length (nets models)) g.raw (Ok others_tasks) =
-    subst (λ (ms : List Model). IsAnswer (net_named ms) (length (nets ms)) g.raw (Ok others_tasks)) (sym same) g.bound in
+    let here : IsBindAnswer (net_named models) (length (nets models)) g.raw (Ok others_tasks) =
+    subst (λ (ms : List Model). IsBindAnswer (net_named ms) (length (nets ms)) g.raw (Ok others_tasks)) (sym same) g.bound in
     (same, there.2.0 ∙ sym here.2.0, there.2.1 ∙ sym here.2.1)
 
 -- the exits of the steps over the texts: a stage gives the refusal, or is silent
-pub stop : (stage : Refusal → Type 0) (stages : List (Refusal → Type 0)) (found : Refusal) → OrMemory stage found → OrMemory (IsFirst (stage ∷ stages)) found
+pub stop : (stage : Refusal → Type 0) (stages : List (Refusal → Type 0)) (found : Refusal) → OrMemory stage found → OrMemory (IsFirstRefusal (stage ∷ stages)) found
 stop stage stages found (inl memory) = inl memory
 stop stage stages found (inr h) = inr (inl h)
 
-pub skip : (stage : Refusal → Type 0) (stages : List (Refusal → Type 0)) (found : Refusal) → ((other : Refusal) → ¬ stage other) → OrMemory (IsFirst stages) found → OrMemory (IsFirst (stage ∷ stages)) found
+pub skip : (stage : Refusal → Type 0) (stages : List (Refusal → Type 0)) (found : Refusal) → ((other : Refusal) → ¬ stage other) → OrMemory (IsFirstRefusal stages) found → OrMemory (IsFirstRefusal (stage ∷ stages)) found
 skip stage stages found silent (inl memory) = inl memory
 skip stage stages found silent (inr h) = inr (inr (silent, h))
 
 -- a netlist has no flat net
-pub net_fails : (net_text : List ℕ) (models : List Model) (stages : List (Refusal → Type 0)) (found : Refusal) → IsNetlist net_text models → OrMemory (HasNoNet models) found → OrMemory (IsFirst (has_faulty_hierarchy net_text ∷ has_loop net_text ∷ stages)) found
+pub net_fails : (net_text : List ℕ) (models : List Model) (stages : List (Refusal → Type 0)) (found : Refusal) → IsNetlist net_text models → OrMemory (HasNoNet models) found → OrMemory (IsFirstRefusal (has_faulty_hierarchy net_text ∷ has_loop net_text ∷ stages)) found
 net_fails net_text models stages found spelled (inl memory) = inl memory
 net_fails net_text models stages found spelled (inr (inl (fault, is, refused))) = inr (inl (fault, is, (models, spelled, refused)))
 net_fails net_text models stages found spelled (inr (inr (name, is, sound, looped))) =
     inr (inr (hierarchy_silent net_text models spelled sound, inl (name, is, (models, spelled, looped))))
 
 -- the same behind the netlist's lines
-pub netlist_fails : (net_text : List ℕ) (models : List Model) (stages : List (Refusal → Type 0)) (found : Refusal) → IsNetlist net_text models → OrMemory (HasNoNet models) found → OrMemory (IsFirst (is_faulty net_text ∷ has_faulty_hierarchy net_text ∷ has_loop net_text ∷ stages)) found
+pub netlist_fails : (net_text : List ℕ) (models : List Model) (stages : List (Refusal → Type 0)) (found : Refusal) → IsNetlist net_text models → OrMemory (HasNoNet models) found → OrMemory (IsFirstRefusal (is_faulty net_text ∷ has_faulty_hierarchy net_text ∷ has_loop net_text ∷ stages)) found
 netlist_fails net_text models stages found spelled why = skip (is_faulty net_text) (has_faulty_hierarchy net_text ∷ has_loop net_text ∷ stages) found (faulty_silent net_text models spelled) (net_fails net_text models stages found spelled why)
 
 -- a flat net of a netlist's text, or why there is none
 pub netlist_or_not : {T : Type 0} (result : Result T Refusal) (net : T → RawNet) (names : T → NetNames) (net_text : List ℕ) (models : List Model) → IsNetlist net_text models →
     MatchResult result (λ flat. IsNetOf models (net flat) (names flat)) (λ found. OrMemory (HasNoNet models) found) →
-    MatchResult result (λ flat. (ones : List Model) × IsNetlist net_text ones × IsNetOf ones (net flat) (names flat)) (λ found. OrMemory (IsFirst (info_stages net_text)) found)
+    MatchResult result (λ flat. (ones : List Model) × IsNetlist net_text ones × IsNetOf ones (net flat) (names flat)) (λ found. OrMemory (IsFirstRefusal (info_stages net_text)) found)
 netlist_or_not (Ok flat) net names net_text models spelled h = (models, spelled, h)
 netlist_or_not (Err found) net names net_text models spelled h = netlist_fails net_text models [] found spelled h
 
 -- behind a flat net
 pub behind_net : (net_text : List ℕ) (models : List Model) (net : RawNet) (stages : List (Refusal → Type 0)) (found : Refusal) → IsNetlist net_text models → IsFree (IsRefusal models) → IsFlat models net → IsSettled net →
-    OrMemory (IsFirst stages) found → OrMemory (IsFirst (has_faulty_hierarchy net_text ∷ has_loop net_text ∷ stages)) found
+    OrMemory (IsFirstRefusal stages) found → OrMemory (IsFirstRefusal (has_faulty_hierarchy net_text ∷ has_loop net_text ∷ stages)) found
 behind_net net_text models net stages found spelled sound flat settled why =
     skip (has_faulty_hierarchy net_text) (has_loop net_text ∷ stages) found (hierarchy_silent net_text models spelled sound)
     (skip (has_loop net_text) stages found (loop_silent net_text models net spelled flat settled) why)
 
 -- behind the netlist's lines and its flat net
 pub behind_netlist : (net_text : List ℕ) (models : List Model) (net : RawNet) (names : NetNames) (stages : List (Refusal → Type 0)) (found : Refusal) → IsNetlist net_text models → IsNetOf models net names →
-    OrMemory (IsFirst stages) found → OrMemory (IsFirst (is_faulty net_text ∷ has_faulty_hierarchy net_text ∷ has_loop net_text ∷ stages)) found
+    OrMemory (IsFirstRefusal stages) found → OrMemory (IsFirstRefusal (is_faulty net_text ∷ has_faulty_hierarchy net_text ∷ has_loop net_text ∷ stages)) found
 behind_netlist net_text models net names stages found spelled n why =
     skip (is_faulty net_text) (has_faulty_hierarchy net_text ∷ has_loop net_text ∷ stages) found (faulty_silent net_text models spelled)
     (behind_net net_text models net stages found spelled n.sound n.flat n.settled why)
@@ -241,43 +241,43 @@ abbrev task_stages : Option ℕ → List ℕ → List ℕ → List (Refusal → 
 task_stages steps net_text task_text = has_faulty_tasks task_text ∷ net_stages steps net_text task_text
 
 -- the netlist's text is refused
-pub netlist_text_fails : (steps : Option ℕ) (net_text task_text : List ℕ) (found : Refusal) → OrMemory (is_faulty net_text) found → OrMemory (IsFirst (check_stages steps net_text task_text)) found
+pub netlist_text_fails : (steps : Option ℕ) (net_text task_text : List ℕ) (found : Refusal) → OrMemory (is_faulty net_text) found → OrMemory (IsFirstRefusal (check_stages steps net_text task_text)) found
 netlist_text_fails steps net_text task_text found why = stop (is_faulty net_text) (task_stages steps net_text task_text) found why
 
 -- behind the netlist's text, which spells models
 module _ (steps : Option ℕ) (net_text task_text : List ℕ) (models : List Model) (spelled : IsNetlist net_text models) where
   -- the tasks' text is refused
-  pub tasks_fail : (found : Refusal) → OrMemory (has_faulty_tasks task_text) found → OrMemory (IsFirst (check_stages steps net_text task_text)) found
+  pub tasks_fail : (found : Refusal) → OrMemory (has_faulty_tasks task_text) found → OrMemory (IsFirstRefusal (check_stages steps net_text task_text)) found
   tasks_fail found why =
       skip (is_faulty net_text) (task_stages steps net_text task_text) found (faulty_silent net_text models spelled)
       (stop (has_faulty_tasks task_text) (net_stages steps net_text task_text) found why)
 
   -- behind the tasks' text, which spells tasks
   module _ (raw : RawTasks) (read : AreTasks task_text raw) where
-    behind_texts : (found : Refusal) → OrMemory (IsFirst (net_stages steps net_text task_text)) found → OrMemory (IsFirst (check_stages steps net_text task_text)) found
+    behind_texts : (found : Refusal) → OrMemory (IsFirstRefusal (net_stages steps net_text task_text)) found → OrMemory (IsFirstRefusal (check_stages steps net_text task_text)) found
     behind_texts found why =
         skip (is_faulty net_text) (task_stages steps net_text task_text) found (faulty_silent net_text models spelled)
         (skip (has_faulty_tasks task_text) (net_stages steps net_text task_text) found (tasks_silent task_text raw read) why)
 
     -- the netlist has no flat net
-    pub check_net_fails : (found : Refusal) → OrMemory (HasNoNet models) found → OrMemory (IsFirst (check_stages steps net_text task_text)) found
+    pub check_net_fails : (found : Refusal) → OrMemory (HasNoNet models) found → OrMemory (IsFirstRefusal (check_stages steps net_text task_text)) found
     check_net_fails found why = behind_texts found (net_fails net_text models (bound_stages steps net_text task_text) found spelled why)
 
     -- behind the flat net
     module _ (net : RawNet) (names : NetNames) (of_net : IsNetOf models net names) where
-      behind_flat : (found : Refusal) → OrMemory (IsFirst (bound_stages steps net_text task_text)) found → OrMemory (IsFirst (check_stages steps net_text task_text)) found
+      behind_flat : (found : Refusal) → OrMemory (IsFirstRefusal (bound_stages steps net_text task_text)) found → OrMemory (IsFirstRefusal (check_stages steps net_text task_text)) found
       behind_flat found why = behind_texts found (behind_net net_text models net (bound_stages steps net_text task_text) found spelled of_net.sound of_net.flat of_net.settled why)
 
       -- the tasks cannot be bound
-      pub unbound_fails : (found : Refusal) → OrMemory (IsNotBound models raw) found → OrMemory (IsFirst (check_stages steps net_text task_text)) found
+      pub unbound_fails : (found : Refusal) → OrMemory (IsNotBound models raw) found → OrMemory (IsFirstRefusal (check_stages steps net_text task_text)) found
       unbound_fails found (inl memory) = inl memory
       unbound_fails found (inr (fault, is, told, answer)) =
           behind_flat found (inr (inl (fault, is, record { models = models; netlist = spelled; raw = raw; spelled = read; told = told; answer = answer })))
 
       -- the tasks are bound
-      module _ (bound : Tasks) (answer : IsAnswer (net_named models) (length (nets models)) raw (Ok bound)) where
+      module _ (bound : Tasks) (answer : IsBindAnswer (net_named models) (length (nets models)) raw (Ok bound)) where
         -- their steps are too many
-        pub steps_fail : are_too_many steps (length raw.tasks) ≡ true → OrMemory (IsFirst (check_stages steps net_text task_text)) refusal.TooManySteps
+        pub steps_fail : are_too_many steps (length raw.tasks) ≡ true → OrMemory (IsFirstRefusal (check_stages steps net_text task_text)) refusal.TooManySteps
         steps_fail many =
             behind_flat refusal.TooManySteps
             (inr (inr (unbound_silent net_text task_text models raw bound spelled read answer, inl (record { is = refl; raw = raw; spelled = read; many = many }))))

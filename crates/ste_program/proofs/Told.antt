@@ -1,4 +1,4 @@
--- What the layers' own answers tell of texts.
+-- What the layers' own answers say of texts.
 use Rattle.std.proofs.Common.{◌≡◌, ◌∙◌, ℕ, List, length, Option, Some, Result, Err, refl, ap, sym, subst, inl, inr}
 use Rattle.std.specs.Prelude.{◌⊎◌, slice_get}
 use Rattle.blif_lines.specs.declared.lines.Line.{Line}
@@ -20,7 +20,7 @@ use Rattle.net_names.specs.declared.names.NetNames.{NetNames}
 use Rattle.net_names.proofs.Named.{names_are_resolved}
 use Rattle.flat_net.specs.Flat.{IsFlat}
 use Rattle.ste_model.specs.declared.task.Tasks.{Tasks}
-use Rattle.task_binding.specs.Answer.{IsAnswer}
+use Rattle.task_binding.specs.Answer.{IsBindAnswer}
 use Rattle.task_binding.specs.declared.fault.BindFault.{BindFault}
 use Rattle.task_binding.specs.declared.fault.BindFault.TheVariants as bind
 use Rattle.ste_program.specs.Netlist.{IsLoop, net_lines}
@@ -30,15 +30,15 @@ use Rattle.ste_program.specs.private.Made.{HasNoNet, IsNetOf, IsNotBound}
 use Rattle.ste_program.specs.private.Texts.{OrMemory}
 
 -- a netlist's text that is refused
-netlist_told : (text : List ℕ) (fault : BlifFault) → blif_answer.IsAnswer (net_lines text) (Err fault) → OrMemory (is_faulty text) (netlist_refused fault)
+netlist_told : (text : List ℕ) (fault : BlifFault) → blif_answer.IsBlifAnswer (net_lines text) (Err fault) → OrMemory (is_faulty text) (netlist_refused fault)
 netlist_told text (blif.BadLine line) h = inr (blif.BadLine line, refl, ((λ e. absurd (cc e)), h))
 netlist_told text (blif.UnknownWord line word) h = inr (blif.UnknownWord line word, refl, ((λ e. absurd (cc e)), h))
 netlist_told text (blif.LeftOut line word) h = inr (blif.LeftOut line word, refl, ((λ e. absurd (cc e)), h))
 netlist_told text blif.NoModel h = inr (blif.NoModel, refl, ((λ e. absurd (cc e)), h))
 netlist_told text blif.OutOfMemory h = inl refl
 
-pub no_models : (text : List ℕ) (lines : List Line) (fault : BlifFault) → lines ≡ lines_of text → blif_answer.IsAnswer (blif_answer.entries_of lines) (Err fault) → OrMemory (is_faulty text) (netlist_refused fault)
-no_models text lines fault same h = netlist_told text fault (subst (λ (ls : List Line). blif_answer.IsAnswer (blif_answer.entries_of ls) (Err fault)) same h)
+pub no_models : (text : List ℕ) (lines : List Line) (fault : BlifFault) → lines ≡ lines_of text → blif_answer.IsBlifAnswer (blif_answer.entries_of lines) (Err fault) → OrMemory (is_faulty text) (netlist_refused fault)
+no_models text lines fault same h = netlist_told text fault (subst (λ (ls : List Line). blif_answer.IsBlifAnswer (blif_answer.entries_of ls) (Err fault)) same h)
 
 -- a hierarchy that is refused
 pub hierarchy_told : (models : List Model) (fault : NetFault) → (fault ≡ net.OutOfMemory) ⊎ IsRefusal models fault → OrMemory (HasNoNet models) (hierarchy_refused fault)
@@ -70,18 +70,18 @@ by_names models names known = λ i text. names_are_resolved models names known t
 
 -- an answer by the names, as one of the netlist
 pub bound_told : (models : List Model) (raw : RawNet) (names : NetNames) (count : ℕ) (tasks : RawTasks) (answer : Result Tasks BindFault) → IsNetOf models raw names → count ≡ raw.nets →
-    IsAnswer (named_by names) count tasks answer → IsAnswer (net_named models) (length (nets models)) tasks answer
+    IsBindAnswer (named_by names) count tasks answer → IsBindAnswer (net_named models) (length (nets models)) tasks answer
 bound_told models raw names count tasks answer of_net counted h =
-    subst (λ n. IsAnswer (net_named models) n tasks answer) (counted ∙ of_net.flat.nets)
-    (subst (λ (net_of : List ℕ → Option ℕ). IsAnswer net_of count tasks answer) (by_names models names of_net.named) h)
+    subst (λ n. IsBindAnswer (net_named models) n tasks answer) (counted ∙ of_net.flat.nets)
+    (subst (λ (net_of : List ℕ → Option ℕ). IsBindAnswer net_of count tasks answer) (by_names models names of_net.named) h)
 
-unbound_told : (models : List Model) (tasks : RawTasks) (fault : BindFault) → IsAnswer (net_named models) (length (nets models)) tasks (Err fault) → OrMemory (IsNotBound models tasks) (binding_refused fault)
+unbound_told : (models : List Model) (tasks : RawTasks) (fault : BindFault) → IsBindAnswer (net_named models) (length (nets models)) tasks (Err fault) → OrMemory (IsNotBound models tasks) (binding_refused fault)
 unbound_told models tasks (bind.UnknownNode line name) h = inr (bind.UnknownNode line name, refl, (λ e. absurd (cc e)), h)
 unbound_told models tasks (bind.TooLarge line) h = inr (bind.TooLarge line, refl, (λ e. absurd (cc e)), h)
 unbound_told models tasks bind.OutOfMemory h = inl refl
 
 pub no_tasks : (models : List Model) (raw : RawNet) (names : NetNames) (count : ℕ) (tasks : RawTasks) (fault : BindFault) → IsNetOf models raw names → count ≡ raw.nets →
-    IsAnswer (named_by names) count tasks (Err fault) → OrMemory (IsNotBound models tasks) (binding_refused fault)
+    IsBindAnswer (named_by names) count tasks (Err fault) → OrMemory (IsNotBound models tasks) (binding_refused fault)
 no_tasks models raw names count tasks fault of_net counted h = unbound_told models tasks fault (bound_told models raw names count tasks (Err fault) of_net counted h)
 
 -- the loop that the order of gates finds

@@ -11,7 +11,8 @@ net_file (info net) = Some net
 net_file (sim net inputs) = Some net
 net_file (bench stages) = None
 
--- the name of the second file: the tasks' of a check, the inputs' of a simulation; the other actions read none
+-- the name of the second file: the tasks' of a check, the inputs' of a simulation; the other
+-- actions read none
 abbrev pub second_file : Action → Option (List ℕ)
 second_file (check net tasks) = Some tasks
 second_file (info net) = None
@@ -31,7 +32,8 @@ file_name (Some command) which = unwrap_or (file_of command.action which) []
 -- the names of the files that are read, in order
 abbrev pub files_of : Option Command → List (List ℕ)
 files_of None = []
-files_of (Some command) = option_to_list (net_file command.action) ++ option_to_list (second_file command.action)
+files_of (Some command) =
+    option_to_list (net_file command.action) ++ option_to_list (second_file command.action)
 
 -- the names up to a file's, in order
 abbrev pub files_up_to : Command → File → List (List ℕ)

@@ -1,8 +1,8 @@
--- Meaning. What the text of a netlist spells, and why it spells nothing; its flat net; and the loop for which a netlist is
--- refused. Source: this project's own choice.
+-- Meaning. What the text of a netlist spells, and why it spells nothing; its flat net; and the loop
+-- for which a netlist is refused. Source: this project's own choice.
 use Rattle.std.specs.Prelude.{◌≡◌, ◌≢◌, ◌<◌, [], ℕ, List, length, map, None, Some, Err, slice_get}
 use Rattle.blif_lines.specs.Lines.{lines_of}
-use Rattle.blif_syntax.specs.Answer.{IsAnswer, entries_of}
+use Rattle.blif_syntax.specs.Answer.{IsBlifAnswer, entries_of}
 use Rattle.blif_syntax.specs.Places.{first_fault}
 use Rattle.blif_syntax.specs.Spelled.{models_of}
 use Rattle.blif_syntax.specs.declared.fault.BlifFault.{BlifFault}
@@ -30,10 +30,10 @@ pub record IsNetlist (text : List ℕ) (models : List Model) : Type 0 where
 
 -- the text is refused for this fault: that of its first faulty line, or that it has no model
 abbrev pub IsNetlistFault : List ℕ → BlifFault → Type 0
-IsNetlistFault text fault = (fault ≢ OutOfMemory) × IsAnswer (net_lines text) (Err fault)
+IsNetlistFault text fault = (fault ≢ OutOfMemory) × IsBlifAnswer (net_lines text) (Err fault)
 
--- The text spells these models, whose hierarchy has no fault, and this is their flat net, whose numbers are in range and in which no
--- gates form a loop. The net's covers are numbered freely.
+-- The text spells these models, whose hierarchy has no fault, and this is their flat net, whose
+-- numbers are in range and in which no gates form a loop. The net's covers are numbered freely.
 pub record IsFlattened (text : List ℕ) (models : List Model) (net : RawNet) : Type 0 where
   pub netlist : IsNetlist text models
   pub sound : IsFree (IsRefusal models)
@@ -41,7 +41,8 @@ pub record IsFlattened (text : List ℕ) (models : List Model) (net : RawNet) : 
   pub in_range : IsInRange net
   pub settled : IsSettled net
 
--- gates of the flat net drive one another in a loop: this is the own name of the least net that does not settle
+-- gates of the flat net drive one another in a loop: this is the own name of the least net that
+-- does not settle
 pub record IsLoop (models : List Model) (name : List ℕ) : Type 0 where
   pub net : RawNet
   pub flat : IsFlat models net

@@ -4,7 +4,7 @@ ghost use Rattle.command_line.specs.Bounds.{IsBounded};
 ghost use Rattle.net_gen.specs.Pipeline.{pipeline_net, pipeline_tasks};
 ghost use Rattle.ste_program.specs.Bench.{IsBench};
 ghost use Rattle.ste_program.specs.Info.{count_line};
-ghost use Rattle.ste_program.specs.Order.{IsFirst, check_stages};
+ghost use Rattle.ste_program.specs.Order.{IsFirstRefusal, check_stages};
 ghost use Rattle.ste_program.specs.private.Texts.{OrMemory};
 
 use crate::check::{Checked, checked_texts};
@@ -32,7 +32,8 @@ fn with_nets(alloc: Global, checked: Checked) -> Result<Written, AllocError>
     })
 }
 
-/// What `bench` writes for a pipeline of so many stages, which it makes and checks with the steps, workers, cubes and flags of a command.
+/// What `bench` writes for a pipeline of so many stages, which it makes and checks with the steps,
+/// workers, cubes and flags of a command.
 pub fn bench<R: Threads + Sync, G: Gate + Sync>(
     rt: &R,
     alloc: Global,
@@ -45,7 +46,7 @@ pub fn bench<R: Threads + Sync, G: Gate + Sync>(
     ensures { MatchResult result
         (λ written. IsBench asked.now.steps asked.now.cubes asked.now.wave asked.now.nodes stages
         written.passes written.bytes)
-        (λ found. OrMemory (IsFirst (check_stages asked.now.steps (pipeline_net stages)
+        (λ found. OrMemory (IsFirstRefusal (check_stages asked.now.steps (pipeline_net stages)
         (pipeline_tasks stages))) found) }
 {
     let (net, tasks) = pipeline(alloc, stages as u32)?;

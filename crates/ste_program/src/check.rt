@@ -1,16 +1,18 @@
-//! What a check writes: `check` gives its bytes, and whether every task passes; `checked_texts` the number of nets too.
+//! What a check writes: `check` gives its bytes, and whether every task passes; `checked_texts` the
+//! number of nets too.
 ghost use Rattle.std.specs.Prelude.{◌≡◌, ◌*◌, ◌≤◌, ◌<◌, ℕ, List, All, IfOk, MatchResult, Ok, false, length};
 ghost use Rattle.std.specs.List.{list_all};
+ghost use Rattle.ste_base.specs.Limits.{most_variables};
 ghost use Rattle.blif_syntax.specs.Covered.{AreCovered};
 ghost use Rattle.blif_syntax.specs.declared.models.Model.{Model};
 ghost use Rattle.command_line.specs.Bounds.{IsBounded};
 ghost use Rattle.hierarchy.specs.Names.{net_named};
 ghost use Rattle.hierarchy.specs.Nets.{nets};
 ghost use Rattle.net_core.specs.Cases.{cases_of};
-ghost use Rattle.task_binding.specs.Answer.{IsAnswer};
+ghost use Rattle.task_binding.specs.Answer.{IsBindAnswer};
 ghost use Rattle.ste_program.specs.Check.{IsCheck, IsReportOn, are_too_many, is_pass, task_steps};
 ghost use Rattle.ste_program.specs.Netlist.{IsNetlist};
-ghost use Rattle.ste_program.specs.Order.{IsFirst, check_stages, has_faulty_tasks};
+ghost use Rattle.ste_program.specs.Order.{IsFirstRefusal, check_stages, has_faulty_tasks};
 ghost use Rattle.ste_program.specs.Report.{greatest};
 ghost use Rattle.ste_program.specs.TaskFile.{AreTasks};
 ghost use Rattle.ste_program.specs.private.Made.{IsCheckable, IsNetOf, IsNotBound};
@@ -43,11 +45,12 @@ struct Prepared {
     ghost cases: { All (λ cover. cases_of cover.inputs cover.rows ≤ 65536) flat.net.raw.covers },
     ghost checkable: { All (IsCheckable flat.net.raw.nets (length tasks.vars)) tasks.tasks },
     ghost some: { 0 < length tasks.tasks },
-    ghost few: { length tasks.vars ≤ 1000 },
+    ghost few: { length tasks.vars ≤ most_variables },
     ghost few_tasks: { length tasks.tasks ≤ 256 },
 }
 
-/// The tasks that the text of a task file spells, whose nodes are names. The text is let go once its lines are there.
+/// The tasks that the text of a task file spells, whose nodes are names. The text is dropped once
+/// its lines are there.
 fn tasks_of(alloc: Global, text: Vec<u8>) -> Result<RawTasks, Refusal>
     requires { length text.items ≤ greatest }
     ensures { MatchResult result
@@ -60,10 +63,10 @@ fn tasks_of(alloc: Global, text: Vec<u8>) -> Result<RawTasks, Refusal>
 }
 
 /// The tasks over a netlist's net.
-fn bound(alloc: Global, flat: &FlatNet, raw: &RawTasks) -> Result<Tasks, Refusal>
+fn bound_tasks(alloc: Global, flat: &FlatNet, raw: &RawTasks) -> Result<Tasks, Refusal>
     ensures { (models : List Model) → IsNetOf models flat.now.net.raw flat.now.names →
         MatchResult result
-        (λ tasks. IsAnswer (net_named models) (length (nets models)) raw.now (Ok tasks))
+        (λ tasks. IsBindAnswer (net_named models) (length (nets models)) raw.now (Ok tasks))
         (λ found. OrMemory (IsNotBound models raw.now) found) }
 {
     Ok(bind_tasks(alloc, raw, &flat.names, flat.net.nets())?)
@@ -89,18 +92,19 @@ fn tasks_on(
     ensures { (net_text task_text : List ℕ) (models : List Model) → IsNetlist net_text models →
         AreTasks task_text raw.now → IsNetOf models flat.now.net.raw flat.now.names →
         MatchResult result
-        (λ tasks. IsAnswer (net_named models) (length (nets models)) raw.now (Ok tasks)
+        (λ tasks. IsBindAnswer (net_named models) (length (nets models)) raw.now (Ok tasks)
         × (are_too_many steps (length raw.now.tasks) ≡ false))
-        (λ found. OrMemory (IsFirst (check_stages steps net_text task_text)) found) }
+        (λ found. OrMemory (IsFirstRefusal (check_stages steps net_text task_text)) found) }
 {
-    let tasks = bound(alloc, flat, raw)?;
+    let tasks = bound_tasks(alloc, flat, raw)?;
     if are_too_many(steps, raw.tasks.len()) {
         return Err(Refusal::TooManySteps);
     }
     Ok(tasks)
 }
 
-/// What a check with these node steps of each task needs, from the models and the tasks that its texts spell.
+/// What a check with these node steps of each task needs, from the models and the tasks that its
+/// texts spell.
 fn prepared_of(
     alloc: Global,
     steps: Option<u64>,
@@ -114,14 +118,15 @@ fn prepared_of(
         AreTasks task_text raw.now → MatchResult result
         (λ made. IsPrepared steps net_text task_text made.flat.names.own made.flat.net.raw
         made.tasks)
-        (λ found. OrMemory (IsFirst (check_stages steps net_text task_text)) found) }
+        (λ found. OrMemory (IsFirstRefusal (check_stages steps net_text task_text)) found) }
 {
     let flat = net_of(alloc, models)?;
     let tasks = tasks_on(alloc, steps, &flat, raw)?;
     Ok(Prepared { flat, tasks })
 }
 
-/// What a check with these node steps of each task needs, from its texts; or why there is nothing to check.
+/// What a check with these node steps of each task needs, from its texts; or why there is nothing
+/// to check.
 fn prepare(
     alloc: Global,
     steps: Option<u64>,
@@ -133,7 +138,8 @@ fn prepare(
     ensures { MatchResult result
         (λ made. IsPrepared steps net_text.items task_text.items made.flat.names.own
         made.flat.net.raw made.tasks)
-        (λ found. OrMemory (IsFirst (check_stages steps net_text.items task_text.items)) found) }
+        (λ found. OrMemory (IsFirstRefusal (check_stages steps net_text.items task_text.items))
+        found) }
 {
     let models = models_of(alloc, net_text)?;
     let raw = tasks_of(alloc, task_text)?;
@@ -202,8 +208,9 @@ fn report_on<R: Threads + Sync, G: Gate + Sync>(
     })
 }
 
-/// The report of a check on the texts of a netlist and of a task file, with the steps, workers, cubes and flags of a command. A run shows
-/// the nets that its task names, with `--wave` all nets. The gate is told of each task as a worker begins it.
+/// The report of a check on the texts of a netlist and of a task file, with the steps, workers,
+/// cubes and flags of a command. A run shows the nets that its task names, with `--wave` all nets.
+/// The gate is called for each task as a worker begins it.
 pub fn checked_texts<R: Threads + Sync, G: Gate + Sync>(
     rt: &R,
     alloc: Global,
@@ -218,8 +225,8 @@ pub fn checked_texts<R: Threads + Sync, G: Gate + Sync>(
     ensures { MatchResult result
         (λ checked. IsCheckOver asked.now.steps asked.now.cubes asked.now.wave asked.now.nodes
         net_text.items task_text.items checked.passes checked.text.items checked.nets)
-        (λ found. OrMemory (IsFirst (check_stages asked.now.steps net_text.items task_text.items))
-        found) }
+        (λ found. OrMemory (IsFirstRefusal
+        (check_stages asked.now.steps net_text.items task_text.items)) found) }
 {
     let prepared = prepare(alloc, asked.steps, net_text, task_text)?;
     let each = task_steps(asked.steps, prepared.tasks.tasks.len());
@@ -241,8 +248,8 @@ pub fn check<R: Threads + Sync, G: Gate + Sync>(
     ensures { MatchResult result
         (λ written. IsCheck asked.now.steps asked.now.cubes asked.now.wave asked.now.nodes
         net_text.items task_text.items written.passes written.bytes)
-        (λ found. OrMemory (IsFirst (check_stages asked.now.steps net_text.items task_text.items))
-        found) }
+        (λ found. OrMemory (IsFirstRefusal
+        (check_stages asked.now.steps net_text.items task_text.items)) found) }
 {
     let checked = checked_texts(rt, alloc, asked, net_text, task_text, gate)?;
     Ok(Written {

@@ -4,7 +4,7 @@ ghost use Rattle.blif_syntax.specs.declared.models.Model.{Model};
 ghost use Rattle.net_core.specs.declared.source.Source.{Source};
 ghost use Rattle.ste_program.specs.Info.{IsInfo, count_line, free_below, info_text, is_free};
 ghost use Rattle.ste_program.specs.Netlist.{IsNetlist};
-ghost use Rattle.ste_program.specs.Order.{IsFirst, info_stages};
+ghost use Rattle.ste_program.specs.Order.{IsFirstRefusal, info_stages};
 ghost use Rattle.ste_program.specs.Report.{greatest};
 ghost use Rattle.ste_program.specs.private.Made.{IsNetOf};
 ghost use Rattle.ste_program.specs.private.Texts.{OrMemory};
@@ -75,7 +75,7 @@ fn counts_of(alloc: Global, flat: &FlatNet) -> Result<Written, Refusal>
     ensures { (text : List ℕ) (models : List Model) → IsNetlist text models →
         IsNetOf models flat.now.net.raw flat.now.names → MatchResult result
         (λ report. (report.passes ≡ true) × IsInfo text report.bytes)
-        (λ found. OrMemory (IsFirst (info_stages text)) found) }
+        (λ found. OrMemory (IsFirstRefusal (info_stages text)) found) }
 {
     let bytes = info_text(alloc, flat.names.top().bytes(), &flat.net)?;
     Ok(Written {
@@ -89,7 +89,7 @@ pub fn info(alloc: Global, text: Vec<u8>) -> Result<Written, Refusal>
     requires { length text.items ≤ greatest }
     ensures { MatchResult result
         (λ report. (report.passes ≡ true) × IsInfo text.items report.bytes)
-        (λ found. OrMemory (IsFirst (info_stages text.items)) found) }
+        (λ found. OrMemory (IsFirstRefusal (info_stages text.items)) found) }
 {
     let flat = netlist_of(alloc, text)?;
     counts_of(alloc, &flat)

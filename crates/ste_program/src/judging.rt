@@ -1,12 +1,13 @@
-//! What is told of the tasks of a file; begin with `reports_of`.
+//! The reports of the tasks of a file; begin with `reports_of`.
 
 ghost use Rattle.std.specs.Prelude.{◌≡◌, ◌*◌, ◌^◌, ◌<◌, ◌≤◌, ℕ, All, IfOk, IfSome, Option, is_some, length, map};
 ghost use Rattle.std.specs.List.{AllZip, list_any};
+ghost use Rattle.ste_base.specs.Limits.{most_variables};
 ghost use Rattle.command_line.specs.Bounds.{IsBounded};
 ghost use Rattle.gate_sets.specs.Lists.{rows_of};
 ghost use Rattle.ste_program.specs.Check.{is_pass};
 ghost use Rattle.ste_program.specs.private.Made.{IsCheckable};
-ghost use Rattle.ste_program.specs.private.Tries.{budget_numbers, first_steps, is_budget, most_first_steps, next_steps, says_budget, woven};
+ghost use Rattle.ste_program.specs.private.Tries.{budget_numbers, first_steps, is_budget, most_first_steps, next_steps, says_budget, with_replaced};
 ghost use Rattle.work_pool.specs.Told.{IsSharedCount, IsToldOf};
 
 use command_line::Command;
@@ -26,7 +27,8 @@ const FIRST_STEPS_OF_FEW_NETS: u32 = 20480;
 /// From so many variables on, a task is one over many.
 const MANY_VARIABLES: u32 = 9;
 
-/// The most node steps that are tried first where there are few variables, over which few nodes are made.
+/// The most node steps that are tried first where there are few variables, over which few nodes are
+/// made.
 const FIRST_STEPS_OF_FEW_VARIABLES: u32 = 4096;
 
 /// The least node steps that are tried first, where so many are granted.
@@ -45,7 +47,8 @@ pub fn is_pass(verdict: Verdict) -> bool
     matches!(verdict, Verdict::Pass)
 }
 
-/// The reports of tasks, one for each in their order, and the number of nodes that they share, where it is asked for.
+/// The reports of tasks, one for each in their order, and the number of nodes that they share,
+/// where it is asked for.
 #[derive(Drop)]
 pub struct Reports {
     pub reports: Vec<Report>,
@@ -77,8 +80,9 @@ fn most_first_steps(vars: u32) -> u32
     }
 }
 
-/// The node steps of each of so many tasks that are tried first, where so many are granted: by the number of nets, but no
-/// more than its share of the most for all tasks together, and no more than so many variables want.
+/// The node steps of each of so many tasks that are tried first, where so many are granted: by the
+/// number of nets, but no more than its share of the most for all tasks together, and no more than
+/// the most for so many variables.
 fn first_steps(nets: u32, tasks: u32, vars: u32, steps: u32) -> u32
     requires { (1 ≤ tasks) × (1 ≤ steps) }
     ensures exact { result ≡ first_steps nets tasks vars steps }
@@ -124,10 +128,10 @@ fn budget_numbers(alloc: Global, reports: &[Report]) -> Result<Vec<u32>, AllocEr
 }
 
 /// The reports with new ones in the places of these numbers.
-fn woven(mut reports: Vec<Report>, numbers: &[u32], again: Vec<Report>) -> Vec<Report>
+fn with_replaced(mut reports: Vec<Report>, numbers: &[u32], again: Vec<Report>) -> Vec<Report>
     requires long { length again.items ≡ length numbers.now }
     requires inside { All (λ number. number < length reports.items) numbers.now }
-    ensures { result.items ≡ woven reports.items numbers.now again.items }
+    ensures { result.items ≡ with_replaced reports.items numbers.now again.items }
 {
     let mut place = 0;
     for report in again {
@@ -137,10 +141,29 @@ fn woven(mut reports: Vec<Report>, numbers: &[u32], again: Vec<Report>) -> Vec<R
     reports
 }
 
-/// What is told of tasks, with so many node steps for each.
+/// What is checked, and how: tasks over a net with the rows of its covers, by so many workers, with
+/// so many cubes at most in each list of a report, and with or without the number of shared nodes.
+#[derive(Drop)]
+struct Checking<'a> {
+    net: &'a Net,
+    rows: &'a GateRows,
+    tasks: &'a Tasks,
+    workers: u32,
+    cubes: u32,
+    nodes: bool,
+    ghost of_net: { rows.now.covers ≡ map rows_of net.now.raw.covers },
+    ghost checkable: { All (IsCheckable net.now.raw.nets (length tasks.now.vars))
+        tasks.now.tasks },
+    ghost some: { 1 ≤ length tasks.now.tasks },
+    ghost vars: { length tasks.now.vars ≤ most_variables },
+    ghost bounded: { (1 ≤ workers) × (workers ≤ 64) },
+}
+
+/// The reports of tasks, with so many node steps for each.
 ///
-/// One worker checks them over a store that grows, and so does the caller's thread where there is but one task. More workers
-/// share one table, and so does one where the number of shared nodes is asked for.
+/// One worker checks them over a store that grows, and so does the caller's thread where there is
+/// but one task. More workers share one table, and so does one where the number of shared nodes is
+/// asked for.
 pub fn reports_of<R: Threads + Sync, G: Gate + Sync>(
     rt: &R,
     alloc: Global,
@@ -156,7 +179,7 @@ pub fn reports_of<R: Threads + Sync, G: Gate + Sync>(
     requires checkable { All (IsCheckable net.now.raw.nets (length tasks.now.vars))
         tasks.now.tasks }
     requires some { 1 ≤ length tasks.now.tasks }
-    requires vars { length tasks.now.vars ≤ 1000 }
+    requires vars { length tasks.now.vars ≤ most_variables }
     requires steps { (1 ≤ steps) × (length tasks.now.tasks * steps ≤ 16000000) }
     ensures told { IfOk result (λ told. AllZip
         (IsToldOf net.now.raw (length tasks.now.vars) steps asked.now.cubes) tasks.now.tasks
@@ -166,7 +189,15 @@ pub fn reports_of<R: Threads + Sync, G: Gate + Sync>(
         (length tasks.now.vars) steps tasks.now.tasks told.reports.items)) }
 {
     if asked.nodes || (asked.workers > 1 && tasks.tasks.len() > 1) {
-        return told_in_tries(rt, alloc, asked, net, rows, tasks, steps, gate);
+        let checking = Checking {
+            net,
+            rows,
+            tasks,
+            workers: asked.workers,
+            cubes: asked.cubes,
+            nodes: asked.nodes,
+        };
+        return check_with_growing_steps(rt, alloc, &checking, steps, gate);
     }
     let cubes = asked.cubes;
     let answer = run_alone(alloc, net, rows, tasks, steps, cubes, gate)?;
@@ -176,132 +207,118 @@ pub fn reports_of<R: Threads + Sync, G: Gate + Sync>(
     })
 }
 
-/// What is told of tasks that are checked by the command's workers over one table, with so many node steps for each.
+/// The reports of tasks that are checked by workers over one table, with so many node steps for
+/// each.
 ///
-/// A table takes two words for each step, and to open a large one takes longer than most checks. So few steps are tried
-/// first, and then more, for the tasks alone that said budget, each time over a table of their own. What was told of the
-/// others stands: more steps would tell the same. Where the number of shared nodes is asked for, all tasks are checked
-/// again, since that number is of one table.
-fn told_in_tries<R: Threads + Sync, G: Gate + Sync>(
+/// A table takes two words for each step, and to open a large one takes longer than most checks. So
+/// few steps are tried first, and then more, for the tasks alone that said budget, each time over a
+/// table of their own. The reports of the others stand: with more steps they would be the same.
+/// Where the number of shared nodes is asked for, all tasks are checked again, since that number is
+/// of one table.
+fn check_with_growing_steps<R: Threads + Sync, G: Gate + Sync>(
     rt: &R,
     alloc: Global,
-    asked: &Command<'_>,
-    net: &Net,
-    rows: &GateRows,
-    tasks: &Tasks,
+    checking: &Checking<'_>,
     steps: u32,
     gate: &G,
 ) -> Result<Reports, AllocError>
-    requires bounded { IsBounded asked.now }
-    requires rows { rows.now.covers ≡ map rows_of net.now.raw.covers }
-    requires checkable { All (IsCheckable net.now.raw.nets (length tasks.now.vars))
-        tasks.now.tasks }
-    requires some { 1 ≤ length tasks.now.tasks }
-    requires vars { length tasks.now.vars ≤ 1000 }
-    requires steps { (1 ≤ steps) × (length tasks.now.tasks * steps ≤ 16000000) }
-    ensures told { IfOk result (λ told. AllZip
-        (IsToldOf net.now.raw (length tasks.now.vars) steps asked.now.cubes) tasks.now.tasks
-        told.reports.items) }
-    ensures shown { IfOk result (λ told. is_some told.shared ≡ asked.now.nodes) }
-    ensures counted { IfOk result (λ told. IfSome told.shared (IsSharedCount net.now.raw
-        (length tasks.now.vars) steps tasks.now.tasks told.reports.items)) }
+    requires steps { (1 ≤ steps) × (length checking.now.tasks.now.tasks * steps ≤ 16000000) }
+    ensures told { IfOk result (λ told. AllZip (IsToldOf checking.now.net.now.raw
+        (length checking.now.tasks.now.vars) steps checking.now.cubes)
+        checking.now.tasks.now.tasks told.reports.items) }
+    ensures shown { IfOk result (λ told. is_some told.shared ≡ checking.now.nodes) }
+    ensures counted { IfOk result (λ told. IfSome told.shared
+        (IsSharedCount checking.now.net.now.raw (length checking.now.tasks.now.vars) steps
+        checking.now.tasks.now.tasks told.reports.items)) }
 {
-    let count = tasks.tasks.len() as u32;
-    let mut tried = first_steps(net.nets(), count, tasks.vars.len() as u32, steps);
-    let mut told = told_within(rt, alloc, asked, net, rows, tasks, tried, gate)?;
+    let count = checking.tasks.tasks.len() as u32;
+    let vars = checking.tasks.vars.len() as u32;
+    let mut tried = first_steps(checking.net.nets(), count, vars, steps);
+    let mut told = check_once(rt, alloc, checking, tried, gate)?;
     while tried < steps {
         if !some_budget(&told.reports) {
             return Ok(told);
         }
         let numbers = budget_numbers(alloc, &told.reports)?;
         tried = next_steps(tried, steps);
-        told = told_again(
-            rt, alloc, asked, net, rows, tasks, told, &numbers, tried, gate,
-        )?;
+        told = recheck(rt, alloc, checking, told, &numbers, tried, gate)?;
     }
     Ok(told)
 }
 
-/// What is told of tasks, where those of these numbers said budget and are checked again, with so many node steps for
-/// each; all tasks are, where the number of shared nodes is asked for.
-fn told_again<R: Threads + Sync, G: Gate + Sync>(
+/// The reports of tasks, where those of these numbers said budget and are checked again, with so
+/// many node steps for each; all tasks are, where the number of shared nodes is asked for.
+fn recheck<R: Threads + Sync, G: Gate + Sync>(
     rt: &R,
     alloc: Global,
-    asked: &Command<'_>,
-    net: &Net,
-    rows: &GateRows,
-    tasks: &Tasks,
+    checking: &Checking<'_>,
     told: Reports,
     numbers: &[u32],
     steps: u32,
     gate: &G,
 ) -> Result<Reports, AllocError>
-    requires bounded { IsBounded asked.now }
-    requires rows { rows.now.covers ≡ map rows_of net.now.raw.covers }
-    requires checkable { All (IsCheckable net.now.raw.nets (length tasks.now.vars))
-        tasks.now.tasks }
-    requires vars { length tasks.now.vars ≤ 1000 }
-    requires long { length told.reports.items ≡ length tasks.now.tasks }
+    requires long { length told.reports.items ≡ length checking.now.tasks.now.tasks }
     requires numbers { numbers.now ≡ budget_numbers told.reports.items }
     requires some { 1 ≤ length numbers.now }
-    requires steps { (1 ≤ steps) × (length tasks.now.tasks * steps ≤ 16000000) }
-    ensures told { (few : ℕ) → AllZip
-        (IsToldOf net.now.raw (length tasks.now.vars) few asked.now.cubes) tasks.now.tasks
-        told.reports.items → IfOk result (λ again. AllZip
-        (IsToldOf net.now.raw (length tasks.now.vars) steps asked.now.cubes) tasks.now.tasks
-        again.reports.items) }
-    ensures shown { IfOk result (λ again. is_some again.shared ≡ asked.now.nodes) }
-    ensures counted { IfOk result (λ again. IfSome again.shared (IsSharedCount net.now.raw
-        (length tasks.now.vars) steps tasks.now.tasks again.reports.items)) }
+    requires steps { (1 ≤ steps) × (length checking.now.tasks.now.tasks * steps ≤ 16000000) }
+    ensures told { (few : ℕ) → AllZip (IsToldOf checking.now.net.now.raw
+        (length checking.now.tasks.now.vars) few checking.now.cubes)
+        checking.now.tasks.now.tasks told.reports.items →
+        IfOk result (λ again. AllZip (IsToldOf checking.now.net.now.raw
+        (length checking.now.tasks.now.vars) steps checking.now.cubes)
+        checking.now.tasks.now.tasks again.reports.items) }
+    ensures shown { IfOk result (λ again. is_some again.shared ≡ checking.now.nodes) }
+    ensures counted { IfOk result (λ again. IfSome again.shared
+        (IsSharedCount checking.now.net.now.raw (length checking.now.tasks.now.vars) steps
+        checking.now.tasks.now.tasks again.reports.items)) }
 {
-    if asked.nodes {
-        return told_within(rt, alloc, asked, net, rows, tasks, steps, gate);
+    if checking.nodes {
+        return check_once(rt, alloc, checking, steps, gate);
     }
-    let workers = asked.workers;
-    let cubes = asked.cubes;
     let again = run_some(
-        rt, alloc, workers, net, rows, tasks, numbers, steps, cubes, gate,
+        rt,
+        alloc,
+        checking.workers,
+        checking.net,
+        checking.rows,
+        checking.tasks,
+        numbers,
+        steps,
+        checking.cubes,
+        gate,
     )?;
     Ok(Reports {
-        reports: woven(told.reports, numbers, again.reports),
+        reports: with_replaced(told.reports, numbers, again.reports),
         shared: None,
     })
 }
 
-/// What is told of tasks that are checked once, with so many node steps for each.
-fn told_within<R: Threads + Sync, G: Gate + Sync>(
+/// The reports of tasks that are checked once, with so many node steps for each.
+fn check_once<R: Threads + Sync, G: Gate + Sync>(
     rt: &R,
     alloc: Global,
-    asked: &Command<'_>,
-    net: &Net,
-    rows: &GateRows,
-    tasks: &Tasks,
+    checking: &Checking<'_>,
     steps: u32,
     gate: &G,
 ) -> Result<Reports, AllocError>
-    requires bounded { IsBounded asked.now }
-    requires rows { rows.now.covers ≡ map rows_of net.now.raw.covers }
-    requires checkable { All (IsCheckable net.now.raw.nets (length tasks.now.vars))
-        tasks.now.tasks }
-    requires some { 1 ≤ length tasks.now.tasks }
-    requires vars { length tasks.now.vars ≤ 1000 }
-    requires steps { (1 ≤ steps) × (length tasks.now.tasks * steps ≤ 16000000) }
-    ensures told { IfOk result (λ told. AllZip
-        (IsToldOf net.now.raw (length tasks.now.vars) steps asked.now.cubes) tasks.now.tasks
-        told.reports.items) }
-    ensures shown { IfOk result (λ told. is_some told.shared ≡ asked.now.nodes) }
-    ensures counted { IfOk result (λ told. IfSome told.shared (IsSharedCount net.now.raw
-        (length tasks.now.vars) steps tasks.now.tasks told.reports.items)) }
+    requires steps { (1 ≤ steps) × (length checking.now.tasks.now.tasks * steps ≤ 16000000) }
+    ensures told { IfOk result (λ told. AllZip (IsToldOf checking.now.net.now.raw
+        (length checking.now.tasks.now.vars) steps checking.now.cubes)
+        checking.now.tasks.now.tasks told.reports.items) }
+    ensures shown { IfOk result (λ told. is_some told.shared ≡ checking.now.nodes) }
+    ensures counted { IfOk result (λ told. IfSome told.shared
+        (IsSharedCount checking.now.net.now.raw (length checking.now.tasks.now.vars) steps
+        checking.now.tasks.now.tasks told.reports.items)) }
 {
     let answer = run_tasks(
         rt,
         alloc,
-        asked.workers,
-        net,
-        rows,
-        tasks,
+        checking.workers,
+        checking.net,
+        checking.rows,
+        checking.tasks,
         steps,
-        asked.cubes,
+        checking.cubes,
         gate,
     )?;
     let PoolAnswer {
@@ -309,7 +326,7 @@ fn told_within<R: Threads + Sync, G: Gate + Sync>(
         table,
         session,
     } = answer;
-    let shared = if asked.nodes {
+    let shared = if checking.nodes {
         Some(table.close(session))
     } else {
         None

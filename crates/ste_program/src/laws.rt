@@ -2,7 +2,8 @@
 ghost use Rattle.ste_program.specs.Order.{OneRefusal, ReportedIsNotRefused};
 ghost use Rattle.ste_program.specs.Reading.{OneReading};
 
-/// Two texts have one reading at most, but for the numbers of covers and where expressions lie in memory.
+/// Two texts have one reading at most, but for the numbers of covers and where expressions lie in
+/// memory.
 pub fn one_reading()
     ensures { OneReading }
 {}

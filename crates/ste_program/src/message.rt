@@ -1,4 +1,4 @@
-//! The one line that tells of a refusal: `message_of`.
+//! The one line that reports a refusal: `message_of`.
 ghost use Rattle.std.specs.Prelude.{◌≡◌, ◌++◌, codes, IfOk};
 ghost use Rattle.ste_program.specs.Message.{binding_message, file_message, hierarchy_message, inputs_message, line_message, message_of, netlist_message, out_of_memory, tasks_message, usage};
 
@@ -55,7 +55,7 @@ fn on_word(
     on_line(alloc, name, line, &whole)
 }
 
-/// The message on want of memory.
+/// The message that memory is out.
 fn out_of_memory(alloc: Global) -> Result<Items<u8>, AllocError>
     ensures { IfOk result (λ message. message ≡ out_of_memory) }
 {

@@ -3,7 +3,7 @@ ghost use Rattle.std.specs.Prelude.{◌≤◌, List, MatchResult, length};
 ghost use Rattle.blif_syntax.specs.declared.models.Model.{Model};
 ghost use Rattle.blif_syntax.specs.Covered.{AreCovered};
 ghost use Rattle.ste_program.specs.Netlist.{IsNetlist};
-ghost use Rattle.ste_program.specs.Order.{IsFirst, info_stages, is_faulty};
+ghost use Rattle.ste_program.specs.Order.{IsFirstRefusal, info_stages, is_faulty};
 ghost use Rattle.ste_program.specs.Report.{greatest};
 ghost use Rattle.ste_program.specs.private.Made.{HasNoNet, IsNetOf};
 ghost use Rattle.ste_program.specs.private.Texts.{OrMemory};
@@ -16,7 +16,7 @@ use net_core::{Net, OrderFault, order};
 use net_names::NetNames;
 use std::alloc::Global;
 
-/// The models that the text of a netlist spells. The text is let go once its lines are there.
+/// The models that the text of a netlist spells. The text is dropped once its lines are there.
 pub fn models_of(alloc: Global, text: Vec<u8>) -> Result<Models, Refusal>
     requires { length text.items ≤ greatest }
     ensures { MatchResult result
@@ -35,7 +35,7 @@ pub struct FlatNet {
     pub names: NetNames,
 }
 
-/// The flat net of a netlist. The models are let go once it is there.
+/// The flat net of a netlist. The models are dropped once it is there.
 pub fn net_of(alloc: Global, models: Models) -> Result<FlatNet, Refusal>
     requires { AreCovered models.models }
     ensures { MatchResult result
@@ -57,7 +57,7 @@ pub fn netlist_of(alloc: Global, text: Vec<u8>) -> Result<FlatNet, Refusal>
     ensures { MatchResult result
         (λ flat. (models : List Model) × IsNetlist text.items models
         × IsNetOf models flat.net.raw flat.names)
-        (λ found. OrMemory (IsFirst (info_stages text.items)) found) }
+        (λ found. OrMemory (IsFirstRefusal (info_stages text.items)) found) }
 {
     let models = models_of(alloc, text)?;
     net_of(alloc, models)

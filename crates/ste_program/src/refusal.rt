@@ -20,8 +20,8 @@ pub enum File {
     Second,
 }
 
-/// Why there is no report. Each refusal has one line on the error sink. The faults that are carried are never want of memory,
-/// which is `OutOfMemory`.
+/// Why there is no report. Each refusal has one line on the error sink. The faults that are carried
+/// never say that memory is out, which is `OutOfMemory`.
 #[derive(Drop)]
 pub enum Refusal {
     /// The words are no command.

@@ -2,7 +2,7 @@
 ghost use Rattle.std.specs.Prelude.{◌≤◌, IfSome, MatchResult, length};
 ghost use Rattle.command_line.specs.Bounds.{IsBounded};
 ghost use Rattle.ste_program.specs.Answer.{WhyNoReport};
-ghost use Rattle.ste_program.specs.Order.{IsFirst, text_stages};
+ghost use Rattle.ste_program.specs.Order.{IsFirstRefusal, text_stages};
 ghost use Rattle.ste_program.specs.Report.{IsWritten, greatest};
 ghost use Rattle.ste_program.specs.private.Made.{IsMade};
 ghost use Rattle.ste_program.specs.private.Texts.{OrMemory};
@@ -41,7 +41,7 @@ fn on_texts<R: Threads + Sync, G: Gate + Sync>(
     ensures { MatchResult result
         (λ written. IsWritten command.now.action command.now
         texts.net.items texts.second.items written.passes written.bytes)
-        (λ found. OrMemory (IsFirst (text_stages command.now.action command.now.steps
+        (λ found. OrMemory (IsFirstRefusal (text_stages command.now.action command.now.steps
         texts.net.items texts.second.items)) found) }
 {
     let Texts { net, second } = texts;

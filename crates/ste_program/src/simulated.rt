@@ -4,9 +4,9 @@ ghost use Rattle.blif_syntax.specs.declared.models.Model.{Model};
 ghost use Rattle.clock_step.specs.Order.{is_undriven};
 ghost use Rattle.clock_step.specs.Simulation.{AreOutputs};
 ghost use Rattle.ste_program.specs.Netlist.{IsNetlist};
-ghost use Rattle.ste_program.specs.Order.{IsFirst, sim_stages};
+ghost use Rattle.ste_program.specs.Order.{IsFirstRefusal, sim_stages};
 ghost use Rattle.ste_program.specs.Report.{greatest};
-ghost use Rattle.ste_program.specs.Simulated.{IsSimulated, name_part, row_line, sim_text};
+ghost use Rattle.ste_program.specs.Simulated.{IsSimulated, name_part, outputs_line, sim_text};
 ghost use Rattle.ste_program.specs.private.Made.{IsNetOf};
 ghost use Rattle.ste_program.specs.private.Simulated.{AreGiven, AreNotGiven, own_names};
 ghost use Rattle.ste_program.specs.private.Texts.{OrMemory};
@@ -21,7 +21,7 @@ use report_text::put_codes;
 use std::alloc::{AllocError, Global};
 use ste_base::{Items, NodeId};
 
-/// The inputs that the text of an input file spells. The text is let go once its lines are there.
+/// The inputs that the text of an input file spells. The text is dropped once its lines are there.
 fn inputs_of(alloc: Global, flat: &FlatNet, text: Vec<u8>) -> Result<Inputs, Refusal>
     requires { length text.items ≤ greatest }
     ensures { MatchResult result
@@ -35,7 +35,7 @@ fn inputs_of(alloc: Global, flat: &FlatNet, text: Vec<u8>) -> Result<Inputs, Ref
 
 /// Puts the line of one time behind a text.
 fn put_row(text: &mut Vec<u8>, row: &[bool]) -> Result<(), AllocError>
-    ensures { IfOk result (λ _. text.new.items ≡ text.old.items ++ row_line row.now) }
+    ensures { IfOk result (λ _. text.new.items ≡ text.old.items ++ outputs_line row.now) }
 {
     put_codes(text, row)?;
     text.push(b'\n')?;
@@ -93,7 +93,7 @@ fn outputs_of(alloc: Global, flat: &FlatNet, input_text: Vec<u8>) -> Result<Writ
     ensures { (net_text : List ℕ) (models : List Model) → IsNetlist net_text models →
         IsNetOf models flat.now.net.raw flat.now.names → MatchResult result
         (λ report. (report.passes ≡ true) × IsSimulated net_text input_text.items report.bytes)
-        (λ found. OrMemory (IsFirst (sim_stages net_text input_text.items)) found) }
+        (λ found. OrMemory (IsFirstRefusal (sim_stages net_text input_text.items)) found) }
 {
     let inputs = inputs_of(alloc, flat, input_text)?;
     let bytes = text_of(alloc, flat, inputs)?;
@@ -110,7 +110,7 @@ pub fn simulated(alloc: Global, net_text: Vec<u8>, input_text: Vec<u8>) -> Resul
     ensures { MatchResult result
         (λ report. (report.passes ≡ true)
         × IsSimulated net_text.items input_text.items report.bytes)
-        (λ found. OrMemory (IsFirst (sim_stages net_text.items input_text.items)) found) }
+        (λ found. OrMemory (IsFirstRefusal (sim_stages net_text.items input_text.items)) found) }
 {
     let flat = netlist_of(alloc, net_text)?;
     outputs_of(alloc, &flat, input_text)

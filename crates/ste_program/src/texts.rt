@@ -1,7 +1,7 @@
 //! The texts of a command: `texts_of` fetches its files, in order.
 ghost use Rattle.std.specs.Prelude.{MatchResult, Some, option_map};
 ghost use Rattle.ste_program.specs.Answer.{WhyNoReport};
-ghost use Rattle.ste_program.specs.private.Texts.{AreTexts, FileFails, IsAtHand, WhyNoFile};
+ghost use Rattle.ste_program.specs.private.Texts.{AreTexts, FileFails, IsAvailable, WhyNoFile};
 
 use crate::command::file_of;
 use crate::refusal::{File, Refusal};
@@ -12,7 +12,8 @@ use ste_io::{FetchFault, Files};
 /// The greatest size of a file, in bytes.
 const GREATEST: u64 = 67_108_864;
 
-/// The texts of a command: the netlist's, and that of its second file, or nothing where it has none.
+/// The texts of a command: the netlist's, and that of its second file, or nothing where it has
+/// none.
 #[derive(Drop)]
 pub struct Texts {
     pub net: Vec<u8>,
@@ -27,7 +28,7 @@ fn fetch<F: Files>(
     name: &str,
 ) -> Result<Vec<u8>, Refusal>
     ensures { MatchResult result
-        (λ bytes. IsAtHand (Some name.now) (F.state files.old) (F.state files.new) bytes.items)
+        (λ bytes. IsAvailable (Some name.now) (F.state files.old) (F.state files.new) bytes.items)
         (λ found. FileFails which name.now (F.state files.old) (F.state files.new) found) }
 {
     match files.fetch(alloc, name, GREATEST) {
@@ -46,8 +47,8 @@ fn text_of<F: Files>(
     name: Option<&str>,
 ) -> Result<Vec<u8>, Refusal>
     ensures { MatchResult result
-        (λ bytes. IsAtHand (option_map (λ n. n.now) name.entry) (F.state files.old) (F.state files.new)
-        bytes.items)
+        (λ bytes. IsAvailable (option_map (λ n. n.now) name.entry)
+        (F.state files.old) (F.state files.new) bytes.items)
         (λ found. WhyNoFile which (option_map (λ n. n.now) name.entry)
         (F.state files.old) (F.state files.new) found) }
 {

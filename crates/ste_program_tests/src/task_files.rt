@@ -97,11 +97,11 @@ fn task_files_that_are_refused(rt: HostRuntime) -> Result<(), Fail> {
             "stework: t:4: bad line\n",
         ),
         (
-            ".ste w\n.con y = 0 from 0 to 10001\n.end\n",
+            ".ste w\n.con y = 0 from 0 to 100001\n.end\n",
             "stework: t:2: too many\n",
         ),
         (
-            ".ste w\n.con y = 0 from 10002 to 10001\n.end\n",
+            ".ste w\n.con y = 0 from 100002 to 100001\n.end\n",
             "stework: t:2: too many\n",
         ),
         (
@@ -138,7 +138,7 @@ fn weakenings_that_are_refused(rt: HostRuntime) -> Result<(), Fail> {
             "stework: t:2: bad line\n",
         ),
         (
-            ".ste w\n.weak y from 0 to 10001\n.end\n",
+            ".ste w\n.weak y from 0 to 100001\n.end\n",
             "stework: t:2: too many\n",
         ),
         (

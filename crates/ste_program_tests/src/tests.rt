@@ -161,7 +161,8 @@ fn examples_of_gates_and_latches(rt: HostRuntime) -> Result<(), Fail> {
 
 const FROM_ONE: &str = ".model l\n.inputs d\n.outputs q\n.latch d q 1\n.end\n";
 
-/// A weakened net has both bits before what is asked of it: at the times that a line gives, on its edge in a graph.
+/// A weakened net has both bits before what is asked of it: at the times that a line gives, on its
+/// edge in a graph.
 #[test]
 fn weakened_nets(rt: HostRuntime) -> Result<(), Fail> {
     let alloc = rt.alloc();
@@ -296,7 +297,7 @@ fn netlists_of_every_form(rt: HostRuntime) -> Result<(), Fail> {
     Ok(())
 }
 
-/// The set of net `y` as the verdict on `y = 1` tells it, on a fixture of that task: 1, 0 or X.
+/// The set of net `y` as the verdict on `y = 1` shows it, on a fixture of that task: 1, 0 or X.
 fn set_on(rt: &(impl Abort + Threads + Sync), alloc: Global, fixture: &mut Fixture) -> u8 {
     let _ = run_on(rt, alloc, fixture, &NoGate);
     if fixture.out() == "t: pass\n".as_bytes() {
@@ -348,7 +349,8 @@ fn given(alloc: Global, inputs: &[&str], values: &[u8]) -> Result<String, AllocE
     Ok(lines)
 }
 
-/// Compares the sets of net `y` with a table that was made by hand: the values of the inputs, and the set.
+/// Compares the sets of net `y` with a table that was made by hand: the values of the inputs, and
+/// the set.
 fn compare_sets(
     rt: &(impl Abort + Threads + Sync),
     alloc: Global,
@@ -446,8 +448,8 @@ const CANNOT_WRITE_TWICE: &str =
 /// An answer, and what the output and the error sink have taken by then.
 type Ending<'a> = (Status, &'a str, &'a str);
 
-/// What fails of a check, the output's room, how the check ends, and how one more ends on the same files and sinks. The
-/// sinks take four bytes at a write.
+/// What fails of a check, the output's room, how the check ends, and how one more ends on the same
+/// files and sinks. The sinks take four bytes at a write.
 const FAILING: &[(&Failing<'static>, usize, Ending<'static>, Ending<'static>)] = &[
     (
         &(&[1], &[], &[]),

@@ -1,4 +1,5 @@
--- For private functions. The nets that are made: two covers, and gates that each drive the next net from nets before it.
+-- For private functions. The nets that are made: two covers, and gates that each drive the next net
+-- from nets before it.
 use Rattle.std.specs.Prelude.{◌≡◌, ◌∷◌, [], List, ℕ, ◌+◌, ◌<◌, All, length, true, slice_index_or}
 use Rattle.net_core.specs.declared.cover.Cover.{Cover}
 use Rattle.net_core.specs.declared.cover.Lit.{Lit}
@@ -18,7 +19,8 @@ xor_cover = record { inputs = 2; on = true; rows = row_of One Zero ∷ row_of Ze
 abbrev pub covers_of : List Cover
 covers_of = and_cover ∷ xor_cover ∷ []
 
--- the gate of this number drives the net behind 8 free nets and so many gates, from two nets before it
+-- the gate of this number drives the net behind 8 free nets and so many gates, from two nets before
+-- it
 pub record IsGate (n : ℕ) (g : Gate) : Type 0 where
   pub output : g.output.0 ≡ n + 8
   pub inputs : All (λ input. input.0 < n + 8) g.inputs

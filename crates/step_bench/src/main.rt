@@ -1,7 +1,8 @@
 //! The program `step_bench`: times the step of a net of two-input gates, over the plain store.
-//! `step_bench MIX GATES VARS STEPS`, where MIX is `and` or `mixed`, prints the nets and the nodes made, and to
-//! the error output the time of a first step, that of a step among so many more, and that of a step of which nothing
-//! has changed since the step before. VARS, at most 8, is how many of the free nets have a variable.
+//! `step_bench MIX GATES VARS STEPS`, where MIX is `and` or `mixed`, prints the nets and the nodes
+//! made, and to the error output the time of a first step, that of a step among so many more, and
+//! that of a step of which nothing has changed since the step before. VARS, at most 8, is how many
+//! of the free nets have a variable.
 #![tactic(auto)]
 
 mod nets;
@@ -95,7 +96,8 @@ fn kept_steps<N: Nodes>(
     Ok(())
 }
 
-/// What was measured: nodes made, and nanoseconds of the first step, of the others, and of those with what was kept.
+/// What was measured: nodes made, and nanoseconds of the first step, of the others, and of those
+/// with what was kept.
 #[derive(Clone, Copy, Drop)]
 struct Figures {
     used: u32,
@@ -108,7 +110,7 @@ fn nanos(rt: &HostRuntime, start: Instant) -> io::Result<u64> {
     Ok(u64::try_from(start.elapsed(rt)?.as_nanos()).unwrap_or(u64::MAX))
 }
 
-/// What is measured with these cuts; none where memory or nodes were wanting.
+/// What is measured with these cuts; none where it was out of memory or nodes.
 fn timed<N: Nodes>(
     rt: &HostRuntime,
     alloc: Global,
@@ -146,7 +148,7 @@ fn timed<N: Nodes>(
     }))
 }
 
-/// What is measured over a store; none where memory or nodes were wanting.
+/// What is measured over a store; none where it was out of memory or nodes.
 fn figures_over<N: Nodes>(
     rt: &HostRuntime,
     alloc: Global,
@@ -169,7 +171,7 @@ fn figures_over<N: Nodes>(
     timed(rt, alloc, &ops, nodes, net, rows, &cuts, count)
 }
 
-/// What is measured of a net; none where memory or nodes were wanting.
+/// What is measured of a net; none where it was out of memory or nodes.
 fn measure_net(
     rt: &HostRuntime,
     alloc: Global,
@@ -191,7 +193,7 @@ fn measure_net(
     figures_over(rt, alloc, &mut nodes, net, &rows, vars, count)
 }
 
-/// What is measured of a net of so many gates; none where memory or nodes were wanting.
+/// What is measured of a net of so many gates; none where it was out of memory or nodes.
 fn measure(
     rt: &HostRuntime,
     alloc: Global,

@@ -1,5 +1,5 @@
-//! The program `stework`: makes the files, the output and the error sink of the host, hands them to the top call, and
-//! ends with its status.
+//! The program `stework`: makes the files, the output and the error sink of the host, hands them to
+//! the top call, and ends with its status.
 #![tactic(auto)]
 
 use std::alloc::AllocError;

@@ -15,8 +15,8 @@ fn makes_a_node_once_and_no_more_than_the_limit(rt: HostRuntime) -> Result<(), F
     Ok(())
 }
 
-/// Whether an empty store of three variables that may make one node finds, begun anew, the node that it holds, and makes
-/// one more; and so once more.
+/// Whether an empty store of three variables that may make one node finds, begun anew, the node
+/// that it holds, and makes one more; and so once more.
 fn begins_again(nodes: &mut GrowingNodes) -> bool
     requires { (⟦<GrowingNodes as Nodes>⟧.store nodes.old).vars ≡ 3 }
 {

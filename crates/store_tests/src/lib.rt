@@ -1,5 +1,5 @@
-//! Tests of the stores of nodes: the plain one, the one that grows, and the table that threads share. Nothing else is here,
-//! so that each crate below is proved once.
+//! Tests of the stores of nodes: the plain one, the one that grows, and the table that threads
+//! share. Nothing else is here, so that each crate below is proved once.
 #![tactic(auto)]
 
 #[cfg(test)]

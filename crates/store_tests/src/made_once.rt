@@ -16,7 +16,8 @@ pub fn variable<N: Nodes>(nodes: &mut N, var: u32) -> Result<Ref, MkFault>
     nodes.mk(var, Ref::FALSE, Ref::TRUE)
 }
 
-/// Whether an empty store of two variables that may make one node makes the node of a variable once, and no more.
+/// Whether an empty store of two variables that may make one node makes the node of a variable
+/// once, and no more.
 pub fn is_made_once<N: Nodes>(nodes: &mut N) -> bool
     requires { (N.store nodes.old).vars ≡ 2 }
     ensures { (N.store nodes.new).table ≡ (N.store nodes.old).table }

@@ -1,4 +1,5 @@
-//! Tests over real tables: the plain store's own, sessions that are split and joined, operations, threads, a full table.
+//! Tests over real tables: the plain store's own, sessions that are split and joined, operations,
+//! threads, a full table.
 
 ghost use Rattle.std.specs.Prelude.{◌≡◌, [], IfOk};
 ghost use Rattle.dd_nodes.specs.Stores.{IsRef};
@@ -20,7 +21,8 @@ fn makes_a_node_once_and_no_more_than_the_limit(rt: HostRuntime) -> Result<(), F
     Ok(())
 }
 
-/// Whether a store that is cut from another finds what that one made, and hands on what it makes itself.
+/// Whether a store that is cut from another finds what that one made, and hands on what it makes
+/// itself.
 fn finds_and_hands_on<N: Split>(nodes: &mut N) -> bool
     requires vars { (N.store nodes.old).vars ≡ 3 }
     requires made { (N.store nodes.old).made ≡ [] }
@@ -197,7 +199,8 @@ fn two_threads<N: Nodes + Send, R: Threads + Sync>(rt: &R, a: &mut Job<N>, b: &m
     join_mut(rt, &mut || make_all(a), &mut || make_all(b));
 }
 
-/// Makes the nodes of all variables on four threads, and says whether all were given the same references.
+/// Makes the nodes of all variables on four threads, and says whether all were given the same
+/// references.
 fn four_threads<N: Split + Send, R: Threads + Sync>(rt: &R, mut nodes: N) -> (N, bool)
     requires made { (N.store nodes).made ≡ [] }
     requires limit { (N.store nodes).limit ≡ 4000 }
@@ -269,5 +272,33 @@ fn a_full_half_finds_what_is_there_and_refuses_the_rest(rt: HostRuntime) -> Resu
     drop(nodes);
     let session = other.into_session();
     assert_eq!(rt; table.close(session), 32);
+    Ok(())
+}
+
+/// Whether a store of 4,000 variables has, for its last variable and for the first one over it, just
+/// the nodes that were made.
+fn reads_back_the_last_variable<N: Nodes>(nodes: &mut N) -> bool
+    requires { (N.store nodes.old).vars ≡ 4000 }
+    ensures { (N.store nodes.new).table ≡ (N.store nodes.old).table }
+{
+    let Ok(last) = variable(nodes, 3999) else {
+        return false;
+    };
+    let held = nodes.node(last);
+    let Ok(first) = nodes.mk(0, Ref::FALSE, last) else {
+        return false;
+    };
+    let above = nodes.node(first);
+    (held.var, held.lo, held.hi) == (3999, Ref::FALSE, Ref::TRUE)
+        && (above.var, above.lo, above.hi) == (0, Ref::FALSE, last)
+}
+
+#[test]
+fn the_last_of_4000_variables_is_made_and_read_back(rt: HostRuntime) -> Result<(), Fail> {
+    let (table, session) = SharedTable::open(rt.alloc(), 4000, 64)?;
+    let mut nodes = TableNodes::on(&table, session);
+    assert!(rt; reads_back_the_last_variable(&mut nodes));
+    let session = nodes.into_session();
+    assert_eq!(rt; table.close(session), 2);
     Ok(())
 }

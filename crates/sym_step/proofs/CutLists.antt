@@ -12,7 +12,7 @@ use Rattle.std.specs.Prelude.{◌||◌, ◌==◌}
 use Rattle.std.proofs.lemmas.List.{get_or-map, get_or-set_same, get_or-set_other, get_or_past, length-map, length-set}
 use Rattle.ste_base.specs.declared.id.NodeId.{NodeId}
 use Rattle.sym_step.specs.declared.cut.Cut.{Cut}
-use Rattle.sym_step.specs.private.Demands.{AreDemands, AreLinked, IsNearest, no_cut, node_at, nodes_of, told_place}
+use Rattle.sym_step.specs.private.Demands.{AreDemands, AreLinked, IsNearest, no_cut, node_at, nodes_of, place_of_cut}
 use Rattle.sym_step.specs.Frame.{is_listed}
 use Rattle.sym_step.proofs.Framing.{listed_at}
 use Rattle.sym_step.proofs.Listed.{listed_or}
@@ -34,7 +34,7 @@ begin cuts marks first next i e wide long none = record {
   nexts = λ k le lt. absurd (omega (arith, e, le, lt));
 }
   where
-    told : (id : ℕ) (b : Bool) → get_or marks id false ≡ b → told_place b (get_or first id 0) (length cuts) ≡ length cuts
+    told : (id : ℕ) (b : Bool) → get_or marks id false ≡ b → place_of_cut b (get_or first id 0) (length cuts) ≡ length cuts
     told id true f = none id f
     told id false f = refl
 
@@ -60,10 +60,10 @@ one_more cuts id k i p e ne n = record {
 
 -- one cut more in front
 pub turn : (cuts : List Cut) (marks : List Bool) (first next : List ℕ) (k i id : ℕ) → i ≡ k + 1 → k < length cuts → id ≡ node_at cuts k → id < length marks → AreLinked cuts i marks first next
-    → AreLinked cuts k (set marks id true) (set first id k) (set next k (told_place (get_or marks id false) (get_or first id 0) (length cuts)))
+    → AreLinked cuts k (set marks id true) (set first id k) (set next k (place_of_cut (get_or marks id false) (get_or first id 0) (length cuts)))
 turn cuts marks first next k i id e lt is inside l = record {
   wide = let wide = l.wide in let a = length-set marks id true in let b = length-set first id k in omega (arith, wide, a, b);
-  long = let long = l.long in let a = length-set next k (told_place (get_or marks id false) (get_or first id 0) (length cuts)) in omega (arith, long, a);
+  long = let long = l.long in let a = length-set next k (place_of_cut (get_or marks id false) (get_or first id 0) (length cuts)) in omega (arith, long, a);
   firsts = λ other. dite (ℕ_discrete other id)
       (λ same. firsts_own other same)
       (λ apart. firsts_other other apart);
@@ -73,20 +73,20 @@ turn cuts marks first next k i id e lt is inside l = record {
 }
   where
     place : ℕ
-    place = told_place (get_or marks id false) (get_or first id 0) (length cuts)
+    place = place_of_cut (get_or marks id false) (get_or first id 0) (length cuts)
 
-    firsts_own : (other : ℕ) → other ≡ id → IsNearest cuts other k (told_place (get_or (set marks id true) other false) (get_or (set first id k) other 0) (length cuts))
+    firsts_own : (other : ℕ) → other ≡ id → IsNearest cuts other k (place_of_cut (get_or (set marks id true) other false) (get_or (set first id k) other 0) (length cuts))
     firsts_own other same =
         let marked : get_or (set marks id true) other false ≡ true = ap (λ (n : ℕ). get_or (set marks id true) n false) same ∙ get_or-set_same marks id true false inside in
         let own : get_or (set first id k) other 0 ≡ k = ap (λ (n : ℕ). get_or (set first id k) n 0) same ∙ get_or-set_same first id k 0 (let wide = l.wide in omega (arith, inside, wide)) in
-        subst (λ (b : Bool). IsNearest cuts other k (told_place b (get_or (set first id k) other 0) (length cuts))) (sym marked)
+        subst (λ (b : Bool). IsNearest cuts other k (place_of_cut b (get_or (set first id k) other 0) (length cuts))) (sym marked)
         (subst (λ (p : ℕ). IsNearest cuts other k p) (sym own)
         (subst (λ (n : ℕ). IsNearest cuts n k k) (sym is ∙ sym same) (here_is cuts k lt)))
 
-    firsts_other : (other : ℕ) → other ≢ id → IsNearest cuts other k (told_place (get_or (set marks id true) other false) (get_or (set first id k) other 0) (length cuts))
+    firsts_other : (other : ℕ) → other ≢ id → IsNearest cuts other k (place_of_cut (get_or (set marks id true) other false) (get_or (set first id k) other 0) (length cuts))
     firsts_other other apart =
-        subst (λ (b : Bool). IsNearest cuts other k (told_place b (get_or (set first id k) other 0) (length cuts))) (sym (get_or-set_other marks id other true false apart))
-        (subst (λ (p : ℕ). IsNearest cuts other k (told_place (get_or marks other false) p (length cuts))) (sym (get_or-set_other first id other k 0 apart))
+        subst (λ (b : Bool). IsNearest cuts other k (place_of_cut b (get_or (set first id k) other 0) (length cuts))) (sym (get_or-set_other marks id other true false apart))
+        (subst (λ (p : ℕ). IsNearest cuts other k (place_of_cut (get_or marks other false) p (length cuts))) (sym (get_or-set_other first id other k 0 apart))
         (one_more cuts other k i _ e (λ same. apart (sym same ∙ sym is)) (l.firsts other)))
 
     nexts_here : (j : ℕ) → j ≡ k → IsNearest cuts (node_at cuts j) (j + 1) (get_or (set next k place) j 0)
@@ -111,7 +111,7 @@ none_cut cuts flags first next l id none = by (is_listed (map (λ (c : Cut). c.n
         let at = listed_at (map (λ (c : Cut). c.node) cuts) id e in
         let inside : at.0 < length cuts = omega (arith, at.1, length-map cuts (λ (c : Cut). c.node)) in
         let same : node_at cuts at.0 ≡ id = sym (ap (λ (n : NodeId). n.0) (get_or-map (λ (c : Cut). c.node) cuts at.0 no_cut node inside)) ∙ at.2 node in
-        let near = subst (λ (b : Bool). IsNearest cuts id 0 (told_place b (get_or first id 0) (length cuts))) none (l.firsts id) in
+        let near = subst (λ (b : Bool). IsNearest cuts id 0 (place_of_cut b (get_or first id 0) (length cuts))) none (l.firsts id) in
         absurd (near.absent at.0 (omega arith) inside same)
 
 -- nothing is asked of a net without a flag
@@ -128,7 +128,7 @@ cuts_inside cuts flags first next l k d lt = elim (cases_lt id (length flags)) [
   | inr over ↦
       let within : k < length cuts = omega (arith, lt, length-map cuts (λ (c : Cut). c.node)) in
       let same : node_at cuts k ≡ id = sym (ap (λ (n : NodeId). n.0) (get_or-map (λ (c : Cut). c.node) cuts k no_cut d within)) in
-      let near = subst (λ (b : Bool). IsNearest cuts id 0 (told_place b (get_or first id 0) (length cuts))) (get_or_past flags id false over) (l.firsts id) in
+      let near = subst (λ (b : Bool). IsNearest cuts id 0 (place_of_cut b (get_or first id 0) (length cuts))) (get_or_past flags id false over) (l.firsts id) in
       absurd (near.absent k (omega arith) within same)
 ]
   where

@@ -10,7 +10,7 @@ use Rattle.std.proofs.lemmas.List.Elements.{All-cons, All-head, All-nil, All-tai
 use Rattle.std.proofs.lemmas.List.Folds.{Any-from_list_any}
 use Rattle.ste_base.specs.declared.id.NodeId.{NodeId}
 use Rattle.dd_nodes.specs.declared.node.Ref.{Ref}
-use Rattle.dd_nodes.specs.Diagram.{Function}
+use Rattle.ste_base.specs.Functions.{Function}
 use Rattle.dd_nodes.specs.Stores.{Store, IsRef, Keeps, Means}
 use Rattle.dd_nodes.proofs.Stores.{IsGood, function-keeps}
 use Rattle.dual_rail.specs.declared.rails.Rails.{Rails}
@@ -23,7 +23,7 @@ use Rattle.net_core.specs.declared.raw.RawNet.{RawNet}
 use Rattle.net_core.specs.Flat.{IsInRange, HasOneDriver, IsSettledOrder}
 use Rattle.net_core.specs.Possible.{MayGive}
 use Rattle.net_core.specs.Run.{gate_bit}
-use Rattle.net_core.specs.Work.{ArePossibleEach, SymbolicCut, SymbolicSet, after_cut, after_cuts, cut_set, everything, output_set, set_at, some_empty, uncut}
+use Rattle.net_core.specs.Work.{ArePossibleEach, SymbolicCut, SymbolicSet, after_cut, after_cuts, cut_set, everything, output_set, set_at, some_empty, set_before_cuts}
 use Rattle.net_core.proofs.OneTime.{fixed, gate_in, gate_source}
 use Rattle.net_core.proofs.Possible.{same_fields, same_set}
 use Rattle.sym_step.specs.declared.board.Board.{Board}
@@ -161,7 +161,7 @@ frame_keeps s t net frame range ds dt k f =
       lists = f.lists;
       spare = f.spare;
       carried = f.carried;
-      kept = λ n d lt none uncut. given_keeps s t net nets (get_or net.gates n d) ds dt k f.refs (inside_by net nets range f.long n d lt) (f.kept n d lt none uncut);
+      kept = λ n d lt none set_before_cuts. given_keeps s t net nets (get_or net.gates n d) ds dt k f.refs (inside_by net nets range f.long n d lt) (f.kept n d lt none set_before_cuts);
     }
 
 -- ---- the latches' next sets
@@ -210,7 +210,7 @@ with_first s net frame first f h = record {
   carried = f.carried;
 }
 
--- a frame of which it is clear, or not, whether all nets have a bit everywhere
+-- a frame of which it is known, or not, whether all nets have a bit everywhere
 pub with_full : (s : Store) (net : RawNet) (frame : Frame) (full : Bool) → IsFrame s net frame → (IsTrue full → AreFull frame.board.nets.items) → IsFrame s net (record frame { board = record frame.board { full = full } })
 with_full s net frame full f h = record {
   long = f.long;
@@ -249,8 +249,8 @@ with_due s net frame due long order fewer f = record {
   blank = λ none k lt. by k (omega (arith, size, lt)) (f.blank none k lt) (flag_at due.flags.items k) refl;
   lists = f.lists;
   spare = f.spare;
-  kept = λ k d lt none uncut. f.kept k d lt (fewer k (omega (arith, size, lt)) none) uncut;
-  carried = λ k d lt none uncut. f.carried k d lt (fewer (length net.gates + k) (omega (arith, size, lt)) none) uncut;
+  kept = λ k d lt none set_before_cuts. f.kept k d lt (fewer k (omega (arith, size, lt)) none) set_before_cuts;
+  carried = λ k d lt none set_before_cuts. f.carried k d lt (fewer (length net.gates + k) (omega (arith, size, lt)) none) set_before_cuts;
 }
   where
     size : length frame.board.due.flags.items ≡ length net.gates + length net.latches
@@ -325,7 +325,7 @@ module _ (net : RawNet) (order : List ℕ) (range : IsInRange net) (one : HasOne
       map_same (λ input. set_at bits (family input.0)) (λ input. set_at bits (sets input.0)) gate.inputs
       (λ i e li. let id : ℕ = (get_or gate.inputs i e).0 in one_set u (family id) (sets id) (net_at nets id) bits l (have id (range.gate_inputs n d lt i e li)) (ins i e li)) in
       sym (fixed net s.vars ls (asks weak ds) family bits range one long possible l' out)
-      ∙ ap (set_at bits) (unlisted s ds weak cuts out (uncut net (ids_of weak) ls family) zip none ∙ before_is net order range one is_order ls weak ds family long n gate lt (given_by n d lt) ∙ as_driven weak cuts out (output_set net family gate) none)
+      ∙ ap (set_at bits) (unlisted s ds weak cuts out (set_before_cuts net (ids_of weak) ls family) zip none ∙ before_is net order range one is_order ls weak ds family long n gate lt (given_by n d lt) ∙ as_driven weak cuts out (output_set net family gate) none)
       ∙ same_set (set_at bits (output_set net family gate)) (set_at bits (output_set net sets gate))
       (λ bit h. (gate_in net range one ls long sets bits n d bit lt).1 (subst (λ (xs : List BitSet). MayGive (gate_bit net gate) xs bit) inputs_same ((gate_in net range one ls long family bits n d bit lt).0 h)))
       (λ bit h. (gate_in net range one ls long family bits n d bit lt).1 (subst (λ (xs : List BitSet). MayGive (gate_bit net gate) xs bit) (sym inputs_same) ((gate_in net range one ls long sets bits n d bit lt).0 h))))

@@ -18,7 +18,7 @@ use Rattle.net_core.specs.declared.raw.Init.TheVariants.{Zero}
 use Rattle.net_core.specs.declared.raw.Latch.{Latch}
 use Rattle.net_core.specs.declared.raw.RawNet.{RawNet}
 use Rattle.net_core.specs.Flat.{IsInRange, HasOneDriver, IsSettledOrder}
-use Rattle.net_core.specs.Work.{ArePossibleEach, SymbolicCut, SymbolicSet, after_cuts, everything, uncut, unless_weakened}
+use Rattle.net_core.specs.Work.{ArePossibleEach, SymbolicCut, SymbolicSet, after_cuts, everything, set_before_cuts, unless_weakened}
 use Rattle.net_core.specs.Possible.{is_weakened}
 use Rattle.sym_step.specs.declared.board.Board.{Board}
 use Rattle.sym_step.specs.declared.cut.Cut.{Cut}
@@ -113,8 +113,8 @@ module _ (net : RawNet) (range : IsInRange net) (one : HasOneDriver net) (ls : L
         let out : ℕ = (get_or sets j d).output.0 in
         let is_weak : Bool = is_weakened (ids_of weak) out in
         let w : SymbolicSet = get_or ls own.number everything in
-        let before : uncut net (ids_of weak) ls family out ≡ unless_weakened is_weak w =
-        ap (λ (node : NodeId). uncut net (ids_of weak) ls family node.0) (sym (own.output zeroth))
+        let before : set_before_cuts net (ids_of weak) ls family out ≡ unless_weakened is_weak w =
+        ap (λ (node : NodeId). set_before_cuts net (ids_of weak) ls family node.0) (sym (own.output zeroth))
         ∙ latch_before net one (ids_of weak) ls family own.number zeroth own.inside
         ∙ ap (λ (node : NodeId). unless_weakened (is_weakened (ids_of weak) node.0) w) (own.output zeroth) in
         subst (λ (v : SymbolicSet). AreRails s v (get_or sets j d).rails) (sym before)
@@ -126,7 +126,7 @@ module _ (net : RawNet) (range : IsInRange net) (one : HasOneDriver net) (ls : L
           let r : NetRails = net_at nets out in
           let w : SymbolicSet = get_or ls k everything in
           let uncut_here : is_listed (nodes_of weak cuts) out ≡ false = subst (λ (ids : List NodeId). is_listed ids out ≡ false) is own.uncut in
-          let same : after_cuts ds (uncut net (ids_of weak) ls family) out ≡ w = unlisted s ds weak cuts out (uncut net (ids_of weak) ls family) zipc uncut_here ∙ latch_before net one (ids_of weak) ls family k d lt ∙ as_driven weak cuts out w uncut_here in
+          let same : after_cuts ds (set_before_cuts net (ids_of weak) ls family) out ≡ w = unlisted s ds weak cuts out (set_before_cuts net (ids_of weak) ls family) zipc uncut_here ∙ latch_before net one (ids_of weak) ls family k d lt ∙ as_driven weak cuts out w uncut_here in
           let held : AreRails s w (bare r) = subst (AreRails s w) (own.rails no_rails) (at k lt) in
           let here : AreNetRefs s r = refs out unknown (subst (λ (n : ℕ). out < n) (sym long) (range.latch_outputs k d lt)) in
           inr (set_is net range one ls weak ds family count s s out r (Keeps-refl s) possible (subst (λ (x : SymbolicSet). AreNetRails s x r) (sym same) (net_by_rails s w r (bare r) refl refl here held)))

@@ -17,7 +17,7 @@ use Rattle.net_core.specs.declared.source.Source.TheVariants.{Input, Free, Gate 
 use Rattle.net_core.specs.Flat.{IsInRange, HasOneDriver, IsSettledOrder}
 use Rattle.net_core.specs.Source.{source_of}
 use Rattle.net_core.specs.Possible.{is_weakened}
-use Rattle.net_core.specs.Work.{ArePossibleEach, SymbolicCut, SymbolicSet, after_cuts, everything, uncut, unless_weakened}
+use Rattle.net_core.specs.Work.{ArePossibleEach, SymbolicCut, SymbolicSet, after_cuts, everything, set_before_cuts, unless_weakened}
 use Rattle.net_core.proofs.OneTime.{Facts, fixed}
 use Rattle.sym_step.specs.declared.cut.Cut.{Cut}
 use Rattle.gate_sets.specs.declared.net_rails.NetRails.{NetRails}
@@ -72,8 +72,8 @@ blank_is s net frame gs nets due order spare full asked none listed room = recor
   blank = λ begun k lt. marked k lt;
   lists = λ yes. absurd (false≢true (sym listed ∙ yes));
   spare = spare;
-  kept = λ k d lt flag uncut. absurd (false≢true (sym flag ∙ marked k (omega (arith, lt))));
-  carried = λ k d lt flag uncut. absurd (false≢true (sym flag ∙ marked (length net.gates + k) (omega (arith, lt))));
+  kept = λ k d lt flag set_before_cuts. absurd (false≢true (sym flag ∙ marked k (omega (arith, lt))));
+  carried = λ k d lt flag set_before_cuts. absurd (false≢true (sym flag ∙ marked (length net.gates + k) (omega (arith, lt))));
 }
   where
     marked : (k : ℕ) → k < length net.gates + length net.latches → flag_at frame.board.due.flags.items k ≡ true
@@ -106,7 +106,7 @@ latch_source net one k d lt = by (source_of net id) refl
 
 -- the set of a latch's output before its cuts
 pub latch_before : (net : RawNet) → HasOneDriver net → (weak : List ℕ) (ls : List SymbolicSet) (sets : ℕ → SymbolicSet) (l : ℕ) (d : Latch) → l < length net.latches
-    → uncut net weak ls sets (get_or net.latches l d).output.0 ≡ unless_weakened (is_weakened weak (get_or net.latches l d).output.0) (get_or ls l everything)
+    → set_before_cuts net weak ls sets (get_or net.latches l d).output.0 ≡ unless_weakened (is_weakened weak (get_or net.latches l d).output.0) (get_or ls l everything)
 latch_before net one weak ls sets l d lt = before_by net weak ls sets (get_or net.latches l d).output.0 (OfLatch l) (sym (latch_source net one l d lt))
 
 -- ---- one net is written
@@ -154,13 +154,13 @@ open_next net sets t u ids nets new n node is have stay here k d lt inside open_
 
 module _ (net : RawNet) (range : IsInRange net) (one : HasOneDriver net) (ls : List SymbolicSet) (weak : List NodeId) (ds : List SymbolicCut) (sets : ℕ → SymbolicSet) (long : length ls ≡ length net.latches) where
   -- the set behind the cuts is that of the family
-  pub set_is : (s u : Store) (id : ℕ) (r : NetRails) → Keeps s u → ArePossibleEach s.vars net ls (asks weak ds) sets → AreNetRails u (after_cuts ds (uncut net (ids_of weak) ls sets) id) r → AreNetRails u (sets id) r
-  set_is s u id r k family h = Net-same u (after_cuts ds (uncut net (ids_of weak) ls sets) id) (sets id) r (λ bits l. fixed net s.vars ls (asks weak ds) sets bits range one long family (l ∙ k.vars) id) h
+  pub set_is : (s u : Store) (id : ℕ) (r : NetRails) → Keeps s u → ArePossibleEach s.vars net ls (asks weak ds) sets → AreNetRails u (after_cuts ds (set_before_cuts net (ids_of weak) ls sets) id) r → AreNetRails u (sets id) r
+  set_is s u id r k family h = Net-same u (after_cuts ds (set_before_cuts net (ids_of weak) ls sets) id) (sets id) r (λ bits l. fixed net s.vars ls (asks weak ds) sets bits range one long family (l ∙ k.vars) id) h
 
-  pub set_was : (s u : Store) (id : ℕ) (r : NetRails) → Keeps s u → ArePossibleEach s.vars net ls (asks weak ds) sets → AreNetRails u (sets id) r → AreNetRails u (after_cuts ds (uncut net (ids_of weak) ls sets) id) r
-  set_was s u id r k family h = Net-same u (sets id) (after_cuts ds (uncut net (ids_of weak) ls sets) id) r (λ bits l. sym (fixed net s.vars ls (asks weak ds) sets bits range one long family (l ∙ k.vars) id)) h
+  pub set_was : (s u : Store) (id : ℕ) (r : NetRails) → Keeps s u → ArePossibleEach s.vars net ls (asks weak ds) sets → AreNetRails u (sets id) r → AreNetRails u (after_cuts ds (set_before_cuts net (ids_of weak) ls sets) id) r
+  set_was s u id r k family h = Net-same u (sets id) (after_cuts ds (set_before_cuts net (ids_of weak) ls sets) id) r (λ bits l. sym (fixed net s.vars ls (asks weak ds) sets bits range one long family (l ∙ k.vars) id)) h
 
-  open_before : (id : ℕ) → IsOpen net id → uncut net (ids_of weak) ls sets id ≡ everything
+  open_before : (id : ℕ) → IsOpen net id → set_before_cuts net (ids_of weak) ls sets id ≡ everything
   open_before id (inl e) = before_by net (ids_of weak) ls sets id Input (sym e) ∙ unless_both (is_weakened (ids_of weak) id)
   open_before id (inr e) = before_by net (ids_of weak) ls sets id Free (sym e) ∙ unless_both (is_weakened (ids_of weak) id)
 
@@ -189,7 +189,7 @@ module _ (net : RawNet) (range : IsInRange net) (one : HasOneDriver net) (ls : L
           let at = listed_at before id f in
           to_v id (subst (λ (i : ℕ). AreNetRails u (sets i) (net_at zs i)) (at.2 d0) (have_before at.0 d0 at.1 at.1 (subst (IsOpen net) (sym (at.2 d0)) is)))
       by false e false f =
-          let here : AreNetRails s (after_cuts ds (uncut net (ids_of weak) ls sets) id) (net_at xs id) = subst (λ (w : SymbolicSet). AreNetRails s w (net_at xs id)) (sym (unlisted s ds weak cuts id (uncut net (ids_of weak) ls sets) zip e ∙ open_before id is)) (was id lt is (sym (left id e) ∙ f)) in
+          let here : AreNetRails s (after_cuts ds (set_before_cuts net (ids_of weak) ls sets) id) (net_at xs id) = subst (λ (w : SymbolicSet). AreNetRails s w (net_at xs id)) (sym (unlisted s ds weak cuts id (set_before_cuts net (ids_of weak) ls sets) zip e ∙ open_before id is)) (was id lt is (sym (left id e) ∙ f)) in
           to_v id (to_u id (to_t id (set_is s s id (net_at xs id) (Keeps-refl s) family here)))
 
   pub all_sources : (s t u v : Store) (cuts : List Cut) (old before : List NodeId) (xs ys zs ws : List NetRails) → IsGood s → IsGood v → Keeps s t → ArePossibleEach s.vars net ls (asks weak ds) sets → AllZip (IsCutBy s) ds cuts
@@ -210,5 +210,5 @@ module _ (net : RawNet) (range : IsInRange net) (one : HasOneDriver net) (ls : L
   pub undriven_here : (s u : Store) (cuts : List Cut) (ids : List NodeId) (nets : List NetRails) → Keeps s u → ArePossibleEach s.vars net ls (asks weak ds) sets → AllZip (IsCutBy s) ds cuts → ids ≡ nodes_of weak cuts
       → HaveNets net sets u nets → AreOpen u net ids nets
   undriven_here s u cuts ids nets k family zip are have id lt is none =
-      let same : after_cuts ds (uncut net (ids_of weak) ls sets) id ≡ everything = unlisted s ds weak cuts id (uncut net (ids_of weak) ls sets) zip (ap (λ (xs : List NodeId). is_listed xs id) (sym are) ∙ none) ∙ open_before id is in
+      let same : after_cuts ds (set_before_cuts net (ids_of weak) ls sets) id ≡ everything = unlisted s ds weak cuts id (set_before_cuts net (ids_of weak) ls sets) zip (ap (λ (xs : List NodeId). is_listed xs id) (sym are) ∙ none) ∙ open_before id is in
       subst (λ (w : SymbolicSet). AreNetRails u w (net_at nets id)) same (set_was s u id (net_at nets id) k family (have id lt))

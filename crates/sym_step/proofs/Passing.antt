@@ -8,7 +8,7 @@ use Rattle.dd_nodes.proofs.Stores.{IsGood, Keeps-refl}
 use Rattle.net_core.specs.declared.raw.Gate.{Gate}
 use Rattle.net_core.specs.declared.raw.RawNet.{RawNet}
 use Rattle.net_core.specs.Flat.{IsInRange, HasOneDriver, IsSettledOrder}
-use Rattle.net_core.specs.Work.{ArePossibleEach, SymbolicSet, SymbolicCut, after_cuts, output_set, uncut}
+use Rattle.net_core.specs.Work.{ArePossibleEach, SymbolicSet, SymbolicCut, after_cuts, output_set, set_before_cuts}
 use Rattle.sym_step.specs.declared.board.Board.{Board}
 use Rattle.sym_step.specs.declared.cut.Cut.{Cut}
 use Rattle.gate_sets.specs.declared.net_rails.NetRails.{NetRails}
@@ -42,9 +42,9 @@ module _ (net : RawNet) (order : List ℕ) (range : IsInRange net) (one : HasOne
       let nets : List NetRails = board.nets.items in
       let r : NetRails = net_at nets gate.output.0 in
       let p = spared number no_gate known none in
-      let here : AreNetRails t (after_cuts ds (uncut net (ids_of weak) ls sets) gate.output.0) r =
+      let here : AreNetRails t (after_cuts ds (set_before_cuts net (ids_of weak) ls sets) gate.output.0) r =
       subst (λ (w : SymbolicSet). AreNetRails t w r)
-      (sym (unlisted t ds weak cuts gate.output.0 (uncut net (ids_of weak) ls sets) zip p.uncut ∙ before_is net order range one is_order ls weak ds sets long number gate known is ∙ as_driven weak cuts gate.output.0 (output_set net sets gate) p.uncut))
+      (sym (unlisted t ds weak cuts gate.output.0 (set_before_cuts net (ids_of weak) ls sets) zip p.uncut ∙ before_is net order range one is_order ls weak ds sets long number gate known is ∙ as_driven weak cuts gate.output.0 (output_set net sets gate) p.uncut))
       (p.given sets (ready net order range one is_order ls weak ds sets long t nets n number gate have lt refl is)) in
       subst (HaveGates net order sets t (n + 1)) (set-get_or nets gate.output.0 unknown)
       (placed net order range one is_order ls weak ds sets long s t t nets n number gate r gt gt kst (Keeps-refl t) size family have lt refl is here)

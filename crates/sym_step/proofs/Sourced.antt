@@ -20,7 +20,7 @@ use Rattle.net_core.specs.declared.source.Source.TheVariants.{Gate as OfGate}
 use Rattle.net_core.specs.Flat.{IsInRange, HasOneDriver, IsSettledOrder}
 use Rattle.net_core.specs.Source.{source_of}
 use Rattle.net_core.specs.Possible.{is_weakened}
-use Rattle.net_core.specs.Work.{SymbolicSet, SymbolicCut, uncut, unless_weakened, by_source, everything, cuts_work, time_work, gates_work, first_sets, some_bit, no_bit, some_empty, sums}
+use Rattle.net_core.specs.Work.{SymbolicSet, SymbolicCut, set_before_cuts, unless_weakened, by_source, everything, cuts_work, time_work, gates_work, sets_below, some_bit, no_bit, some_empty, sums}
 use Rattle.net_core.proofs.Ordered.{place_of}
 use Rattle.dual_rail.specs.declared.rails.Rails.{Rails}
 use Rattle.dual_rail.specs.Rail.{AreRails}
@@ -50,7 +50,7 @@ all_unknown s (suc n) d = All-cons (AreNetRefs s) unknown (replicate n unknown) 
 pub known : (net : RawNet) → HasOneDriver net → (id : ℕ) (src : Source) → src ≡ source_of net id → Facts net id src
 known net one id src e = subst (Facts net id) (sym e) (facts net one id)
 
-pub before_by : (net : RawNet) (weak : List ℕ) (ls : List SymbolicSet) (sets : ℕ → SymbolicSet) (id : ℕ) (src : Source) → src ≡ source_of net id → uncut net weak ls sets id ≡ unless_weakened (is_weakened weak id) (by_source net ls sets src)
+pub before_by : (net : RawNet) (weak : List ℕ) (ls : List SymbolicSet) (sets : ℕ → SymbolicSet) (id : ℕ) (src : Source) → src ≡ source_of net id → set_before_cuts net weak ls sets id ≡ unless_weakened (is_weakened weak id) (by_source net ls sets src)
 before_by net weak ls sets id src e = ap (λ (x : Source). unless_weakened (is_weakened weak id) (by_source net ls sets x)) (sym e)
 
 -- before any gate is placed
@@ -62,16 +62,16 @@ to_gates net order sets t rails one is_order have id inside none = have id insid
     none place.0 d0 (omega arith) place.1 (ap (λ (j : ℕ). (get_or net.gates j d0).output.0) place.2 ∙ f.1 d0))
 
 -- the work of the cuts is among that of the time
-pub cuts_within : (net : RawNet) (weak : List NodeId) (ls : List SymbolicSet) (ds : List SymbolicCut) (sets : ℕ → SymbolicSet) → Within (cuts_work ds (uncut net (ids_of weak) ls sets)) (time_work net ls (asks weak ds) sets)
+pub cuts_within : (net : RawNet) (weak : List NodeId) (ls : List SymbolicSet) (ds : List SymbolicCut) (sets : ℕ → SymbolicSet) → Within (cuts_work ds (set_before_cuts net (ids_of weak) ls sets)) (time_work net ls (asks weak ds) sets)
 cuts_within net weak ls ds sets x h =
-    let all : List SymbolicSet = first_sets sets net.nets in
-    Contains-append_left (cuts_work ds (uncut net (ids_of weak) ls sets)) (gates_work net (ids_of weak) sets net.gates ++ (map some_bit all ++ (map no_bit all ++ sums (map no_bit all)))) x h
+    let all : List SymbolicSet = sets_below sets net.nets in
+    Contains-append_left (cuts_work ds (set_before_cuts net (ids_of weak) ls sets)) (gates_work net (ids_of weak) sets net.gates ++ (map some_bit all ++ (map no_bit all ++ sums (map no_bit all)))) x h
 
-pub empties_within : (net : RawNet) (weak : List ℕ) (ls : List SymbolicSet) (ds : List SymbolicCut) (sets : ℕ → SymbolicSet) → let all = first_sets sets net.nets in Within (map some_bit all ++ (map no_bit all ++ sums (map no_bit all))) (time_work net ls (record { cuts = ds; weak = weak }) sets)
+pub empties_within : (net : RawNet) (weak : List ℕ) (ls : List SymbolicSet) (ds : List SymbolicCut) (sets : ℕ → SymbolicSet) → let all = sets_below sets net.nets in Within (map some_bit all ++ (map no_bit all ++ sums (map no_bit all))) (time_work net ls (record { cuts = ds; weak = weak }) sets)
 empties_within net weak ls ds sets x h =
-    let all : List SymbolicSet = first_sets sets net.nets in
+    let all : List SymbolicSet = sets_below sets net.nets in
     let rest : _ = map some_bit all ++ (map no_bit all ++ sums (map no_bit all)) in
-    Contains-append_right (cuts_work ds (uncut net weak ls sets)) (gates_work net weak sets net.gates ++ rest) x (Contains-append_right (gates_work net weak sets net.gates) rest x h)
+    Contains-append_right (cuts_work ds (set_before_cuts net weak ls sets)) (gates_work net weak sets net.gates ++ rest) x (Contains-append_right (gates_work net weak sets net.gates) rest x h)
 
 zip_from : (s : Store) (ws : List SymbolicSet) (rails : List NetRails) → length ws ≡ length rails → ((k : ℕ) (d : SymbolicSet) (e : NetRails) → k < length ws → AreNetRails s (get_or ws k d) (get_or rails k e)) → AllZip (AreNetRails s) ws rails
 zip_from s [] [] l h = tt
@@ -80,10 +80,10 @@ zip_from s (w ∷ ws) [] l h = absurd (omega arith)
 zip_from s (w ∷ ws) (r ∷ rs) l h = (h 0 w r (omega arith), zip_from s ws rs (omega arith) (λ k d e lt. h (suc k) d e (omega arith)))
 
 -- all nets' sets, as a list
-pub sets_zip : (net : RawNet) (sets : ℕ → SymbolicSet) (t : Store) (rails : List NetRails) → length rails ≡ net.nets → HaveNets net sets t rails → AllZip (AreNetRails t) (first_sets sets net.nets) rails
+pub sets_zip : (net : RawNet) (sets : ℕ → SymbolicSet) (t : Store) (rails : List NetRails) → length rails ≡ net.nets → HaveNets net sets t rails → AllZip (AreNetRails t) (sets_below sets net.nets) rails
 sets_zip net sets t rails long have =
     let n = length-first_sets sets net.nets in
-    zip_from t (first_sets sets net.nets) rails (n ∙ sym long) (λ k d e lt.
+    zip_from t (sets_below sets net.nets) rails (n ∙ sym long) (λ k d e lt.
     let inside : k < net.nets = omega (arith, n) in
     subst (λ (w : SymbolicSet). AreNetRails t w (get_or rails k e)) (sym (first_sets-at sets net.nets k d inside))
     (subst (AreNetRails t (sets k)) (get_or_same rails k unknown e (omega (arith, long))) (have k inside)))

@@ -11,7 +11,7 @@ use Rattle.std.proofs.lemmas.Option.{slice_get-get_or}
 use Rattle.std.proofs.lemmas.List.{get_or_default}
 use Rattle.std.proofs.lemmas.List.Elements.{Contains-append_left, Contains-append_right, Contains-append_cases}
 use Rattle.std.proofs.Common.{⊎_elim, Contains}
-use Rattle.dd_nodes.specs.Diagram.{Function}
+use Rattle.ste_base.specs.Functions.{Function}
 use Rattle.dd_nodes.specs.Stores.{Store, Keeps}
 use Rattle.dd_nodes.proofs.Stores.{IsGood}
 use Rattle.dd_ops.specs.declared.fault.OpFault.{OpFault}
@@ -21,7 +21,7 @@ use Rattle.net_core.specs.declared.raw.RawNet.{RawNet}
 use Rattle.net_core.specs.declared.source.Source.TheVariants.{Gate as OfGate}
 use Rattle.net_core.specs.Flat.{IsInRange, HasOneDriver, IsSettledOrder}
 use Rattle.net_core.specs.Source.{source_of}
-use Rattle.net_core.specs.Work.{SymbolicSet, SymbolicCut, set_at, after_cuts, by_source, by_gate, one_gate_work, uncut, unless_weakened, cuts_work, gates_work, output_set, time_work, first_sets, some_bit, no_bit, sums}
+use Rattle.net_core.specs.Work.{SymbolicSet, SymbolicCut, set_at, after_cuts, by_source, by_gate, one_gate_work, set_before_cuts, unless_weakened, cuts_work, gates_work, output_set, time_work, sets_below, some_bit, no_bit, sums}
 use Rattle.gate_sets.specs.declared.net_rails.NetRails.{NetRails}
 use Rattle.gate_sets.specs.NetSets.{AreNetRails, AreNetRefs, net_at}
 use Rattle.gate_sets.proofs.NetRefs.{Net-keeps}
@@ -64,17 +64,17 @@ set_refs t nets id r lt h hr k d l = elim (cases_eq k id) [
   | inr other ↦ subst (AreNetRefs t) (sym (get_or-set_other nets id k r d other)) (h k d (let n = length-set nets id r in omega (arith, n, l)))
 ]
 
-pub length-first_sets : (sets : ℕ → SymbolicSet) (n : ℕ) → length (first_sets sets n) ≡ n
+pub length-first_sets : (sets : ℕ → SymbolicSet) (n : ℕ) → length (sets_below sets n) ≡ n
 length-first_sets sets zero = refl
-length-first_sets sets (suc n) = length-append (first_sets sets n) (sets n ∷ []) ∙ let h = length-first_sets sets n in omega arith
+length-first_sets sets (suc n) = length-append (sets_below sets n) (sets n ∷ []) ∙ let h = length-first_sets sets n in omega arith
 
-pub first_sets-at : (sets : ℕ → SymbolicSet) (n k : ℕ) (d : SymbolicSet) → k < n → get_or (first_sets sets n) k d ≡ sets k
+pub first_sets-at : (sets : ℕ → SymbolicSet) (n k : ℕ) (d : SymbolicSet) → k < n → get_or (sets_below sets n) k d ≡ sets k
 first_sets-at sets zero k d lt = absurd (omega arith)
 first_sets-at sets (suc n) k d lt =
     let long = length-first_sets sets n in
     elim (cases_lt k n) [
-      | inl old ↦ get_or-append (first_sets sets n) (sets n ∷ []) d k (omega arith) ∙ first_sets-at sets n k d old
-      | inr late ↦ let e : n ≡ k = omega arith in get_or_push (first_sets sets n) (sets n) d k (omega arith) ∙ ap sets e
+      | inl old ↦ get_or-append (sets_below sets n) (sets n ∷ []) d k (omega arith) ∙ first_sets-at sets n k d old
+      | inr late ↦ let e : n ≡ k = omega arith in get_or_push (sets_below sets n) (sets n) d k (omega arith) ∙ ap sets e
     ]
 
 module _ (net : RawNet) (order : List ℕ) (range : IsInRange net) (one : HasOneDriver net) (is_order : IsSettledOrder net order)
@@ -83,7 +83,7 @@ module _ (net : RawNet) (order : List ℕ) (range : IsInRange net) (one : HasOne
   work = time_work net ls (asks weak ds) sets
 
   abbrev pub before : ℕ → SymbolicSet
-  before = uncut net (ids_of weak) ls sets
+  before = set_before_cuts net (ids_of weak) ls sets
 
   -- the set before cuts at a gate's output
   pub before_is : (k : ℕ) (gate : Gate) → k < length net.gates → gate ≡ get_or net.gates k gate → before gate.output.0 ≡ placed_set weak net sets gate
@@ -95,13 +95,13 @@ module _ (net : RawNet) (order : List ℕ) (range : IsInRange net) (one : HasOne
   gate_within k gate lt is x has = ⊎_elim
       (λ (h : Contains (placed_work weak net sets gate) x).
       let h' : Contains (placed_work weak net sets (get_or net.gates k gate)) x = subst (λ (y : Gate). Contains (placed_work weak net sets y) x) is h in
-      Contains-append_right (cuts_work ds (uncut net (ids_of weak) ls sets)) (gates_work net (ids_of weak) sets net.gates ++ rest) x
+      Contains-append_right (cuts_work ds (set_before_cuts net (ids_of weak) ls sets)) (gates_work net (ids_of weak) sets net.gates ++ rest) x
       (Contains-append_left (gates_work net (ids_of weak) sets net.gates) rest x (gates_has net (ids_of weak) sets net.gates k gate lt x h')))
-      (λ (h : Contains (cuts_work ds (uncut net (ids_of weak) ls sets)) x). Contains-append_left (cuts_work ds (uncut net (ids_of weak) ls sets)) (gates_work net (ids_of weak) sets net.gates ++ rest) x h)
-      (Contains-append_cases (placed_work weak net sets gate) (cuts_work ds (uncut net (ids_of weak) ls sets)) x has)
+      (λ (h : Contains (cuts_work ds (set_before_cuts net (ids_of weak) ls sets)) x). Contains-append_left (cuts_work ds (set_before_cuts net (ids_of weak) ls sets)) (gates_work net (ids_of weak) sets net.gates ++ rest) x h)
+      (Contains-append_cases (placed_work weak net sets gate) (cuts_work ds (set_before_cuts net (ids_of weak) ls sets)) x has)
     where
       all : List SymbolicSet
-      all = first_sets sets net.nets
+      all = sets_below sets net.nets
 
       rest : List Function
       rest = map some_bit all ++ (map no_bit all ++ sums (map no_bit all))
@@ -109,7 +109,7 @@ module _ (net : RawNet) (order : List ℕ) (range : IsInRange net) (one : HasOne
   -- where a net has a bit is one of the functions
   pub some_covered : (v id : ℕ) → ArePossibleEach v net ls (asks weak ds) sets → id < net.nets → Has v work (some_bit (after_cuts ds before id))
   some_covered v id family inside =
-      let all : List SymbolicSet = first_sets sets net.nets in
+      let all : List SymbolicSet = sets_below sets net.nets in
       let n = length-first_sets sets net.nets in
       let tail : List Function = map no_bit all ++ sums (map no_bit all) in
       let d : SymbolicSet = record { zero = λ bits. false; one = λ bits. false } in
@@ -161,7 +161,7 @@ module _ (net : RawNet) (order : List ℕ) (range : IsInRange net) (one : HasOne
       let d0 : NetRails = record { can0 = record { 0 = 1 }; can1 = record { 0 = 1 }; some = record { 0 = 1 }; known = false } in
       elim (cases_eq id gate.output.0) [
         | inl here ↦
-            let right : AreNetRails u (sets gate.output.0) r = Net-same u (after_cuts ds (uncut net (ids_of weak) ls sets) gate.output.0) (sets gate.output.0) r (λ bits l. fixed net s.vars ls (asks weak ds) sets bits range one long family (l ∙ ksu.vars) gate.output.0) made in
+            let right : AreNetRails u (sets gate.output.0) r = Net-same u (after_cuts ds (set_before_cuts net (ids_of weak) ls sets) gate.output.0) (sets gate.output.0) r (λ bits l. fixed net s.vars ls (asks weak ds) sets bits range one long family (l ∙ ksu.vars) gate.output.0) made in
             subst (λ (i : ℕ). AreNetRails u (sets i) (net_at (set nets gate.output.0 r) i)) (sym here) (subst (AreNetRails u (sets gate.output.0)) (sym (get_or-set_same nets gate.output.0 r d0 (omega (arith, size)))) right)
         | inr other ↦
             subst (AreNetRails u (sets id)) (sym (get_or-set_other nets gate.output.0 id r d0 other)) (Net-keeps t u (sets id) (net_at nets id) gt gu ktu (have id inside (λ k d h p same. elim (cases_lt n k) [

@@ -5,7 +5,7 @@ use Rattle.std.proofs.lemmas.Bool.{cases_lt}
 use Rattle.std.proofs.lemmas.List.{length-map, get_or_default}
 use Rattle.std.proofs.lemmas.List.Elements.{All-head, All-tail, All-nil, All-cons}
 use Rattle.dd_nodes.specs.declared.node.Ref.{Ref}
-use Rattle.dd_nodes.specs.Diagram.{Function}
+use Rattle.ste_base.specs.Functions.{Function}
 use Rattle.dd_nodes.specs.Stores.{Store, IsRef, function}
 use Rattle.dd_nodes.proofs.Stores.{IsGood}
 use Rattle.dd_ops.specs.declared.fault.OpFault.{OpFault}
@@ -16,7 +16,7 @@ use Rattle.net_core.specs.Flat.{IsInRange}
 use Rattle.net_core.specs.Possible.{Asked, ArePossible}
 use Rattle.net_core.specs.Run.{IsSettled}
 use Rattle.net_core.specs.Sets.{IsIn, both}
-use Rattle.net_core.specs.Work.{ArePossibleEach, SymbolicAsked, SymbolicCut, SymbolicSet, asked_at, cut_at, set_at, time_work}
+use Rattle.net_core.specs.Work.{ArePossibleEach, SymbolicAsked, SymbolicCut, SymbolicSet, asked_under, cut_at, set_at, time_work}
 use Rattle.net_core.proofs.OneTime.{by_index}
 use Rattle.net_core.proofs.Possible.{one_possible, same_fields, same_set}
 use Rattle.dual_rail.specs.declared.rails.Rails.{Rails}
@@ -35,7 +35,7 @@ use Rattle.ste_base.specs.declared.id.NodeId.{NodeId}
 -- there are sets of one time, for all assignments at once
 pub sets_exist : (net : RawNet) (vars : ℕ) (ls : List SymbolicSet) (asked : SymbolicAsked) → IsSettled net → length ls ≡ length net.latches → (sets : ℕ → SymbolicSet) × ArePossibleEach vars net ls asked sets
 sets_exist net vars ls asked settled long =
-    let one : (bits : List Bool) → (sets : ℕ → BitSet) × ArePossible net (map (set_at bits) ls) (asked_at bits asked) sets = λ bits. one_possible.some net (map (set_at bits) ls) (asked_at bits asked) settled (length-map ls (set_at bits) ∙ long) in
+    let one : (bits : List Bool) → (sets : ℕ → BitSet) × ArePossible net (map (set_at bits) ls) (asked_under bits asked) sets = λ bits. one_possible.some net (map (set_at bits) ls) (asked_under bits asked) settled (length-map ls (set_at bits) ∙ long) in
     (λ id. record { zero = λ bits. ((one bits).0 id).zero; one = λ bits. ((one bits).0 id).one }, λ bits l. (one bits).1)
 
 -- a number that is no net has both bits
@@ -64,7 +64,7 @@ latches_are : (s : Store) (bits : List Bool) (latches : List Rails) → map (set
 latches_are s bits [] = refl
 latches_are s bits (r ∷ rs) = ap (λ xs. set_of s bits r ∷ xs) (latches_are s bits rs)
 
-cuts_are : (s : Store) (bits : List Bool) (weak : List NodeId) (cuts : List Cut) → asked_at bits (asks weak (map (λ (c : Cut). record { node = c.node.0; guard = function s c.guard; value = function s c.value }) cuts)) ≡ asked_of s bits weak cuts
+cuts_are : (s : Store) (bits : List Bool) (weak : List NodeId) (cuts : List Cut) → asked_under bits (asks weak (map (λ (c : Cut). record { node = c.node.0; guard = function s c.guard; value = function s c.value }) cuts)) ≡ asked_of s bits weak cuts
 cuts_are s bits weak cuts = let make : List _ → Asked = λ cs. record { cuts = cs; weak = ids_of weak } in ap make (go cuts)
   where
     go : (cs : List Cut) → map (cut_at bits) (map (λ (c : Cut). record { node = c.node.0; guard = function s c.guard; value = function s c.value }) cs) ≡ (asked_of s bits weak cs).cuts
@@ -115,7 +115,7 @@ module _ (net : RawNet) (range : IsInRange net) (settled : IsSettled net) (latch
     contradictory = made.ok.contradictory.ref;
     next = zip_refs t (map (λ latch. exist.0 latch.input.0) net.latches) r.next made.ok.next;
     possible = λ bits l.
-        let fam : ArePossible net (map (set_at bits) ls) (asked_at bits asked) (λ id. set_at bits (exist.0 id)) = exist.1 bits l in
+        let fam : ArePossible net (map (set_at bits) ls) (asked_under bits asked) (λ id. set_at bits (exist.0 id)) = exist.1 bits l in
         let known : ArePossible net (map (set_of s bits) latches) (asked_of s bits weak cuts) (λ id. set_at bits (exist.0 id)) =
         subst (λ (xs : List BitSet). ArePossible net xs (asked_of s bits weak cuts) (λ id. set_at bits (exist.0 id))) (latches_are s bits latches)
         (subst (λ (a : Asked). ArePossible net (map (set_at bits) ls) a (λ id. set_at bits (exist.0 id))) (cuts_are s bits weak cuts) fam) in

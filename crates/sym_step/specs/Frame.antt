@@ -38,7 +38,8 @@ is_listed ids id = list_any (λ node. node.0 == id) ids
 -- each net that nothing drives and of which nothing was asked has both bits
 abbrev pub AreOpen : Store → RawNet → List NodeId → List NetRails → Type 0
 AreOpen s net before nets =
-    (id : ℕ) → id < net.nets → IsOpen net id → is_listed before id ≡ false → AreNetRails s everything (net_at nets id)
+    (id : ℕ) → id < net.nets → IsOpen net id → is_listed before id ≡ false →
+    AreNetRails s everything (net_at nets id)
 
 -- the set of a net without where it has a bit
 abbrev pub bare : NetRails → Rails
@@ -56,13 +57,15 @@ abbrev pub first_or : Option (List Rails) → List Rails → List Rails
 first_or None rails = rails
 first_or (Some first) rails = first
 
--- the sets that the latches have at the time behind a frame: those of their inputs, where none are told
+-- the sets that the latches have at the time behind a frame: those of their inputs, where none are
+-- told
 abbrev pub next_of : RawNet → Frame → List Rails
 next_of net frame = first_or frame.first (map (input_rails (nets_of frame)) net.latches)
 
 -- what a frame has of its time, as a step, with where some net is empty
 abbrev pub step_of : RawNet → Frame → Ref → Step
-step_of net frame contradictory = record { nets = nets_of frame; contradictory = contradictory; next = next_of net frame }
+step_of net frame contradictory =
+    record { nets = nets_of frame; contradictory = contradictory; next = next_of net frame }
 
 -- sets of the latches, one for each
 pub record AreFirst (s : Store) (net : RawNet) (sets : List Rails) : Type 0 where
@@ -73,8 +76,9 @@ pub record AreFirst (s : Store) (net : RawNet) (sets : List Rails) : Type 0 wher
 abbrev pub mark_count : RawNet → ℕ
 mark_count net = length net.gates + length net.latches
 
--- A frame of a time: each net has references that are held, a gate that is not due and of whose output nothing was asked has
--- given it its set, and the output of such a latch has the references of its input. Before any time all gates and latches are due.
+-- A frame of a time: each net has references that are held, a gate that is not due and of whose
+-- output nothing was asked has given it its set, and the output of such a latch has the references
+-- of its input. Before any time all gates and latches are due.
 pub record IsFrame (s : Store) (net : RawNet) (frame : Frame) : Type 0 where
   pub long : length frame.board.nets.items ≡ net.nets
   pub refs : All (AreNetRefs s) frame.board.nets.items
@@ -85,10 +89,16 @@ pub record IsFrame (s : Store) (net : RawNet) (frame : Frame) : Type 0 where
   pub inside : All (λ node. node.0 < net.nets) frame.asked.items
   pub undriven : AreOpen s net frame.asked.items frame.board.nets.items
   pub first : (sets : List Rails) → frame.first ≡ Some sets → AreFirst s net sets
-  pub blank : frame.begun ≡ false → (k : ℕ) → k < mark_count net → flag_at frame.board.due.flags.items k ≡ true
+  pub blank : frame.begun ≡ false → (k : ℕ) → k < mark_count net →
+      flag_at frame.board.due.flags.items k ≡ true
   pub lists : IsTrue frame.listed → AreReaders net frame.board.readers
   pub spare : IfSome frame.spare (AreReaders net)
-  pub kept : (k : ℕ) (d : Gate) → k < length net.gates → flag_at frame.board.due.flags.items k ≡ false → is_listed frame.asked.items (slice_index_or net.gates k d).output.0 ≡ false
+  pub kept : (k : ℕ) (d : Gate) → k < length net.gates →
+      flag_at frame.board.due.flags.items k ≡ false →
+      is_listed frame.asked.items (slice_index_or net.gates k d).output.0 ≡ false
       → IsGiven s net frame.board.nets.items (slice_index_or net.gates k d)
-  pub carried : (k : ℕ) (d : Latch) → k < length net.latches → flag_at frame.board.due.flags.items (length net.gates + k) ≡ false → is_listed frame.asked.items (slice_index_or net.latches k d).output.0 ≡ false
-      → net_at frame.board.nets.items (slice_index_or net.latches k d).output.0 ≡ net_at frame.board.nets.items (slice_index_or net.latches k d).input.0
+  pub carried : (k : ℕ) (d : Latch) → k < length net.latches →
+      flag_at frame.board.due.flags.items (length net.gates + k) ≡ false →
+      is_listed frame.asked.items (slice_index_or net.latches k d).output.0 ≡ false
+      → net_at frame.board.nets.items (slice_index_or net.latches k d).output.0 ≡
+      net_at frame.board.nets.items (slice_index_or net.latches k d).input.0

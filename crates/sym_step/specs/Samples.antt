@@ -5,12 +5,14 @@ use Rattle.dd_nodes.specs.Functions.{node_count}
 use Rattle.net_core.specs.declared.cover.Lit.TheVariants.{One}
 use Rattle.net_core.specs.declared.raw.Init.TheVariants.{Free}
 use Rattle.net_core.specs.declared.raw.RawNet.{RawNet}
-use Rattle.net_core.specs.Work.{Function, SymbolicAsked, SymbolicSet, always, conjunction, negation, time_work}
+use Rattle.ste_base.specs.Functions.{Function}
+use Rattle.net_core.specs.Work.{SymbolicAsked, SymbolicSet, always, conjunction, negation, time_work}
 
 abbrev pub id_of : ℕ → NodeId
 id_of n = record { 0 = n }
 
--- y = a & b, where a is net 0, b is net 1 and y is net 2; b is an input, or a latch's output that takes a's bit
+-- y = a & b, where a is net 0, b is net 1 and y is net 2; b is an input, or a latch's output that
+-- takes a's bit
 abbrev pub and_gate : Bool → RawNet
 and_gate false = record {
   nets = 3;
@@ -48,21 +50,24 @@ plain_sets (suc (suc n)) = exactly (conjunction p q)
 
 abbrev pub plain_asked : SymbolicAsked
 plain_asked = record {
-  cuts = record { node = 0; guard = always; value = p } ∷ record { node = 1; guard = always; value = q } ∷ [];
+  cuts = record { node = 0; guard = always; value = p } ∷
+      record { node = 1; guard = always; value = q } ∷ [];
   weak = [];
 }
 
 -- where q is 1, a is p; the latch has p: y can be 0 where not both p and q are 1, and 1 where p is
 abbrev pub guarded_sets : ℕ → SymbolicSet
-guarded_sets zero = record { zero = negation (conjunction p q); one = negation (conjunction (negation p) q) }
+guarded_sets zero =
+    record { zero = negation (conjunction p q); one = negation (conjunction (negation p) q) }
 guarded_sets (suc zero) = exactly p
 guarded_sets (suc (suc n)) = record { zero = negation (conjunction p q); one = p }
 
 abbrev pub guarded_asked : SymbolicAsked
 guarded_asked = record { cuts = record { node = 0; guard = q; value = p } ∷ []; weak = [] }
 
--- Law: the AND of two variables takes 7 nodes: p, !p, q, !q, p & q, p & !q and !(p & q). With a guard and a latch it
--- takes 9: p, !p, q, !q, p & q, !p & q, !p & !q, !(p & q) and !(!p & q).
+-- Law: the AND of two variables takes 7 nodes: p, !p, q, !q, p & q, p & !q and !(p & q). With a
+-- guard and a latch it takes 9: p, !p, q, !q, p & q, !p & q, !p & !q, !(p & q) and !(!p & q).
 pub record SamplesAreCounted : Type 0 where
   pub plain : node_count 2 (time_work (and_gate false) [] plain_asked plain_sets) ≡ 7
-  pub guarded : node_count 2 (time_work (and_gate true) (exactly p ∷ []) guarded_asked guarded_sets) ≡ 9
+  pub guarded : node_count 2 (time_work (and_gate true)
+      (exactly p ∷ []) guarded_asked guarded_sets) ≡ 9

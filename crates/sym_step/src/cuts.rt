@@ -1,10 +1,10 @@
-//! The set of one net behind its cuts; begin with `cut_net`, and with `cut_full` where it is clear
+//! The set of one net behind its cuts; begin with `cut_net`, and with `cut_full` where it is known
 //! that no set is empty. Which nets are cut, and where, is in `demands.rt`.
 
 ghost use Rattle.std.specs.Prelude.{◌≡◌, ◌≢◌, ◌<◌, ◌∷◌, [], ℕ, List, All, IsTrue, length};
 ghost use Rattle.std.specs.List.{AllZip};
 ghost use Rattle.dd_nodes.specs.Stores.{IsRef, Means};
-ghost use Rattle.dd_nodes.specs.Diagram.{Function};
+ghost use Rattle.ste_base.specs.Functions.{Function};
 ghost use Rattle.net_core.specs.Work.{SymbolicSet, SymbolicCut, after_cut, after_cuts, cut_set, cut_work, cuts_work, negation, some_bit};
 ghost use Rattle.dual_rail.specs.Rail.{AreRefs, AreRails, Built};
 ghost use Rattle.sym_step.specs.Step.{IsCutBy};
@@ -20,7 +20,7 @@ use dual_rail::{Rails, cut, either, opposite};
 use gate_sets::{Filling, FlaggedRails, NetRails, is_clear, is_constant, is_free};
 
 /// The set of the value alone, which is what a cut with the guard 1 leaves of an unknown.
-fn bound<N: Nodes>(ops: &Ops, nodes: &mut N, value: Ref) -> Result<FlaggedRails, OpFault>
+fn value_set<N: Nodes>(ops: &Ops, nodes: &mut N, value: Ref) -> Result<FlaggedRails, OpFault>
     requires { IsRef (N.store nodes.old) value }
     ensures { (x : Function) → Means (N.store nodes.old) x value
         → Built (negation x ∷ []) (HasFlagged (record { zero = negation x; one = x }))
@@ -34,7 +34,7 @@ fn bound<N: Nodes>(ops: &Ops, nodes: &mut N, value: Ref) -> Result<FlaggedRails,
 }
 
 /// The set behind a cut, of which nothing is known.
-fn narrowed<N: Nodes>(
+fn set_behind_cut<N: Nodes>(
     ops: &Ops,
     nodes: &mut N,
     r: Rails,
@@ -77,9 +77,9 @@ fn cut_once<N: Nodes>(
         return Ok(r);
     }
     if c.guard == Ref::TRUE && is_free(r.rails) {
-        return bound(ops, nodes, c.value);
+        return value_set(ops, nodes, c.value);
     }
-    narrowed(ops, nodes, r.rails, c.guard, c.value)
+    set_behind_cut(ops, nodes, r.rails, c.guard, c.value)
 }
 
 /// The set of a net behind all cuts of it, in order. Cuts of other nets are not looked at.
@@ -134,7 +134,7 @@ fn cut_marked<N: Nodes>(
 }
 
 /// The set with where it has a bit.
-fn completed<N: Nodes>(ops: &Ops, nodes: &mut N, r: FlaggedRails) -> Result<NetRails, OpFault>
+fn with_some_bit<N: Nodes>(ops: &Ops, nodes: &mut N, r: FlaggedRails) -> Result<NetRails, OpFault>
     requires { AreRefs (N.store nodes.old) r.rails }
     ensures { (w : SymbolicSet) → AreFlagged (N.store nodes.old) w r
         → Built (some_bit w ∷ []) (HasNetSet w)
@@ -180,10 +180,10 @@ pub fn cut_net<N: Nodes>(
     let known = is_constant(r);
     let flagged = FlaggedRails { rails: r, known };
     let left = cut_marked(ops, nodes, demands, id, flagged)?;
-    completed(ops, nodes, left)
+    with_some_bit(ops, nodes, left)
 }
 
-/// The same where so much is clear of the set; then nothing is called for a net
+/// The same where so much is known of the set; then nothing is called for a net
 /// without a cut.
 pub fn cut_full<N: Nodes>(
     ops: &Ops,

@@ -7,16 +7,16 @@ ghost use Rattle.net_core.specs.Possible.{is_weakened};
 ghost use Rattle.sym_step.specs.declared.cut.Cut.{Cut as AnCut};
 ghost use Rattle.sym_step.specs.Frame.{is_listed};
 ghost use Rattle.sym_step.specs.Step.{ids_of};
-ghost use Rattle.sym_step.specs.private.Demands.{AreFlaggedNets, AreLinked, HaveFlags, IsNearest, node_at, nodes_of, told_place};
+ghost use Rattle.sym_step.specs.private.Demands.{AreFlaggedNets, AreLinked, HaveFlags, IsNearest, node_at, nodes_of, place_of_cut};
 
 use crate::cut::Cut;
 use std::alloc::{AllocError, Global};
 use std::marker::Model;
 use ste_base::NodeId;
 
-/// Where the cuts of each net stand in a list: a flag for each net that is cut or weakened, the place of its first cut, or
-/// the number of cuts, and for each cut the place of the next one of the same net, or the number of cuts. The place of a net
-/// without a flag says nothing.
+/// Where the cuts of each net stand in a list: a flag for each net that is cut or weakened, the
+/// place of its first cut, or the number of cuts, and for each cut the place of the next one of the
+/// same net, or the number of cuts. The place of a net without a flag says nothing.
 #[derive(Drop)]
 pub struct CutLinks {
     pub is_asked: Vec<bool>,
@@ -24,9 +24,9 @@ pub struct CutLinks {
     pub next: Vec<usize>,
 }
 
-/// What is asked of one time: the cuts, in order, and the weakened nets; the nets of both, the links of the cuts, and a flag
-/// for each weakened net, or none at all where no net is weakened. Contracts see the cuts, the weakened nets, and the number
-/// of nets.
+/// What is asked of one time: the cuts, in order, and the weakened nets; the nets of both, the
+/// links of the cuts, and a flag for each weakened net, or none at all where no net is weakened.
+/// Contracts see the cuts, the weakened nets, and the number of nets.
 #[derive(Drop)]
 pub struct Demands<'a> {
     pub(crate) cuts: &'a [Cut],
@@ -54,10 +54,10 @@ impl<'a> Model for Demands<'a> {
         d.is_asked.now d.is_weak.now d.first.now d.next.now };
 }
 
-/// The place that is told of a net: its own where it has a flag, and else the number of cuts.
-fn told_place(is_asked: &[bool], first: &[usize], count: usize, id: u32) -> usize
+/// The place of the first cut of a net: its own where it has a flag, and else the number of cuts.
+fn place_of_cut(is_asked: &[bool], first: &[usize], count: usize, id: u32) -> usize
     requires { length is_asked.now ≤ length first.now }
-    ensures { result ≡ told_place (slice_index_or is_asked.now id false)
+    ensures { result ≡ place_of_cut (slice_index_or is_asked.now id false)
         (slice_index_or first.now id 0) count }
 {
     match is_asked.get(id as usize) {
@@ -84,7 +84,7 @@ fn cut_at(cuts: &[Cut], place: usize) -> Cut
     cuts[place]
 }
 
-/// The place that is told behind a place.
+/// The place that is noted behind a place.
 fn behind(next: &[usize], place: usize) -> usize
     requires { place < length next.now }
     ensures { result ≡ slice_index_or next.now place 0 }
@@ -135,10 +135,11 @@ impl<'a> Demands<'a> {
     pub fn first(&self, id: u32) -> usize
         ensures { IsNearest self.now.cuts id 0 result }
     {
-        told_place(self.is_asked, self.first, self.cuts.len(), id)
+        place_of_cut(self.is_asked, self.first, self.cuts.len(), id)
     }
 
-    /// The place of the next cut of the net of the one at this place, or the number of cuts where there is none.
+    /// The place of the next cut of the net of the one at this place, or the number of cuts where
+    /// there is none.
     pub fn next(&self, place: usize) -> usize
         requires { place < length self.now.cuts }
         ensures { IsNearest self.now.cuts (node_at self.now.cuts place) (place + 1) result }
@@ -198,7 +199,8 @@ fn flag_weakened(weak: &[NodeId], count: usize, flags: &mut Vec<bool>, first: &m
     }
 }
 
-/// A flag for each weakened net, in this memory where it is that of `nets` flags; no flags at all where no net is weakened.
+/// A flag for each weakened net, in this memory where it is that of `nets` flags; no flags at all
+/// where no net is weakened.
 pub fn weak_flags(
     alloc: Global,
     used: Vec<bool>,
@@ -218,9 +220,10 @@ pub fn weak_flags(
     Ok(flags)
 }
 
-/// The links of these cuts, which are of `nets` nets, with a flag for each weakened net too, in this memory where it fits.
+/// The links of these cuts, which are of `nets` nets, with a flag for each weakened net too, in
+/// this memory where it fits.
 #[tactic(auto, using(crate::proofs::CutLists::begin, crate::proofs::CutLists::turn))]
-pub fn linked(
+pub fn links_of(
     alloc: Global,
     used: CutLinks,
     weak: &[NodeId],
@@ -242,7 +245,7 @@ pub fn linked(
     while at > 0 {
         at -= 1;
         let id = cuts[at].node.0;
-        next[at] = told_place(&is_asked, &first, cuts.len(), id);
+        next[at] = place_of_cut(&is_asked, &first, cuts.len(), id);
         first[id as usize] = at;
         is_asked[id as usize] = true;
     }

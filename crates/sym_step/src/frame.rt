@@ -27,12 +27,14 @@ use net_core::{Gate, Latch, Net};
 use std::alloc::{AllocError, Global};
 use ste_base::{Items, NodeId};
 
-/// What is kept of one time for the next: the set of each net, the list of the nets that were cut or weakened, and marks for
-/// gates and latches that are due; beside them room for the products of a row, and before a first time the sets of the
-/// latches there. In a blank frame all nets have both bits, and all gates and latches are due. Once times go on from one
-/// another it is listed which gates and latches read a net or drive it, and one is due only where an input or its output has
-/// another set than before, or its output is cut or weakened now or was before; any other keeps its output's set. A frame that begins
-/// anew has its lists laid by (`spare`). `vectors` are used again at each time.
+/// What is kept of one time for the next: the set of each net, the list of the nets that were cut
+/// or weakened, and marks for gates and latches that are due; beside them room for the products of
+/// a row, and before a first time the sets of the latches there. In a blank frame all nets have
+/// both bits, and all gates and latches are due. Once times go on from one another it is listed
+/// which gates and latches read a net or drive it, and one is due only where an input or its output
+/// has another set than before, or its output is cut or weakened now or was before; any other keeps
+/// its output's set. A frame that begins anew has its lists put aside (`spare`). `vectors` are used
+/// again at each time.
 #[derive(Drop)]
 pub struct Frame {
     pub(crate) board: Board,
@@ -118,8 +120,9 @@ impl Frame {
         Ok(frame)
     }
 
-    /// This frame before a first time, at which the latches have these sets. What the frame keeps is not evaluated again.
-    pub fn restarted(mut self, first: Items<Rails>) -> Frame
+    /// This frame before a first time, at which the latches have these sets. What the frame keeps
+    /// is not evaluated again.
+    pub fn before_first_time(mut self, first: Items<Rails>) -> Frame
         ensures frame { (s : Store) (net : RawNet) → IsFrame s net self
             → length first ≡ length net.latches → All (AreRefs s) first → IsFrame s net result }
         ensures next { (net : RawNet) → next_of net result ≡ first }
@@ -129,7 +132,7 @@ impl Frame {
     }
 
     /// This frame as one of no time, with its memory and its lists.
-    pub fn forgotten(self, alloc: Global) -> Frame
+    pub fn into_blank(self, alloc: Global) -> Frame
         ensures { (s : Store) (net : RawNet) → IsDiagram s.held s.vars → IsFrame s net self
             → IsFrame s net result }
     {
@@ -238,8 +241,8 @@ fn lists_of(alloc: Global, net: &Compiled, spare: Option<Readers>) -> Result<Rea
     }
 }
 
-/// Lists which gates and latches read a net or drive it, where times go on from one another. In a blank frame all of them
-/// are due, and none is looked for.
+/// Lists which gates and latches read a net or drive it, where times go on from one another. In a
+/// blank frame all of them are due, and none is looked for.
 fn with_lists(alloc: Global, net: &Compiled, frame: &mut Frame) -> Result<(), AllocError>
     ensures frame { OnOk result ((s : Store) → IsFrame s net.now.raw frame.old
         → IsFrame s net.now.raw frame.new × AreReady net.now.raw frame.new) }
@@ -258,7 +261,8 @@ fn with_lists(alloc: Global, net: &Compiled, frame: &mut Frame) -> Result<(), Al
     Ok(())
 }
 
-/// Makes the gates and latches due that drive nets which are cut or weakened now, or were at the time before.
+/// Makes the gates and latches due that drive nets which are cut or weakened now, or were at the
+/// time before.
 pub fn make_due(
     alloc: Global,
     net: &Compiled,
@@ -288,7 +292,7 @@ fn are_full(nets: &[NetRails]) -> bool
     nets.iter().all(|r| r.some == Ref::TRUE)
 }
 
-/// Whether all nets have a bit everywhere; they are looked at only where it is not clear.
+/// Whether all nets have a bit everywhere; they are looked at only where it is not known.
 pub fn knows_full(full: bool, nets: &[NetRails]) -> bool
     requires { IsTrue full → AreFull nets.now }
     ensures { IsTrue result → AreFull nets.now }

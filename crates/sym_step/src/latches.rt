@@ -20,7 +20,8 @@ use net_core::Latch;
 use std::alloc::AllocError;
 use ste_base::NodeId;
 
-/// The set that the output of a latch gets, before any cut of it, and the set that the latch's input had at the time before.
+/// The set that the output of a latch gets, before any cut of it, and the set that the latch's
+/// input had at the time before.
 #[derive(Clone, Copy, Drop)]
 pub struct LatchSet {
     pub output: NodeId,
@@ -28,7 +29,8 @@ pub struct LatchSet {
     pub given: NetRails,
 }
 
-/// The rails of a latch's output before its cuts: those of both bits where it is weakened, and else these.
+/// The rails of a latch's output before its cuts: those of both bits where it is weakened, and else
+/// these.
 fn before_cuts(demands: &Demands, id: u32, r: Rails) -> Rails
     ensures { result ≡ rails_unless (is_weakened (ids_of demands.now.weak) id) r }
 {
@@ -38,9 +40,9 @@ fn before_cuts(demands: &Demands, id: u32, r: Rails) -> Rails
     r
 }
 
-/// The set of a latch that is told which it has; none where nothing is left to do: its output is neither cut nor weakened,
-/// and has the told set already.
-fn told_set(nets: &[NetRails], demands: &Demands, latch: &Latch, told: Rails) -> Option<LatchSet>
+/// The set of a latch, which is to have these rails; none where nothing is left to do: its output
+/// is neither cut nor weakened, and has them already.
+fn given_set(nets: &[NetRails], demands: &Demands, latch: &Latch, told: Rails) -> Option<LatchSet>
     requires over { demands.now.nets ≡ length nets.now }
     requires input { latch.now.input.0 < length nets.now }
     requires output { latch.now.output.0 < length nets.now }
@@ -74,8 +76,9 @@ fn no_sets(used: Vec<LatchSet>) -> Vec<LatchSet>
     none
 }
 
-/// The sets of the latches that do not have theirs yet, where it is told which they have, in this memory.
-fn told_sets(
+/// The sets of the latches that do not have theirs yet, of which each is to have the given rails,
+/// in this memory.
+fn given_sets(
     used: Vec<LatchSet>,
     net: &Compiled,
     demands: &Demands,
@@ -91,26 +94,29 @@ fn told_sets(
     let latches = net.latches();
     let mut sets = no_sets(used);
     for l in 0..latches.len() {
-        if let Some(set) = told_set(nets, demands, &latches[l], told[l]) {
+        if let Some(set) = given_set(nets, demands, &latches[l], told[l]) {
             sets.push(set)?;
         }
     }
     Ok(sets)
 }
 
-/// Whether nothing is left to do for a latch: its output is neither cut nor weakened, and has the set of its input already.
+/// Whether nothing is left to do for a latch: its output is neither cut nor weakened, and has the
+/// set of its input already.
 fn is_copied(nets: &[NetRails], demands: &Demands, latch: &Latch) -> bool
     requires over { demands.now.nets ≡ length nets.now }
     requires input { latch.now.input.0 < length nets.now }
     requires output { latch.now.output.0 < length nets.now }
-    ensures { IsTrue result → IsCopied (nodes_of demands.now.weak demands.now.cuts) nets.now latch.now }
+    ensures { IsTrue result → IsCopied
+        (nodes_of demands.now.weak demands.now.cuts) nets.now latch.now }
 {
     let output = latch.output.0 as usize;
     !demands.is_asked(latch.output.0) && are_same(nets[output], nets[latch.input.0 as usize])
 }
 
-/// The set of a latch of this number, where it is due and something is left to do. Where nothing is, its mark is taken away,
-/// but not without lists, since then no change of its input would bring it back.
+/// The set of a latch of this number, where it is due and something is left to do. Where nothing
+/// is, its mark is taken away, but not without lists, since then no change of its input would bring
+/// it back.
 fn due_set(
     latch: &Latch,
     number: usize,
@@ -135,7 +141,8 @@ fn due_set(
         ⊎ IsCopied (nodes_of demands.now.weak demands.now.cuts) board.old.nets.items latch.now }
     ensures cleared { flag_at board.new.due.flags.items number ≡ false
         → (flag_at board.old.due.flags.items number ≡ false)
-        ⊎ (IsTrue listed × IsCopied (nodes_of demands.now.weak demands.now.cuts) board.old.nets.items latch.now) }
+        ⊎ (IsTrue listed × IsCopied
+        (nodes_of demands.now.weak demands.now.cuts) board.old.nets.items latch.now) }
 {
     if !board.due.is_marked(number) {
         return None;
@@ -154,8 +161,8 @@ fn due_set(
     })
 }
 
-/// The sets of the due latches that do not have theirs yet: those that their inputs have now. The marks of due latches that
-/// have theirs are taken away, where there are lists.
+/// The sets of the due latches that do not have theirs yet: those that their inputs have now. The
+/// marks of due latches that have theirs are taken away, where there are lists.
 fn due_sets(
     used: Vec<LatchSet>,
     net: &Compiled,
@@ -175,13 +182,15 @@ fn due_sets(
     ensures long { length board.new.due.flags.items ≡ length board.old.due.flags.items }
     ensures gates { (k : ℕ) → k < length net.now.raw.gates
         → flag_at board.new.due.flags.items k ≡ flag_at board.old.due.flags.items k }
-    ensures carried { OnOk result (AreCarried net.now.raw (nodes_of demands.now.weak demands.now.cuts) board.old
+    ensures carried { OnOk result (AreCarried net.now.raw
+        (nodes_of demands.now.weak demands.now.cuts) board.old
         → AreCarried net.now.raw (nodes_of demands.now.weak demands.now.cuts) board.new) }
     ensures sets { IfOk result (λ sets.
         AreCarried net.now.raw (nodes_of demands.now.weak demands.now.cuts) board.old
         → AreLatchSets net.now.raw
         (map (input_rails (map bare board.old.nets.items)) net.now.raw.latches)
-        demands.now.weak (nodes_of demands.now.weak demands.now.cuts) board.old.nets.items sets.items) }
+        demands.now.weak (nodes_of demands.now.weak demands.now.cuts) board.old.nets.items
+        sets.items) }
 {
     let gates = net.gates().len();
     let latches = net.latches();
@@ -196,8 +205,10 @@ fn due_sets(
     Ok(sets)
 }
 
-/// The sets of the latches that do not have theirs yet: at a first time those that the frame starts with, which it then has
-/// no longer, and else those that the inputs of the latches have. All are read before any is written, since the input of a latch may be the output of another. They stand in the memory of `used`.
+/// The sets of the latches that do not have theirs yet: at a first time those that the frame starts
+/// with, which it then has no longer, and else those that the inputs of the latches have. All are
+/// read before any is written, since the input of a latch may be the output of another. They stand
+/// in the memory of `used`.
 pub fn latch_sets(
     used: Vec<LatchSet>,
     net: &Compiled,
@@ -224,10 +235,11 @@ pub fn latch_sets(
     ensures sets { IfOk result (λ sets.
         AreCarried net.now.raw (nodes_of demands.now.weak demands.now.cuts) frame.old.board
         → AreLatchSets net.now.raw (next_of net.now.raw frame.old)
-        demands.now.weak (nodes_of demands.now.weak demands.now.cuts) frame.old.board.nets.items sets.items) }
+        demands.now.weak (nodes_of demands.now.weak demands.now.cuts) frame.old.board.nets.items
+        sets.items) }
 {
     match frame.first.take() {
-        Some(told) => told_sets(used, net, demands, &frame.board.nets, told.as_slice()),
+        Some(told) => given_sets(used, net, demands, &frame.board.nets, told.as_slice()),
         None => due_sets(used, net, demands, frame.listed, &mut frame.board),
     }
 }

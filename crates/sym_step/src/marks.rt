@@ -11,10 +11,11 @@ use std::alloc::{AllocError, Global};
 /// The number of places of a block.
 const BLOCK: usize = 64;
 
-/// A mark for each gate, by number, and behind these one for each latch; and an order of the gates, whose places are cut
-/// into blocks of 64, with a word of bits for each block, as are the latches. Where the bit of a place is 0 its gate has no
-/// mark, and where that of a latch is 0 the latch has none, so the next mark is found by words. A gate or latch takes a byte
-/// and a bit, and a gate 8 bytes more.
+/// A mark for each gate, by number, and behind these one for each latch; and an order of the gates,
+/// whose places are cut into blocks of 64, with a word of bits for each block, as are the latches.
+/// Where the bit of a place is 0 its gate has no mark, and where that of a latch is 0 the latch has
+/// none, so the next mark is found by words. A gate or latch takes a byte and a bit, and a gate 8
+/// bytes more.
 #[derive(Drop)]
 pub struct Marks {
     pub(crate) flags: Vec<bool>,
@@ -184,8 +185,8 @@ impl Marks {
         self.words[block] = with_bit(self.words[block], place % BLOCK);
     }
 
-    /// Marks a gate or latch, by number, where there is a mark for it. One that is marked is not looked at further, since
-    /// the bit at its place is 1.
+    /// Marks a gate or latch, by number, where there is a mark for it. One that is marked is not
+    /// looked at further, since the bit at its place is 1.
     pub fn mark(&mut self, number: usize)
         ensures long { length self.new.flags.items ≡ length self.old.flags.items }
         ensures order { self.new.order ≡ self.old.order }
@@ -218,7 +219,8 @@ impl Marks {
         }
     }
 
-    /// The first latch from this one on that has a mark, of so many latches, or their number where there is none.
+    /// The first latch from this one on that has a mark, of so many latches, or their number where
+    /// there is none.
     pub fn next_latch(&self, from: usize, count: usize) -> usize
         requires from { from ≤ count }
         requires count { length self.now.order.items + count ≤ length self.now.flags.items }
@@ -253,7 +255,8 @@ impl Marks {
         end.min(self.order.len())
     }
 
-    /// The first place from this one on in its block of which the bit is 1, or one behind the block where there is none.
+    /// The first place from this one on in its block of which the bit is 1, or one behind the block
+    /// where there is none.
     fn next_in_block(&self, at: usize) -> usize
         requires { at < length self.now.order.items }
         ensures behind { at ≤ result }
@@ -265,7 +268,8 @@ impl Marks {
         block * BLOCK + first_bit(self.words[block], at % BLOCK)
     }
 
-    /// The first place from this one on whose gate has a mark, or the number of gates where there is none.
+    /// The first place from this one on whose gate has a mark, or the number of gates where there
+    /// is none.
     pub fn next(&self, from: usize) -> usize
         requires { from ≤ length self.now.order.items }
         ensures behind { from ≤ result }

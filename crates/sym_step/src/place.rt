@@ -64,7 +64,8 @@ fn driven<N: Nodes>(
     cut_full(ops, nodes, demands, g.output.0, given, filling)
 }
 
-/// The set of a gate's output, where its inputs have these sets. Where the output is weakened, its inputs are not looked at.
+/// The set of a gate's output, where its inputs have these sets. Where the output is weakened, its
+/// inputs are not looked at.
 fn place<N: Nodes>(
     alloc: Global,
     ops: &Ops,
@@ -102,8 +103,8 @@ fn place<N: Nodes>(
     driven(alloc, ops, nodes, net, demands, products, scratch, nets, g)
 }
 
-/// Gives a gate's output its set, where its inputs have these sets; a gate that is not due keeps that of before, and nothing
-/// is called. `number` is the gate's.
+/// Gives a gate's output its set, where its inputs have these sets; a gate that is not due keeps
+/// that of before, and nothing is called. `number` is the gate's.
 fn renew<N: Nodes>(
     alloc: Global,
     ops: &Ops,
@@ -184,7 +185,8 @@ pub fn place_gates<N: Nodes>(
     requires guards { All (λ c. IsRef (N.store nodes.old) c.guard) demands.now.cuts }
     requires values { All (λ c. IsRef (N.store nodes.old) c.value) demands.now.cuts }
     requires over { demands.now.nets ≡ net.now.raw.nets }
-    requires spared { AreSpared (N.store nodes.old) net.now.raw (nodes_of demands.now.weak demands.now.cuts)
+    requires spared { AreSpared (N.store nodes.old) net.now.raw
+        (nodes_of demands.now.weak demands.now.cuts)
         board.old }
     ensures room { OnOk result (length products.new ≡ length products.old) }
     ensures refs { OnOk result (All (AreNetRefs (N.store nodes.new)) board.new.nets.items) }

@@ -9,17 +9,18 @@ use net_core::{Gate, Latch, Source};
 use std::alloc::{AllocError, Global};
 use ste_base::NodeId;
 
-/// A number in the list of a net, and the link to the next slot of this list. A link is 0 at the end of a list, or else one
-/// more than the place of a slot.
+/// A number in the list of a net, and the link to the next slot of this list. A link is 0 at the
+/// end of a list, or else one more than the place of a slot.
 #[derive(Clone, Copy, Drop)]
 pub struct Slot {
     number: u32,
     next: u32,
 }
 
-/// For each net a list of numbers of gates and latches, as of those that read it: a latch's number is that among the
-/// latches, counted on from the number of gates. All lists are chains through one vector of slots, and `heads` has the link to the
-/// first slot of each net's list. Where there are no heads, no net has a number in its list.
+/// For each net a list of numbers of gates and latches, as of those that read it: a latch's number
+/// is that among the latches, counted on from the number of gates. All lists are chains through one
+/// vector of slots, and `heads` has the link to the first slot of each net's list. Where there are
+/// no heads, no net has a number in its list.
 #[derive(Drop)]
 pub struct Readers {
     heads: Vec<u32>,
@@ -49,7 +50,8 @@ impl Readers {
         }
     }
 
-    /// Adds a number to the list of a net. More slots than there are links are refused as too much memory.
+    /// Adds a number to the list of a net. More slots than there are links are refused as too much
+    /// memory.
     fn add(&mut self, id: u32, number: u32) -> Result<(), AllocError>
         requires { id < length self.old.heads.items }
         ensures added { OnOk result (AreAdded self.old self.new) }

@@ -4,7 +4,7 @@
 ghost use Rattle.std.specs.Prelude.{◌≡◌, ◌<◌, ◌∷◌, ℕ, List, All, IsTrue, OnOk, false, length, map};
 ghost use Rattle.std.specs.List.{AllZip};
 ghost use Rattle.dd_nodes.specs.Stores.{IsRef, Keeps};
-ghost use Rattle.net_core.specs.Work.{ArePossibleEach, SymbolicSet, SymbolicCut, after_cuts, cuts_work, some_bit, time_work, uncut};
+ghost use Rattle.net_core.specs.Work.{ArePossibleEach, SymbolicSet, SymbolicCut, after_cuts, cuts_work, some_bit, time_work, set_before_cuts};
 ghost use Rattle.dual_rail.specs.Rail.{AreRefs, AreRails, Built, Whatever};
 ghost use Rattle.sym_step.specs.Step.{IsCutBy, ids_of};
 ghost use Rattle.sym_step.specs.private.Boards.{Follows};
@@ -25,8 +25,9 @@ use gate_sets::{Compiled, NetRails};
 use net_core::Source;
 use ste_base::NodeId;
 
-/// The set of a latch's output behind its cuts, where the latch has the set `r`. Where its input had `r` at the time
-/// before, with where it had a bit, and nothing is asked of the output, nothing is called.
+/// The set of a latch's output behind its cuts, where the latch has the set `r`. Where its input
+/// had `r` at the time before, with where it had a bit, and nothing is asked of the output, nothing
+/// is called.
 fn latch_source<N: Nodes>(
     ops: &Ops,
     nodes: &mut N,
@@ -72,14 +73,16 @@ fn latch_sources<N: Nodes>(
     ensures refs { OnOk result (All (AreNetRefs (N.store nodes.new)) board.new.nets.items) }
     ensures follows { OnOk result (Follows board.old board.new) }
     ensures built { (ls : List SymbolicSet) (ds : List SymbolicCut) (sets : ℕ → SymbolicSet)
-        → AreGiven (N.store nodes.old) net.now.raw demands.now.weak ls sets latches.now board.old.nets.items
+        → AreGiven (N.store nodes.old) net.now.raw demands.now.weak ls sets latches.now
+        board.old.nets.items
         → ArePossibleEach (N.store nodes.old).vars net.now.raw ls (asks demands.now.weak ds) sets
         → AllZip (IsCutBy (N.store nodes.old)) ds demands.now.cuts
         → Built (time_work net.now.raw ls (asks demands.now.weak ds) sets) Whatever
         (N.store nodes.old) (N.store nodes.new) result }
     ensures have { OnOk result (
         (ls : List SymbolicSet) (ds : List SymbolicCut) (sets : ℕ → SymbolicSet)
-        → AreGiven (N.store nodes.old) net.now.raw demands.now.weak ls sets latches.now board.old.nets.items
+        → AreGiven (N.store nodes.old) net.now.raw demands.now.weak ls sets latches.now
+        board.old.nets.items
         → ArePossibleEach (N.store nodes.old).vars net.now.raw ls (asks demands.now.weak ds) sets
         → AllZip (IsCutBy (N.store nodes.old)) ds demands.now.cuts
         → HaveLatches net.now.raw sets (N.store nodes.new)
@@ -96,7 +99,8 @@ fn latch_sources<N: Nodes>(
     Ok(())
 }
 
-/// The set of a net behind its cuts, where nothing drives it. Any other net keeps the set that it has.
+/// The set of a net behind its cuts, where nothing drives it. Any other net keeps the set that it
+/// has.
 fn open_source<N: Nodes>(
     ops: &Ops,
     nodes: &mut N,
@@ -112,9 +116,11 @@ fn open_source<N: Nodes>(
     requires now { AreNetRefs (N.store nodes.old) now }
     ensures { (ls : List SymbolicSet) (ds : List SymbolicCut) (sets : ℕ → SymbolicSet)
         → AllZip (IsCutBy (N.store nodes.old)) ds demands.now.cuts
-        → Built (some_bit (after_cuts ds (uncut net.now.raw (ids_of demands.now.weak) ls sets) id)
-        ∷ cuts_work ds (uncut net.now.raw (ids_of demands.now.weak) ls sets))
-        (IsOpened net.now.raw (after_cuts ds (uncut net.now.raw (ids_of demands.now.weak) ls sets) id)
+        → Built (some_bit (after_cuts ds
+        (set_before_cuts net.now.raw (ids_of demands.now.weak) ls sets) id)
+        ∷ cuts_work ds (set_before_cuts net.now.raw (ids_of demands.now.weak) ls sets))
+        (IsOpened net.now.raw (after_cuts ds
+        (set_before_cuts net.now.raw (ids_of demands.now.weak) ls sets) id)
         (N.store nodes.old) now id)
         (N.store nodes.old) (N.store nodes.new) result }
 {
@@ -184,8 +190,8 @@ fn are_same_nets(a: &[NodeId], b: &[NodeId]) -> bool
     true
 }
 
-/// Of the nets of which something was asked at the time before, those that are to be looked at beside the ones of now: none
-/// where they are the same.
+/// Of the nets of which something was asked at the time before, those that are to be looked at
+/// beside the ones of now: none where they are the same.
 fn left_open<'a>(before: &'a [NodeId], asked: &[NodeId]) -> &'a [NodeId]
     ensures nodes { (nets : ℕ) → All (λ node. node.0 < nets) before.now
         → All (λ node. node.0 < nets) result.now }
@@ -198,9 +204,9 @@ fn left_open<'a>(before: &'a [NodeId], asked: &[NodeId]) -> &'a [NodeId]
     before
 }
 
-/// Gives all nets that no gate drives their sets. `latches` are the sets of the latches that do not have theirs yet, and
-/// `before` are the nets that were cut or weakened at the time before; a net that nothing drives, and that is not among them
-/// nor cut now, has both bits already.
+/// Gives all nets that no gate drives their sets. `latches` are the sets of the latches that do not
+/// have theirs yet, and `before` are the nets that were cut or weakened at the time before; a net
+/// that nothing drives, and that is not among them nor cut now, has both bits already.
 pub fn sources<N: Nodes>(
     ops: &Ops,
     nodes: &mut N,
@@ -222,14 +228,16 @@ pub fn sources<N: Nodes>(
     ensures refs { OnOk result (All (AreNetRefs (N.store nodes.new)) board.new.nets.items) }
     ensures follows { OnOk result (Follows board.old board.new) }
     ensures built { (ls : List SymbolicSet) (ds : List SymbolicCut) (sets : ℕ → SymbolicSet)
-        → AreGiven (N.store nodes.old) net.now.raw demands.now.weak ls sets latches.now board.old.nets.items
+        → AreGiven (N.store nodes.old) net.now.raw demands.now.weak ls sets latches.now
+        board.old.nets.items
         → ArePossibleEach (N.store nodes.old).vars net.now.raw ls (asks demands.now.weak ds) sets
         → AllZip (IsCutBy (N.store nodes.old)) ds demands.now.cuts
         → Built (time_work net.now.raw ls (asks demands.now.weak ds) sets) Whatever
         (N.store nodes.old) (N.store nodes.new) result }
     ensures have { OnOk result (
         (ls : List SymbolicSet) (ds : List SymbolicCut) (sets : ℕ → SymbolicSet)
-        → AreGiven (N.store nodes.old) net.now.raw demands.now.weak ls sets latches.now board.old.nets.items
+        → AreGiven (N.store nodes.old) net.now.raw demands.now.weak ls sets latches.now
+        board.old.nets.items
         → ArePossibleEach (N.store nodes.old).vars net.now.raw ls (asks demands.now.weak ds) sets
         → AllZip (IsCutBy (N.store nodes.old)) ds demands.now.cuts
         → HaveSources net.now.raw sets (N.store nodes.new) net.now.raw.nets board.new.nets.items) }

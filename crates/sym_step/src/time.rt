@@ -6,12 +6,13 @@
 
 ghost use Rattle.std.specs.Prelude.{◌≡◌, ◌<◌, ◌∷◌, ◌++◌, [], ◌≤◌, ℕ, List, All, IfOk, None, OnOk, length, map};
 ghost use Rattle.std.specs.List.{AllZip};
-ghost use Rattle.dd_nodes.specs.Diagram.{Function, IsDiagram};
+ghost use Rattle.ste_base.specs.Functions.{Function};
+ghost use Rattle.dd_nodes.specs.Diagram.{IsDiagram};
 ghost use Rattle.dd_nodes.specs.Stores.{Store, IsRef, Keeps, Means};
 ghost use Rattle.net_core.specs.Flat.{IsSettledOrder};
 ghost use Rattle.net_core.specs.Work.{ArePossibleEach, SymbolicSet, SymbolicAsked, disjunction, no_bit, some_bit, sum, sums, time_work};
 ghost use Rattle.dual_rail.specs.Rail.{AreRefs, AreRails, Built, HasFunction, Whatever};
-ghost use Rattle.sym_step.specs.Step.{IsCutOf, IsCutBy, IsPossibleStep, IsStep, ids_of};
+ghost use Rattle.sym_step.specs.Step.{ForPossible, IsCutOf, IsCutBy, IsPossibleStep, IsStep, ids_of};
 ghost use Rattle.gate_sets.specs.Lists.{rows_of};
 ghost use Rattle.sym_step.specs.private.Boards.{Follows};
 ghost use Rattle.sym_step.specs.Frame.{AreOpen, IsFrame, input_rails, next_of, nets_of, step_of};
@@ -23,7 +24,7 @@ ghost use Rattle.sym_step.specs.private.Parts.{HaveNets};
 
 use crate::board::Board;
 use crate::cut::Cut;
-use crate::demands::{CutLinks, Demands, linked, weak_flags};
+use crate::demands::{CutLinks, Demands, links_of, weak_flags};
 use crate::frame::{Frame, asked_nets, knows_full, make_due, own_sets};
 use crate::latches::{LatchSet, latch_sets};
 use crate::made::Step;
@@ -39,8 +40,8 @@ use std::alloc::{AllocError, Global};
 use std::mem::replace;
 use ste_base::{Items, NodeId};
 
-/// The sum so far with where one more net is empty. `some` is where it has a bit; nothing is called where that is
-/// everywhere.
+/// The sum so far with where one more net is empty. `some` is where it has a bit; nothing is called
+/// where that is everywhere.
 fn add_empty<N: Nodes>(ops: &Ops, nodes: &mut N, sum: Ref, some: Ref) -> Result<Ref, OpFault>
     requires sum { IsRef (N.store nodes.old) sum }
     requires some { IsRef (N.store nodes.old) some }
@@ -85,7 +86,7 @@ fn rails_of(alloc: Global, nets: &[NetRails]) -> Result<Items<Rails>, AllocError
 }
 
 /// What a frame has of its time, as a step.
-fn finished(
+fn step_in_frame(
     alloc: Global,
     net: &Compiled,
     frame: &Frame,
@@ -106,8 +107,9 @@ fn finished(
     })
 }
 
-/// Gives all nets their sets: first those that no gate drives, and then the gates' outputs. `latches` are the sets of the
-/// latches that do not have theirs yet, and `before` are the nets that were cut or weakened at the time before.
+/// Gives all nets their sets: first those that no gate drives, and then the gates' outputs.
+/// `latches` are the sets of the latches that do not have theirs yet, and `before` are the nets
+/// that were cut or weakened at the time before.
 fn set_nets<N: Nodes>(
     alloc: Global,
     ops: &Ops,
@@ -137,7 +139,8 @@ fn set_nets<N: Nodes>(
     ensures refs { OnOk result (All (AreNetRefs (N.store nodes.new)) board.new.nets.items) }
     ensures follows { OnOk result (Follows board.old board.new) }
     ensures built { (ls : List SymbolicSet) (asked : SymbolicAsked) (sets : ℕ → SymbolicSet)
-        → AreGiven (N.store nodes.old) net.now.raw demands.now.weak ls sets latches.now board.old.nets.items
+        → AreGiven (N.store nodes.old) net.now.raw demands.now.weak ls sets latches.now
+        board.old.nets.items
         → AllZip (IsCutBy (N.store nodes.old)) asked.cuts demands.now.cuts
         → asked.weak ≡ ids_of demands.now.weak
         → ArePossibleEach (N.store nodes.old).vars net.now.raw ls asked sets
@@ -145,7 +148,8 @@ fn set_nets<N: Nodes>(
         (N.store nodes.old) (N.store nodes.new) result }
     ensures have { OnOk result (
         (ls : List SymbolicSet) (asked : SymbolicAsked) (sets : ℕ → SymbolicSet)
-        → AreGiven (N.store nodes.old) net.now.raw demands.now.weak ls sets latches.now board.old.nets.items
+        → AreGiven (N.store nodes.old) net.now.raw demands.now.weak ls sets latches.now
+        board.old.nets.items
         → AllZip (IsCutBy (N.store nodes.old)) asked.cuts demands.now.cuts
         → asked.weak ≡ ids_of demands.now.weak
         → ArePossibleEach (N.store nodes.old).vars net.now.raw ls asked sets
@@ -155,8 +159,9 @@ fn set_nets<N: Nodes>(
     place_gates(alloc, ops, nodes, net, demands, products, scratch, board)
 }
 
-/// Begins a time: the gates and latches whose outputs are cut or weakened now or were before are due, and the result is the sets of the
-/// latches that do not have theirs yet, in the memory of `used`. The frame is then no longer before a first time.
+/// Begins a time: the gates and latches whose outputs are cut or weakened now or were before are
+/// due, and the result is the sets of the latches that do not have theirs yet, in the memory of
+/// `used`. The frame is then no longer before a first time.
 fn begin_time(
     alloc: Global,
     net: &Compiled,
@@ -184,7 +189,8 @@ fn begin_time(
     latch_sets(used, net, demands, frame)
 }
 
-/// Gives all nets of a frame their sets, with these vectors. The marks of latches stay for the next time.
+/// Gives all nets of a frame their sets, with these vectors. The marks of latches stay for the next
+/// time.
 fn renew_with<N: Nodes>(
     alloc: Global,
     ops: &Ops,
@@ -200,23 +206,17 @@ fn renew_with<N: Nodes>(
     requires frame { IsFrame (N.store nodes.old) net.now.raw frame.old }
     ensures frame { OnOk result (IsFrame (N.store nodes.new) net.now.raw frame.new) }
     ensures first { OnOk result (frame.new.first ≡ None) }
-    ensures built { (ls : List SymbolicSet) (asked : SymbolicAsked) (sets : ℕ → SymbolicSet)
-        → AllZip (AreRails (N.store nodes.old)) ls (next_of net.now.raw frame.old)
-        → AllZip (IsCutBy (N.store nodes.old)) asked.cuts cuts.now
-        → asked.weak ≡ ids_of weak.now
-        → ArePossibleEach (N.store nodes.old).vars net.now.raw ls asked sets
-        → Built (time_work net.now.raw ls asked sets) Whatever
-        (N.store nodes.old) (N.store nodes.new) result }
-    ensures have { OnOk result (
-        (ls : List SymbolicSet) (asked : SymbolicAsked) (sets : ℕ → SymbolicSet)
-        → AllZip (AreRails (N.store nodes.old)) ls (next_of net.now.raw frame.old)
-        → AllZip (IsCutBy (N.store nodes.old)) asked.cuts cuts.now
-        → asked.weak ≡ ids_of weak.now
-        → ArePossibleEach (N.store nodes.old).vars net.now.raw ls asked sets
-        → HaveNets net.now.raw sets (N.store nodes.new) frame.new.board.nets.items) }
+    ensures built { ForPossible (N.store nodes.old) net.now.raw
+        (next_of net.now.raw frame.old) weak.now cuts.now
+        (λ ls asked sets. Built (time_work net.now.raw ls asked sets) Whatever
+        (N.store nodes.old) (N.store nodes.new) result) }
+    ensures have { OnOk result (ForPossible (N.store nodes.old) net.now.raw
+        (next_of net.now.raw frame.old) weak.now cuts.now
+        (λ ls asked sets. HaveNets net.now.raw sets
+        (N.store nodes.new) frame.new.board.nets.items)) }
 {
     let links = replace(&mut vectors.links, CutLinks::none(alloc));
-    let links = linked(alloc, links, weak, cuts, net.nets())?;
+    let links = links_of(alloc, links, weak, cuts, net.nets())?;
     let flags = replace(&mut vectors.weak, Vec::new(alloc));
     let flags = weak_flags(alloc, flags, weak, net.nets())?;
     let asked = asked_nets(replace(&mut vectors.asked, Vec::new(alloc)), weak, cuts)?;
@@ -268,20 +268,14 @@ fn renew_frame<N: Nodes>(
     requires frame { IsFrame (N.store nodes.old) net.now.raw frame.old }
     ensures frame { OnOk result (IsFrame (N.store nodes.new) net.now.raw frame.new) }
     ensures first { OnOk result (frame.new.first ≡ None) }
-    ensures built { (ls : List SymbolicSet) (asked : SymbolicAsked) (sets : ℕ → SymbolicSet)
-        → AllZip (AreRails (N.store nodes.old)) ls (next_of net.now.raw frame.old)
-        → AllZip (IsCutBy (N.store nodes.old)) asked.cuts cuts.now
-        → asked.weak ≡ ids_of weak.now
-        → ArePossibleEach (N.store nodes.old).vars net.now.raw ls asked sets
-        → Built (time_work net.now.raw ls asked sets) Whatever
-        (N.store nodes.old) (N.store nodes.new) result }
-    ensures have { OnOk result (
-        (ls : List SymbolicSet) (asked : SymbolicAsked) (sets : ℕ → SymbolicSet)
-        → AllZip (AreRails (N.store nodes.old)) ls (next_of net.now.raw frame.old)
-        → AllZip (IsCutBy (N.store nodes.old)) asked.cuts cuts.now
-        → asked.weak ≡ ids_of weak.now
-        → ArePossibleEach (N.store nodes.old).vars net.now.raw ls asked sets
-        → HaveNets net.now.raw sets (N.store nodes.new) frame.new.board.nets.items) }
+    ensures built { ForPossible (N.store nodes.old) net.now.raw
+        (next_of net.now.raw frame.old) weak.now cuts.now
+        (λ ls asked sets. Built (time_work net.now.raw ls asked sets) Whatever
+        (N.store nodes.old) (N.store nodes.new) result) }
+    ensures have { OnOk result (ForPossible (N.store nodes.old) net.now.raw
+        (next_of net.now.raw frame.old) weak.now cuts.now
+        (λ ls asked sets. HaveNets net.now.raw sets
+        (N.store nodes.new) frame.new.board.nets.items)) }
 {
     let mut vectors = replace(&mut frame.vectors, Vectors::none(alloc));
     renew_with(alloc, ops, nodes, net, weak, cuts, &mut vectors, frame)?;
@@ -289,8 +283,8 @@ fn renew_frame<N: Nodes>(
     Ok(())
 }
 
-/// The sets of one time in the frame, and where some net is empty, by the work functions of one time. The frame is then no
-/// longer before a first time.
+/// The sets of one time in the frame, and where some net is empty, by the work functions of one
+/// time. The frame is then no longer before a first time.
 fn time_at<N: Nodes>(
     alloc: Global,
     ops: &Ops,
@@ -305,14 +299,11 @@ fn time_at<N: Nodes>(
     requires frame { IsFrame (N.store nodes.old) net.now.raw frame.old }
     ensures frame { OnOk result (IsFrame (N.store nodes.new) net.now.raw frame.new) }
     ensures first { OnOk result (frame.new.first ≡ None) }
-    ensures built { (ls : List SymbolicSet) (asked : SymbolicAsked) (sets : ℕ → SymbolicSet)
-        → AllZip (AreRails (N.store nodes.old)) ls (next_of net.now.raw frame.old)
-        → AllZip (IsCutBy (N.store nodes.old)) asked.cuts cuts.now
-        → asked.weak ≡ ids_of weak.now
-        → ArePossibleEach (N.store nodes.old).vars net.now.raw ls asked sets
-        → Built (time_work net.now.raw ls asked sets)
+    ensures built { ForPossible (N.store nodes.old) net.now.raw
+        (next_of net.now.raw frame.old) weak.now cuts.now
+        (λ ls asked sets. Built (time_work net.now.raw ls asked sets)
         (λ t r. IsStep net.now.raw sets t (step_of net.now.raw frame.new r))
-        (N.store nodes.old) (N.store nodes.new) result }
+        (N.store nodes.old) (N.store nodes.new) result) }
 {
     renew_frame(alloc, ops, nodes, net, weak, cuts, frame)?;
     frame.board.full = knows_full(frame.board.full, &frame.board.nets);
@@ -340,26 +331,22 @@ fn made_at<N: Nodes>(
     requires cuts { All (IsCutOf (N.store nodes.old) net.now.raw) cuts.now }
     requires frame { IsFrame (N.store nodes.old) net.now.raw frame.old }
     ensures frame { OnOk result (IsFrame (N.store nodes.new) net.now.raw frame.new) }
-    ensures built { (ls : List SymbolicSet) (asked : SymbolicAsked) (sets : ℕ → SymbolicSet)
-        → AllZip (AreRails (N.store nodes.old)) ls latches.now
-        → AllZip (IsCutBy (N.store nodes.old)) asked.cuts cuts.now
-        → asked.weak ≡ ids_of weak.now
-        → ArePossibleEach (N.store nodes.old).vars net.now.raw ls asked sets
-        → Built (time_work net.now.raw ls asked sets) (IsStep net.now.raw sets)
-        (N.store nodes.old) (N.store nodes.new) result }
+    ensures built { ForPossible (N.store nodes.old) net.now.raw latches.now weak.now cuts.now
+        (λ ls asked sets. Built (time_work net.now.raw ls asked sets) (IsStep net.now.raw sets)
+        (N.store nodes.old) (N.store nodes.new) result) }
 {
     frame.first = Some(Items::from(latches.to_vec(alloc)?));
     let contradictory = time_at(alloc, ops, nodes, net, weak, cuts, frame)?;
-    let made = finished(alloc, net, frame, contradictory)?;
+    let made = step_in_frame(alloc, net, frame, contradictory)?;
     Ok(made)
 }
 
-/// The possible sets of one time for every assignment at once, left in the frame, from what was kept of the time before:
-/// the result is where some set is empty. The latches have the sets of their inputs at the time before, or at a first time
-/// those that the frame starts with. `rows` are those of the net, and it is asked that the nets of
-/// `weak` are weakened, and cut by `cuts`. `StepsOut` comes only where all
-/// steps are spent and a node of the work functions of this time is not held; after any error what was held stays, and the
-/// frame is not to be used.
+/// The possible sets of one time for every assignment at once, left in the frame, from what was
+/// kept of the time before: the result is where some set is empty. The latches have the sets of
+/// their inputs at the time before, or at a first time those that the frame starts with. `rows` are
+/// those of the net, and it is asked that the nets of `weak` are weakened, and cut by `cuts`.
+/// `StepsOut` comes only where all steps are spent and a node of the work functions of this time is
+/// not held; after any error what was held stays, and the frame is not to be used.
 pub fn renew<N: Nodes>(
     alloc: Global,
     ops: &Ops,
@@ -376,24 +363,23 @@ pub fn renew<N: Nodes>(
     requires frame { IsFrame (N.store nodes.old) net.now.raw frame.old }
     ensures keeps { Keeps (N.store nodes.old) (N.store nodes.new) }
     ensures ref_of { IfOk result (λ r. IsRef (N.store nodes.new) r) }
-    ensures built { (ls : List SymbolicSet) (asked : SymbolicAsked) (sets : ℕ → SymbolicSet)
-        → AllZip (AreRails (N.store nodes.old)) ls (next_of net.now.raw frame.old)
-        → AllZip (IsCutBy (N.store nodes.old)) asked.cuts cuts.now
-        → asked.weak ≡ ids_of weak.now
-        → ArePossibleEach (N.store nodes.old).vars net.now.raw ls asked sets
-        → Built (time_work net.now.raw ls asked sets)
+    ensures built { ForPossible (N.store nodes.old) net.now.raw
+        (next_of net.now.raw frame.old) weak.now cuts.now
+        (λ ls asked sets. Built (time_work net.now.raw ls asked sets)
         (λ t r. IsStep net.now.raw sets t (step_of net.now.raw frame.new r))
-        (N.store nodes.old) (N.store nodes.new) result }
+        (N.store nodes.old) (N.store nodes.new) result) }
     ensures frame { OnOk result (IsFrame (N.store nodes.new) net.now.raw frame.new) }
 {
     let compiled = Compiled { net, rows };
     time_at(alloc, ops, nodes, &compiled, weak, cuts, frame)
 }
 
-/// The possible sets of one time for every assignment at once, where some set is empty, and the next latch sets, from
-/// what was kept of the time before; the frame then keeps this time. `rows` are those of the net, `latches` are the
-/// latches' sets, and it is asked that the nets of `weak` are weakened, and cut by `cuts`. `StepsOut` comes only where all steps are spent and a node of the work
-/// functions of this time is not held; after any error what was held stays, and the frame is not to be used.
+/// The possible sets of one time for every assignment at once, where some set is empty, and the
+/// next latch sets, from what was kept of the time before; the frame then keeps this time. `rows`
+/// are those of the net, `latches` are the latches' sets, and it is asked that the nets of `weak`
+/// are weakened, and cut by `cuts`. `StepsOut` comes only where all steps are spent and a node of
+/// the work functions of this time is not held; after any error what was held stays, and the frame
+/// is not to be used.
 pub fn advance<N: Nodes>(
     alloc: Global,
     ops: &Ops,
@@ -416,23 +402,20 @@ pub fn advance<N: Nodes>(
         × IsRef (N.store nodes.new) r.contradictory × All (AreRefs (N.store nodes.new)) r.next) }
     ensures possible { IfOk result (λ r. IsPossibleStep net.now.raw latches.now weak.now cuts.now
         (N.store nodes.old) (N.store nodes.new) r) }
-    ensures built { (ls : List SymbolicSet) (asked : SymbolicAsked) (sets : ℕ → SymbolicSet)
-        → AllZip (AreRails (N.store nodes.old)) ls latches.now
-        → AllZip (IsCutBy (N.store nodes.old)) asked.cuts cuts.now
-        → asked.weak ≡ ids_of weak.now
-        → ArePossibleEach (N.store nodes.old).vars net.now.raw ls asked sets
-        → Built (time_work net.now.raw ls asked sets) (IsStep net.now.raw sets)
-        (N.store nodes.old) (N.store nodes.new) result }
+    ensures built { ForPossible (N.store nodes.old) net.now.raw latches.now weak.now cuts.now
+        (λ ls asked sets. Built (time_work net.now.raw ls asked sets) (IsStep net.now.raw sets)
+        (N.store nodes.old) (N.store nodes.new) result) }
     ensures frame { OnOk result (IsFrame (N.store nodes.new) net.now.raw frame.new) }
 {
     let compiled = Compiled { net, rows };
     made_at(alloc, ops, nodes, &compiled, latches, weak, cuts, frame)
 }
 
-/// The possible sets of one time for every assignment at once, where some set is empty, and the next latch sets. `rows`
-/// are those of the net, `latches` are the latches' sets, and it is asked that the nets of `weak` are
-/// weakened, and cut by `cuts`. `StepsOut` comes only where all steps
-/// are spent and a node of the work functions of this time is not held; after any error what was held stays.
+/// The possible sets of one time for every assignment at once, where some set is empty, and the
+/// next latch sets. `rows` are those of the net, `latches` are the latches' sets, and it is asked
+/// that the nets of `weak` are weakened, and cut by `cuts`. `StepsOut` comes only where all steps
+/// are spent and a node of the work functions of this time is not held; after any error what was
+/// held stays.
 pub fn step<N: Nodes>(
     alloc: Global,
     ops: &Ops,
@@ -453,13 +436,9 @@ pub fn step<N: Nodes>(
         × IsRef (N.store nodes.new) r.contradictory × All (AreRefs (N.store nodes.new)) r.next) }
     ensures possible { IfOk result (λ r. IsPossibleStep net.now.raw latches.now weak.now cuts.now
         (N.store nodes.old) (N.store nodes.new) r) }
-    ensures built { (ls : List SymbolicSet) (asked : SymbolicAsked) (sets : ℕ → SymbolicSet)
-        → AllZip (AreRails (N.store nodes.old)) ls latches.now
-        → AllZip (IsCutBy (N.store nodes.old)) asked.cuts cuts.now
-        → asked.weak ≡ ids_of weak.now
-        → ArePossibleEach (N.store nodes.old).vars net.now.raw ls asked sets
-        → Built (time_work net.now.raw ls asked sets) (IsStep net.now.raw sets)
-        (N.store nodes.old) (N.store nodes.new) result }
+    ensures built { ForPossible (N.store nodes.old) net.now.raw latches.now weak.now cuts.now
+        (λ ls asked sets. Built (time_work net.now.raw ls asked sets) (IsStep net.now.raw sets)
+        (N.store nodes.old) (N.store nodes.new) result) }
 {
     let mut frame = Frame::blank(alloc, net)?;
     advance(

@@ -6,8 +6,9 @@ use gate_sets::Scratch;
 use std::alloc::Global;
 use ste_base::NodeId;
 
-/// Vectors that one time fills and the next one fills again, so that a time takes no memory: where the cuts of each net stand,
-/// nets, flags of weakened nets, sets of latches, and what the recursion for a gate takes. What they hold between times says nothing.
+/// Vectors that one time fills and the next one fills again, so that a time takes no memory: where
+/// the cuts of each net stand, nets, flags of weakened nets, sets of latches, and what the
+/// recursion for a gate takes. What they hold between times says nothing.
 #[derive(Drop)]
 pub struct Vectors {
     pub links: CutLinks,

@@ -1,5 +1,5 @@
-//! The sets of two time steps of small nets, under each assignment of two variables, against the verdicts of the plain
-//! checker on the claim that a net has 1.
+//! The sets of two time steps of small nets, under each assignment of two variables, against the
+//! verdicts of the plain checker on the claim that a net has 1.
 
 ghost use Rattle.std.specs.Prelude.{◌≡◌, ◌≤◌, ◌<◌, ℕ, All, IfOk, IsTrue, length, map, nat_le, OnOk};
 ghost use Rattle.std.specs.List.{list_all};
@@ -238,7 +238,7 @@ fn unknowns(alloc: Global, latches: usize) -> Result<Vec<Rails>, AllocError>
     Ok(sets)
 }
 
-/// One step; an error where nodes are wanting.
+/// One step; an error where there are too few nodes.
 fn step_of<N: Nodes>(
     alloc: Global,
     ops: &Ops,
@@ -311,7 +311,8 @@ fn table_without_cuts<N: Nodes>(
     Ok(table_of(alloc, nodes, then.nets.as_slice())?)
 }
 
-/// The sets of a step under each assignment, and those of the step behind it, where nothing is asked.
+/// The sets of a step under each assignment, and those of the step behind it, where nothing is
+/// asked.
 fn tables_after<N: Nodes>(
     alloc: Global,
     ops: &Ops,
@@ -486,7 +487,8 @@ fn has_empty(sets: &[BitSet]) -> bool {
     sets.iter().any(|set| !set.zero && !set.one)
 }
 
-/// The verdict that these sets of all nets give on the same claim, where it may be that some net is empty at some time.
+/// The verdict that these sets of all nets give on the same claim, where it may be that some net is
+/// empty at some time.
 fn wanted(sets: &[BitSet], is_vacuous: bool, id: usize) -> Verdict {
     if is_vacuous {
         return Verdict::Vacuous;
@@ -779,7 +781,7 @@ fn steps_agree_with_the_plain_checker(rt: HostRuntime) -> Result<(), Fail> {
     Ok(())
 }
 
-/// The step from what was kept of the step before; an error where nodes are wanting.
+/// The step from what was kept of the step before; an error where there are too few nodes.
 fn advance_of<N: Nodes>(
     alloc: Global,
     ops: &Ops,
@@ -875,8 +877,8 @@ fn are_one(one: &Step, other: &Step) -> bool {
         && one.contradictory == other.contradictory
 }
 
-/// Whether steps that go on from one another give what steps of their own give, over five times at which the cuts and the
-/// weakened nets come and go.
+/// Whether steps that go on from one another give what steps of their own give, over five times at
+/// which the cuts and the weakened nets come and go.
 fn frames_with<N: Nodes>(
     alloc: Global,
     ops: &Ops,
@@ -988,8 +990,8 @@ const COME_AND_GO: Spans = &[(0, 1), (2, 4), (5, MORE_TIMES)];
 
 const WEAKENED: Spans = &[(0, 2), (3, MORE_TIMES)];
 
-/// Renews a frame; an error where nodes are wanting.
-fn renewed<N: Nodes>(
+/// Renews a frame; an error where there are too few nodes.
+fn renew_frame<N: Nodes>(
     alloc: Global,
     ops: &Ops,
     nodes: &mut N,
@@ -1057,7 +1059,7 @@ fn tables_renewed<N: Nodes>(
     let mut frame = Frame::blank(alloc, net)?;
     let mut tables = Vec::new(alloc);
     for time in 0..times {
-        renewed(
+        renew_frame(
             alloc,
             ops,
             nodes,
@@ -1109,7 +1111,8 @@ fn is_empty_once(tables: &[Vec<Vec<BitSet>>], number: usize) -> Result<bool, Fai
     Ok(false)
 }
 
-/// Whether the tables under the assignment of this number agree with the plain checker, net by net, at each time.
+/// Whether the tables under the assignment of this number agree with the plain checker, net by net,
+/// at each time.
 fn times_agree(
     alloc: Global,
     net: &Net,
@@ -1140,8 +1143,8 @@ fn times_agree(
     Ok(true)
 }
 
-/// Whether a frame that goes on agrees with the plain checker, net by net, at each time, where cuts and weakened nets come
-/// and go.
+/// Whether a frame that goes on agrees with the plain checker, net by net, at each time, where cuts
+/// and weakened nets come and go.
 fn renew_agrees(
     alloc: Global,
     net: &Net,
@@ -1218,7 +1221,8 @@ fn drawn(seed: &mut u32) -> u8 {
     (*seed >> 25) as u8
 }
 
-/// A net that is drawn: inputs `a` and `b`, latches `c` and `d`, and gates `e` to `h` of two inputs each.
+/// A net that is drawn: inputs `a` and `b`, latches `c` and `d`, and gates `e` to `h` of two inputs
+/// each.
 fn drawn_text(alloc: Global, seed: &mut u32) -> Result<Vec<u8>, AllocError> {
     let mut text = ".model r\n.inputs a b\n.outputs h\n"
         .as_bytes()
@@ -1294,7 +1298,8 @@ fn drawn_weak(alloc: Global, net: &Net, seed: &mut u32) -> Result<Vec<NodeId>, A
     Ok(nodes)
 }
 
-/// Whether a frame agrees with the plain checker on a net, with what is asked and weakened, that are drawn.
+/// Whether a frame agrees with the plain checker on a net, with what is asked and weakened, that
+/// are drawn.
 fn drawn_agrees(alloc: Global, seed: &mut u32) -> Result<bool, Fail> {
     let text = drawn_text(alloc, seed)?;
     if text.len() > 10000 {
@@ -1318,8 +1323,8 @@ fn drawn_nets_with_weakened_nets_agree_with_the_plain_checker(rt: HostRuntime) -
     Ok(())
 }
 
-/// A model of one gate of eight inputs with more than a hundred rows, none with a `-`: the output is 1 where one of `c` and
-/// `f` is 1, and where both are and `h` is.
+/// A model of one gate of eight inputs with more than a hundred rows, none with a `-`: the output
+/// is 1 where one of `c` and `f` is 1, and where both are and `h` is.
 fn long_text(alloc: Global) -> Result<Vec<u8>, AllocError> {
     let head = ".model m\n.inputs a b c d e f g h\n.outputs y\n.names a b c d e f g h y\n";
     let mut text = head.as_bytes().to_vec(alloc)?;
@@ -1336,8 +1341,8 @@ fn long_text(alloc: Global) -> Result<Vec<u8>, AllocError> {
     Ok(text)
 }
 
-/// What is asked of its inputs: variables in the order of the inputs, in the other order, one under a guard, one of both
-/// inputs, and constants beside one.
+/// What is asked of its inputs: variables in the order of the inputs, in the other order, one under
+/// a guard, one of both inputs, and constants beside one.
 const ASKED_OF_MANY: &[&[(&str, Bit, Bit)]] = &[
     &[("c", Bit::One, Bit::P), ("f", Bit::One, Bit::Q)],
     &[("c", Bit::One, Bit::Q), ("f", Bit::One, Bit::P)],
@@ -1364,7 +1369,8 @@ fn long_lists_of_rows_agree_with_the_plain_checker(rt: HostRuntime) -> Result<()
     Ok(())
 }
 
-/// Gates of three to six inputs, one behind the others: a choice of four by two, and others with on-rows and off-rows.
+/// Gates of three to six inputs, one behind the others: a choice of four by two, and others with
+/// on-rows and off-rows.
 const FEW: &str =
     ".model few\n.inputs s t a b c d\n.outputs v\n.names s t a b c d y\n001--- 1\n01-1-- 1\n10--1- 1\n11---1 1\n.names a s b t z\n0011 0\n1-0- 0\n.names s a b c t w\n11--- 1\n1-1-1 1\n-1-11 1\n0000- 1\n.names y z w v\n000 1\n011 1\n101 1\n110 1\n.end\n";
 
@@ -1500,7 +1506,8 @@ fn wide_sets(alloc: Global, first: Bit, later: Bit) -> Result<Vec<BitSet>, Fail>
 
 #[test]
 fn an_and_of_a_thousand_nets_is_0_where_one_is(rt: HostRuntime) -> Result<(), Fail> {
-    // p is asked where q is, q where 1 is; the last net is unknown: so the output may be 1 where both are
+    // p is asked where q is, q where 1 is; the last net is unknown: so the output may be 1 where
+    // both are
     let sets = wide_sets(rt.alloc(), Bit::One, Bit::Q)?;
     assert!(rt; sets.len() == 4);
     for ((p, q), set) in ASSIGNMENTS.iter().zip(sets.as_slice()) {

@@ -28,7 +28,7 @@ short_by false (suc n) s m e =
 pub short_rows : (n s : ℕ) → min (n * min s 18446744073709551615) 18446744073709551615 ≡ min (n * s) 18446744073709551615
 short_rows n s = short_by (nat_le s 18446744073709551615) n s 18446744073709551615 refl
 
--- one task more, which is too large
+-- one more task, which is too large
 pub large_turn : (nets : ℕ) (tasks : List RawTask) (i : ℕ) (task : RawTask) (line size total : ℕ) → i < length tasks → task ≡ get_or tasks i task → size ≡ min (cells nets task) 18446744073709551615 → 100000000 - total < size → total ≡ sum_by (cells nets) (take i tasks) → total ≤ 100000000 → line ≡ head_line task → IsFirstLarge nets tasks line
 large_turn nets tasks i task line size total h g e large so_far within l =
     let more = sum_by_more (cells nets) tasks i task h in

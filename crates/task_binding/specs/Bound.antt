@@ -16,11 +16,19 @@ net_by net_of text = unwrap_or (net_of text) 0
 
 -- what a quintuple says, where each name is the net of this number
 abbrev pub quint_bound : (List ℕ → ℕ) → RawQuint → QuintTree
-quint_bound net quint = record { guard = tree_of quint.guard; node = net quint.node; value = tree_of quint.value; from = quint.from; to = quint.to }
+quint_bound net quint =
+    record {
+      guard = tree_of quint.guard;
+      node = net quint.node;
+      value = tree_of quint.value;
+      from = quint.from;
+      to = quint.to;
+    }
 
 -- the same of a binding of an edge, of an edge, and of a task
 abbrev pub bind_bound : (List ℕ → ℕ) → RawBind → BindTree
-bind_bound net bind = record { guard = tree_of bind.guard; node = net bind.node; value = tree_of bind.value }
+bind_bound net bind =
+    record { guard = tree_of bind.guard; node = net bind.node; value = tree_of bind.value }
 
 -- what a weakening says, and the net that a weakened net of an edge is
 abbrev pub weak_bound : (List ℕ → ℕ) → RawWeak → WeakTree
@@ -40,5 +48,7 @@ edge_bound net edge = record {
 
 abbrev pub task_bound : (List ℕ → ℕ) → RawTask → TaskTree
 task_bound net (Ste line name reset ant con weak) =
-    assertion name reset (map (quint_bound net) ant) (map (quint_bound net) con) (map (weak_bound net) weak)
-task_bound net (Gste line name reset vertices edges) = graph name reset vertices (map (edge_bound net) edges)
+    assertion name reset (map (quint_bound net) ant) (map (quint_bound net) con)
+    (map (weak_bound net) weak)
+task_bound net (Gste line name reset vertices edges) =
+    graph name reset vertices (map (edge_bound net) edges)

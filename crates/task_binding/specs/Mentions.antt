@@ -26,11 +26,13 @@ mark_mention mark = record { line = mark.line; node = mark.node }
 
 -- the nodes of an edge
 abbrev pub edge_mentions : RawEdge → List Mention
-edge_mentions edge = map bind_mention edge.ant ++ (map bind_mention edge.con ++ map mark_mention edge.weak)
+edge_mentions edge =
+    map bind_mention edge.ant ++ (map bind_mention edge.con ++ map mark_mention edge.weak)
 
 -- the nodes of a task
 abbrev pub task_mentions : RawTask → List Mention
-task_mentions (Ste line name reset ant con weak) = map quint_mention ant ++ (map quint_mention con ++ map weak_mention weak)
+task_mentions (Ste line name reset ant con weak) = map quint_mention ant
+    ++ (map quint_mention con ++ map weak_mention weak)
 task_mentions (Gste line name reset vertices edges) = flat_map edge_mentions edges
 
 -- the nodes of all tasks
@@ -41,10 +43,13 @@ mentions_of tasks = flat_map task_mentions tasks
 abbrev pub AllNamed : (List ℕ → Option ℕ) → List Mention → Type 0
 AllNamed net_of mentions = All (λ mention. IsSome (net_of mention.node)) mentions
 
--- The node on this line names no net, and no node on an earlier line names none; among nodes on one line it is the first.
-pub record IsFirstUnknown (net_of : List ℕ → Option ℕ) (mentions : List Mention) (mention : Mention) : Type 0 where
+-- The node on this line names no net, and no node on an earlier line names none; among nodes on one
+-- line it is the first.
+pub record IsFirstUnknown (net_of : List ℕ → Option ℕ) (mentions : List Mention)
+    (mention : Mention) : Type 0 where
   pub place : ℕ
   pub here : slice_get mentions place ≡ Some mention
   pub unknown : net_of mention.node ≡ None
   pub least : All (λ other. net_of other.node ≡ None → mention.line ≤ other.line) mentions
-  pub first : All (λ other. net_of other.node ≡ None → mention.line < other.line) (take place mentions)
+  pub first : All (λ other. net_of other.node ≡ None → mention.line < other.line)
+      (take place mentions)

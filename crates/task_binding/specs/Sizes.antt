@@ -5,13 +5,13 @@ use Rattle.assert_syntax.specs.declared.tasks.RawTask.{RawTask}
 use Rattle.assert_syntax.specs.declared.tasks.RawTask.TheVariants.{Ste, Gste}
 
 -- the greatest `to`, or 0
-abbrev pub latest : List RawQuint → ℕ
-latest quints = fold max 0 (map (λ quint. quint.to) quints)
+abbrev pub raw_latest : List RawQuint → ℕ
+raw_latest quints = fold max 0 (map (λ quint. quint.to) quints)
 
--- the cells of a task over so many nets: one for each net and each time below the depth, which is the greatest `to`; or for
--- each net and each vertex and edge
+-- the cells of a task over so many nets: one for each net and each time below the depth, which is
+-- the greatest `to`; or for each net and each vertex and edge
 abbrev pub cells : ℕ → RawTask → ℕ
-cells nets (Ste line name reset ant con weak) = nets * max (latest ant) (latest con)
+cells nets (Ste line name reset ant con weak) = nets * max (raw_latest ant) (raw_latest con)
 cells nets (Gste line name reset vertices edges) = nets * (length vertices + length edges)
 
 -- the number of a task's first line
@@ -23,8 +23,8 @@ head_line (Gste line name reset vertices edges) = line
 abbrev pub most_cells : ℕ
 most_cells = 100000000
 
--- The first task that is too large begins on this line: with it the tasks up to here have too many cells, and without it
--- they have not.
+-- The first task that is too large begins on this line: with it the tasks up to here have too many
+-- cells, and without it they have not.
 pub record IsFirstLarge (nets : ℕ) (tasks : List RawTask) (line : ℕ) : Type 0 where
   pub place : ℕ
   pub task : RawTask

@@ -31,7 +31,7 @@ fn named_net<N: Resolve>(names: &N, known: &mut bool, node: &Name) -> NodeId
 }
 
 /// The same expression again. A constant, as most guards are, takes no call.
-fn copied(alloc: Global, expr: &Expr) -> Result<Expr, AllocError>
+fn copy_of(alloc: Global, expr: &Expr) -> Result<Expr, AllocError>
     ensures { IfOk result (λ copy. tree_of copy ≡ tree_of expr.now) }
 {
     match expr {
@@ -53,16 +53,16 @@ fn bind_quint<N: Resolve>(
         ≡ (known.old && quint_known (N.net_of names.now) quint.now)) }
 {
     Ok(Quint {
-        guard: copied(alloc, &quint.guard)?,
+        guard: copy_of(alloc, &quint.guard)?,
         node: named_net(names, known, &quint.node),
-        value: copied(alloc, &quint.value)?,
+        value: copy_of(alloc, &quint.value)?,
         from: quint.from,
         to: quint.to,
     })
 }
 
 /// A binding of an edge over nets; `known` becomes false where its node names none.
-fn bind_bind<N: Resolve>(
+fn bind_edge_clause<N: Resolve>(
     alloc: Global,
     names: &N,
     known: &mut bool,
@@ -74,9 +74,9 @@ fn bind_bind<N: Resolve>(
         ≡ (known.old && bind_known (N.net_of names.now) bind.now)) }
 {
     Ok(Bind {
-        guard: copied(alloc, &bind.guard)?,
+        guard: copy_of(alloc, &bind.guard)?,
         node: named_net(names, known, &bind.node),
-        value: copied(alloc, &bind.value)?,
+        value: copy_of(alloc, &bind.value)?,
     })
 }
 
@@ -100,7 +100,7 @@ fn bind_quints<N: Resolve>(
 }
 
 /// Bindings of an edge over nets, in order; `known` becomes false where a node names none.
-fn bind_binds<N: Resolve>(
+fn bind_edge_clauses<N: Resolve>(
     alloc: Global,
     names: &N,
     known: &mut bool,
@@ -113,7 +113,7 @@ fn bind_binds<N: Resolve>(
 {
     let mut bound = Vec::with_capacity(alloc, binds.len())?;
     for bind in binds {
-        bound.push(bind_bind(alloc, names, known, bind)?)?;
+        bound.push(bind_edge_clause(alloc, names, known, bind)?)?;
     }
     Ok(bound.into())
 }
@@ -183,8 +183,8 @@ fn bind_edge<N: Resolve>(
     Ok(Edge {
         from: edge.from,
         to: edge.to,
-        ant: bind_binds(alloc, names, known, edge.ant.as_slice())?,
-        con: bind_binds(alloc, names, known, edge.con.as_slice())?,
+        ant: bind_edge_clauses(alloc, names, known, edge.ant.as_slice())?,
+        con: bind_edge_clauses(alloc, names, known, edge.con.as_slice())?,
         weak: bind_marks(alloc, names, known, edge.weak.as_slice())?,
     })
 }

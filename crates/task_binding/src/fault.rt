@@ -16,7 +16,7 @@ pub enum BindFault {
     /// With the task that begins on this line the tasks have more than 100,000,000 cells.
     #[error("task too large")]
     TooLarge { line: u32 },
-    /// Memory is wanting.
+    /// Out of memory.
     #[error("out of memory")]
     OutOfMemory,
 }

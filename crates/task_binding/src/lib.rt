@@ -1,4 +1,5 @@
-//! Binding of tasks: from tasks with the names of their nodes to tasks over the nets of a netlist. Begin with `bind_tasks`.
+//! Binding of tasks: from tasks with the names of their nodes to tasks over the nets of a netlist.
+//! Begin with `bind_tasks`.
 #![tactic(auto)]
 
 mod bind;

@@ -1,7 +1,7 @@
 //! The size of tasks; begin with `first_large`.
 
 ghost use Rattle.std.specs.Prelude.{◌≡◌, ◌+◌, ◌-◌, ◌*◌, ◌^◌, length, min, None};
-ghost use Rattle.task_binding.specs.Sizes.{cells, head_line, latest};
+ghost use Rattle.task_binding.specs.Sizes.{cells, head_line, raw_latest};
 ghost use Rattle.task_binding.specs.private.Leading.{IsLarge};
 
 use assert_syntax::tasks::{RawQuint, RawTask};
@@ -12,7 +12,7 @@ const MAX_CELLS: u64 = 100_000_000;
 
 /// The greatest `to`, or 0.
 fn latest(quints: &[RawQuint]) -> Time
-    ensures { result ≡ latest quints.now }
+    ensures { result ≡ raw_latest quints.now }
 {
     quints
         .iter()
@@ -62,7 +62,8 @@ fn head_line(task: &RawTask) -> u32
     }
 }
 
-/// The number of the first line of the first task that is too large over so many nets; None where all fit.
+/// The number of the first line of the first task that is too large over so many nets; None where
+/// all fit.
 pub fn first_large(nets: u32, tasks: &[RawTask]) -> Option<u32>
     ensures { IsLarge nets tasks.now result }
 {

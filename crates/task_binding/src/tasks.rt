@@ -4,7 +4,7 @@ ghost use Rattle.std.specs.Prelude.{◌≡◌, ◌≤◌, ◌&&◌, map, IfOk, O
 ghost use Rattle.std.specs.List.{list_all};
 ghost use Rattle.ste_model.specs.Cells.{all_cells};
 ghost use Rattle.ste_model.specs.Trees.{task_tree};
-ghost use Rattle.task_binding.specs.Answer.{IsAnswer};
+ghost use Rattle.task_binding.specs.Answer.{IsBindAnswer};
 ghost use Rattle.task_binding.specs.Bound.{net_by, task_bound};
 ghost use Rattle.task_binding.specs.Mentions.{mentions_of};
 ghost use Rattle.task_binding.specs.Sizes.{most_cells};
@@ -40,7 +40,8 @@ fn bind_each<N: Resolve>(
     Ok(bound)
 }
 
-/// The first node that names no net, where `known` says whether each names one. Where each does, no name is looked up.
+/// The first node that names no net, where `known` says whether each names one. Where each does, no
+/// name is looked up.
 #[tactic(auto, using(crate::proofs::Known::all_named))]
 fn unknown_unless<N: Resolve>(
     known: bool,
@@ -58,9 +59,10 @@ fn unknown_unless<N: Resolve>(
 
 /// The tasks that were read, over the nets that their nodes name in a netlist of so many nets.
 ///
-/// - `UnknownNode` comes exactly where a node names no net, with the least number of such a line, and the node.
-/// - `TooLarge` comes exactly where each node names a net and the tasks have more than 100,000,000 cells, with the first
-///   line of the first task that goes above.
+/// - `UnknownNode` comes exactly where a node names no net, with the least number of such a line,
+///   and the node.
+/// - `TooLarge` comes exactly where each node names a net and the tasks have more than 100,000,000
+///   cells, with the first line of the first task that goes above.
 ///
 /// `OutOfMemory` may come at any tasks. An expression is copied by calls as deep as it is.
 pub fn bind_tasks<N: Resolve>(
@@ -69,7 +71,7 @@ pub fn bind_tasks<N: Resolve>(
     names: &N,
     nets: u32,
 ) -> Result<Tasks, BindFault>
-    ensures exact { IsAnswer (N.net_of names.now) nets raw.now result }
+    ensures exact { IsBindAnswer (N.net_of names.now) nets raw.now result }
     ensures fits { IfOk result (λ tasks. all_cells nets tasks ≤ most_cells) }
 {
     let mut known = true;

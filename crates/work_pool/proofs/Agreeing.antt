@@ -1,4 +1,4 @@
--- What is told of tasks twice agrees on each task.
+-- Two checks of the same tasks agree on each task.
 use Rattle.std.proofs.Common.{ℕ, List, [], ◌∷◌, ap, inl, inr, subst}
 use Rattle.std.specs.List.{AllZip}
 use Rattle.net_core.specs.declared.raw.RawNet.{RawNet}

@@ -133,7 +133,7 @@ module _ {X : Type 0} (store : X → Store) (outcome : X → Result Report Alloc
     pub all_jobs : All (IsTaskOver net whole.vars) tasks → AreJobs store place net tasks numbers turned
     all_jobs over = record { numbered = inside; within = all_within; made = all_made; over = all_over over; table = one_table }
 
-    -- the jobs that were dealt are done, are in order again, and their stores stand on one table
+    -- the jobs that were dealt are done, are in order again, and their stores are on one table
     pub all_done : (given : ℕ) (old new jobs last : List X) → start ≡ gives_up given whole → old ≡ turned → length new ≡ length old → jobs ≡ new → ((i : ℕ) (job : X) → i < length old → place (get_or new i job) ≡ place (get_or old i job))
         → ((i : ℕ) (task : Task) (job : X) → i < length old → IsDone net (store (get_or old i job)).limit cubes (get_or tasks (get_or numbers (place (get_or old i job)) 0) task) (store (get_or old i job)) (store (get_or new i job)) (outcome (get_or new i job)))
         → IsPermutation jobs last → IsNonDecreasingBy place last

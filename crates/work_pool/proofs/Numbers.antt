@@ -51,7 +51,7 @@ at_numbers tasks (n ∷ numbers) [] task are = absurd are
 at_numbers tasks (n ∷ numbers) (x ∷ some) task are =
     ap (λ y. y ∷ tasks_at tasks numbers task) (get_or_from_slice_get tasks n x task are.0) ∙ ap (λ ys. x ∷ ys) (at_numbers tasks numbers some task are.1)
 
--- what is told of the tasks of these numbers is told number by number
+-- the reports of the tasks of these numbers, number by number
 pub some_told : (net : RawNet) (vars steps cubes : ℕ) (tasks : List Task) (numbers : List ℕ) (reports : List Report) → 1 ≤ length numbers → All (λ n. n < length tasks) numbers
     → ((task : Task) → AllZip (IsToldOf net vars steps cubes) (tasks_at tasks numbers task) reports) → AllZip (IsToldOfNumber net vars steps cubes tasks) numbers reports
 some_told net vars steps cubes tasks numbers reports some inside told = zip_of (IsToldOfNumber net vars steps cubes tasks) numbers reports long (λ i number report lt. λ task at.

@@ -123,7 +123,7 @@ module _ {X : Type 0} (store : X → Store) (place : X → ℕ) (outcome : X →
         (let at : 0 ≡ (i + 1) - (i + 1) = omega arith in
         subst (λ (n : ℕ). P r (get_or (set back 0 y) n d)) at (subst (P r) (sym (get_or-set_same back 0 y d some)) both)))))
 
-  -- the job that is done and the one behind it stand on one table
+  -- the job that is done and the one behind it are on one table
   pub one_table : (first jobs : List X) (i : ℕ) (r new : X) → length jobs ≡ length first → i < length first
       → ((k : ℕ) (j : X) → i ≤ k → k < length first → IsLike (store (get_or first k j)) (store (get_or jobs k j)))
       → ((k l : ℕ) (j : X) → k < length first → l < length first → (store (get_or first k j)).table ≡ (store (get_or first l j)).table)

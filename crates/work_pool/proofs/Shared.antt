@@ -1,6 +1,7 @@
--- The number of taken slots of the table of a pool is one that may be told.
+-- The number of taken slots of the table of a pool is one that may be reported.
 use Rattle.std.proofs.Common.{◌≡◌, ℕ, ◌*◌, ◌/◌, ◌≤◌, List, length, arith, subst}
-use Rattle.dd_nodes.specs.Diagram.{Function, IsCofactor}
+use Rattle.ste_base.specs.Functions.{Function}
+use Rattle.dd_nodes.specs.Diagram.{IsCofactor}
 use Rattle.dd_nodes.specs.Functions.{node_count}
 use Rattle.dd_nodes.specs.Stores.{Means, Store}
 use Rattle.dd_nodes.specs.declared.node.Ref.{Ref}
@@ -23,7 +24,7 @@ kept_held net steps cubes tasks reports t fs pooled kept = λ f is.
     let (i, task, report, at, told, other, function) = kept g has in
     cofactor_held net task t g f (pooled.kept i task report at told other) function cofactor
 
--- what closing a table tells, of the session in which a pool's are united
+-- what closing a table says of the session in which a pool's are united
 pub shared_of : (net : RawNet) (vars steps cubes : ℕ) (tasks : List Task) (reports : List Report) (k : SessionValue) (count : ℕ) → IsPooled net steps cubes tasks reports (store_of k) → k.vars ≡ vars → k.slots ≡ 2 * (length tasks * steps) →
     count ≤ k.slots / 2 → length k.made ≤ count → ((fs : List Function) → AreHeld (store_of k) fs → node_count k.vars fs ≤ count) → IsSharedCount net vars steps tasks reports count
 shared_of net vars steps cubes tasks reports k count pooled same slots half used nodes =

@@ -1,4 +1,5 @@
--- Meaning, and a law. What the check of tasks over one table of nodes gives. Source: this project's own choice.
+-- Meaning, and a law. What the check of tasks over one table of nodes gives. Source: this project's
+-- own choice.
 use Rattle.std.specs.Prelude.{◌≡◌, ◌≢◌, ◌<◌, ◌≤◌, ◌*◌, ℕ, List, All, length, Some, slice_get}
 use Rattle.std.specs.List.{AllZip, sum}
 use Rattle.dd_nodes.specs.Stores.{Store}
@@ -20,42 +21,51 @@ abbrev pub IsTaskKept : RawNet → Task → Store → Type 0
 IsTaskKept net (Ste task) t = IsKept net task t
 IsTaskKept net (Gste graph) t = IsGraphKept net graph t
 
--- a task speaks of nets of the net, in its weakenings too, and of variables below this number, and a graph is sound
+-- a task speaks of nets of the net, in its weakenings too, and of variables below this number, and
+-- a graph is sound
 abbrev pub IsTaskOver : RawNet → ℕ → Task → Type 0
 IsTaskOver net vars (Ste task) =
-    All (λ quint. quint.node.0 < net.nets) task.ant × All (λ quint. quint.node.0 < net.nets) task.con
+    All (λ quint. quint.node.0 < net.nets) task.ant ×
+    All (λ quint. quint.node.0 < net.nets) task.con
     × ReadBelow vars task.ant × ReadBelow vars task.con
     × All (λ weakening. weakening.node.0 < net.nets) task.weak
 IsTaskOver net vars (Gste graph) = IsGraphOver net vars graph × AreConsequentsOver net vars graph
 
--- What the check of tasks gives, where t is the store in which all that they made is united: for each task, in order, what may be told
--- of it; as many nodes made as the steps of those that say budget; and the kept functions of the others.
-pub record IsPooled (net : RawNet) (steps cubes : ℕ) (tasks : List Task) (reports : List Report) (t : Store) : Type 0 where
+-- What the check of tasks gives, where t is the store in which all that they made is united: for
+-- each task, in order, what may be reported for it; as many nodes made as the steps of those that
+-- say budget; and the kept functions of the others.
+pub record IsPooled (net : RawNet) (steps cubes : ℕ) (tasks : List Task) (reports : List Report)
+    (t : Store) : Type 0 where
   pub told : AllZip (IsToldOf net t.vars steps cubes) tasks reports
   pub used : budgets reports * steps ≤ length t.made
   pub limit : t.limit ≡ length tasks * steps
-  pub kept : (i : ℕ) (task : Task) (report : Report) → slice_get tasks i ≡ Some task → slice_get reports i ≡ Some report →
+  pub kept : (i : ℕ) (task : Task) (report : Report) → slice_get tasks i ≡ Some task →
+      slice_get reports i ≡ Some report →
       report.verdict ≢ Budget → IsTaskKept net task t
 
 -- these are the tasks of these numbers, in the order of the numbers
 abbrev pub AreTasksOf : List Task → List ℕ → List Task → Type 0
-AreTasksOf tasks numbers some = AllZip (λ number task. slice_get tasks number ≡ Some task) numbers some
+AreTasksOf tasks numbers some =
+    AllZip (λ number task. slice_get tasks number ≡ Some task) numbers some
 
--- How many nodes tasks made that were checked one after another with so many steps each: each of them no more than its steps,
--- and just as many where its report says budget; together this number.
+-- How many nodes tasks made that were checked one after another with so many steps each: each of
+-- them no more than its steps, and just as many where its report says budget; together this number.
 pub record AreMadeWithin (steps : ℕ) (reports : List Report) (made : ℕ) : Type 0 where
   pub counts : List ℕ
-  pub each : AllZip (λ report count. (count ≤ steps) × (report.verdict ≡ Budget → count ≡ steps)) reports counts
+  pub each : AllZip (λ report count. (count ≤ steps) × (report.verdict ≡ Budget → count ≡ steps))
+      reports counts
   pub all : sum counts ≡ made
 
--- what may be told of the task of this number
+-- what may be reported for the task of this number
 abbrev pub IsToldOfNumber : RawNet → ℕ → ℕ → ℕ → List Task → ℕ → Report → Type 0
 IsToldOfNumber net vars steps cubes tasks number report =
     (task : Task) → slice_get tasks number ≡ Some task → IsToldOf net vars steps cubes task report
 
--- Law: what is told of tasks twice, over the same variables and with the same number of cubes, whatever the steps and the schedules, agrees
--- on each task.
+-- Law: two checks of the same tasks, over the same variables and with the same number of cubes,
+-- whatever the steps and the schedules, agree on each task.
 abbrev pub PoolsAgree : Type 0
 PoolsAgree =
-    (net : RawNet) → IsInRange net → IsSettled net → (steps others cubes : ℕ) (tasks : List Task) (reports twins : List Report) (s t : Store) →
-    s.vars ≡ t.vars → IsPooled net steps cubes tasks reports s → IsPooled net others cubes tasks twins t → AllZip Agree reports twins
+    (net : RawNet) → IsInRange net → IsSettled net → (steps others cubes : ℕ) (tasks : List Task)
+    (reports twins : List Report) (s t : Store) →
+    s.vars ≡ t.vars → IsPooled net steps cubes tasks reports s →
+    IsPooled net others cubes tasks twins t → AllZip Agree reports twins

@@ -2,6 +2,7 @@
 
 ghost use Rattle.std.specs.Prelude.{◌≡◌, ◌*◌, ◌^◌, ◌<◌, ◌≤◌, length, map, All, IfOk, IfSome, OnOk};
 ghost use Rattle.std.specs.List.{AllZip};
+ghost use Rattle.ste_base.specs.Limits.{most_variables};
 ghost use Rattle.gate_sets.specs.Lists.{rows_of};
 ghost use Rattle.sym_step.specs.Frame.{IsFrame};
 ghost use Rattle.ste_model.specs.declared.verdict.Verdict.TheVariants.{Budget};
@@ -9,7 +10,7 @@ ghost use Rattle.work_pool.specs.Pool.{AreMadeWithin, IsTaskOver};
 ghost use Rattle.work_pool.specs.Told.{IsToldOf, budgets};
 
 use crate::gate::Gate;
-use crate::pool::{check, passed_on};
+use crate::pool::{check, frame_to_carry};
 use dd_growing::GrowingNodes;
 use dd_nodes::Nodes;
 use net_core::Net;
@@ -17,11 +18,12 @@ use std::alloc::{AllocError, Global};
 use ste_model::{Report, Task, Tasks};
 use sym_step::{Frame, GateRows};
 
-/// The most nodes that tasks leave to the next one. Where they made more, that one begins with a store of its own.
+/// The most nodes that tasks leave to the next one. Where they made more, that one begins with a
+/// store of its own.
 const MOST_NODES: u32 = 1000000;
 
-/// The report of a task over a store, which begins anew with so many node steps, from the last frame of another task, where
-/// there is one; it leaves one for the next, where there is one.
+/// The report of a task over a store, which begins anew with so many node steps, from the last
+/// frame of another task, where there is one; it leaves one for the next, where there is one.
 fn check_anew(
     alloc: Global,
     nodes: &mut GrowingNodes,
@@ -49,13 +51,13 @@ fn check_anew(
 {
     nodes.begin(steps);
     let report = check(alloc, nodes, net, rows, task, cubes, last);
-    *last = passed_on(alloc, net, last.take());
+    *last = frame_to_carry(alloc, net, last.take());
     report
 }
 
-/// A store without nodes, and no frame, in place of those at hand where the tasks so far made too many nodes in it; the
-/// result is how many they made in the store that there is then.
-fn bounded(
+/// Replaces the store by one without nodes, and drops the frame, where the tasks so far made too
+/// many nodes in it; the result is how many they made in the store that there is then.
+fn replace_large_store(
     alloc: Global,
     net: &Net,
     vars: u32,
@@ -86,10 +88,11 @@ pub struct AloneAnswer {
     pub made: u64,
 }
 
-/// The reports of all tasks in their order, checked one after another by this thread, each with `steps` node steps of its
-/// own, and with at most `cubes` cubes in each list of a report. The tasks have a store that grows, in which each finds
-/// what those before it made, as far as it was not let go. A task makes no more nodes than its steps, and just as many
-/// where its verdict is `Budget`. All else is as with `run_tasks`.
+/// The reports of all tasks in their order, checked one after another by this thread, each with
+/// `steps` node steps of its own, and with at most `cubes` cubes in each list of a report. The
+/// tasks have a store that grows, in which each finds what those before it made, as far as it was
+/// not dropped. A task makes no more nodes than its steps, and just as many where its verdict is
+/// `Budget`. All else is as with `run_tasks`.
 pub fn run_alone<G: Gate>(
     alloc: Global,
     net: &Net,
@@ -101,10 +104,10 @@ pub fn run_alone<G: Gate>(
 ) -> Result<AloneAnswer, AllocError>
     requires rows { rows.now.covers ≡ map rows_of net.now.raw.covers }
     requires few { length tasks.now.tasks < 2 ^ 32 }
-    requires vars { length tasks.now.vars ≤ 1000 }
+    requires vars { length tasks.now.vars ≤ most_variables }
     requires over { All (IsTaskOver net.now.raw (length tasks.now.vars)) tasks.now.tasks }
 
-    // For each task, in order, what is told of it.
+    // For each task, in order, its report, or budget where the steps are too few.
     ensures told { IfOk result (λ answer. AllZip
         (IsToldOf net.now.raw (length tasks.now.vars) steps cubes) tasks.now.tasks
         answer.reports.items) }
@@ -121,7 +124,7 @@ pub fn run_alone<G: Gate>(
     let mut last = None;
     let mut reports = Vec::new(alloc);
     for number in 0..tasks.tasks.len() as u32 {
-        held = bounded(alloc, net, vars, held, &mut nodes, &mut last)?;
+        held = replace_large_store(alloc, net, vars, held, &mut nodes, &mut last)?;
         gate.at_task(number);
         let task = &tasks.tasks.as_slice()[number as usize];
         let report = check_anew(alloc, &mut nodes, net, rows, task, steps, cubes, &mut last)?;

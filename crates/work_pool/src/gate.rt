@@ -1,6 +1,6 @@
-//! What is told of each task as it begins; begin with `Gate`.
+//! A hook that is called as each task begins; begin with `Gate`.
 
-/// Is told of each task as a worker begins it.
+/// Is called for each task as a worker begins it. It is not a logic gate.
 pub trait Gate {
     /// The task of this number begins.
     fn at_task(&self, task: u32);

@@ -2,7 +2,7 @@
 
 ghost use Rattle.work_pool.specs.Pool.{PoolsAgree};
 
-/// What is told of tasks twice agrees on each task, whatever the steps and the schedules.
+/// Two checks of the same tasks agree on each task, whatever the steps and the schedules.
 pub fn pools_agree()
     ensures { PoolsAgree }
 {}

@@ -33,8 +33,8 @@ pub(crate) struct Job<N> {
     pub(crate) outcome: Result<Report, AllocError>,
 }
 
-/// The report of a task over a store that made nothing yet, from the last frame of another one, where there is one; it
-/// leaves one for the next, where there is one.
+/// The report of a task over a store that made nothing yet, from the last frame of another one,
+/// where there is one; it leaves one for the next, where there is one.
 pub(crate) fn check<N: Nodes>(
     alloc: Global,
     nodes: &mut N,
@@ -80,9 +80,9 @@ fn work<N: Nodes>(
     job.outcome = check(alloc, &mut job.nodes, net, rows, task, cubes, last);
 }
 
-/// The store of the job behind the i-th takes over what that one's store remembers; the result is whether it holds all that
-/// that one held.
-fn hand_over<N: Nodes>(jobs: &mut [Job<N>], i: usize) -> bool
+/// The store of the job behind the i-th takes over what that one's store remembers; the result is
+/// whether it holds all that that one held.
+fn share_memo<N: Nodes>(jobs: &mut [Job<N>], i: usize) -> bool
     requires within { i + 1 < length jobs.old }
     requires table { (job : Job N) → (N.store (get_or jobs.old i job).nodes).table
         ≡ (N.store (get_or jobs.old (i + 1) job).nodes).table }
@@ -95,9 +95,9 @@ fn hand_over<N: Nodes>(jobs: &mut [Job<N>], i: usize) -> bool
     back[0].nodes.learn(&mut front[i].nodes)
 }
 
-/// The same, where there is a job behind the i-th; and the last frame goes over to that job, where its store holds what the
-/// frame refers to.
-fn hand_on<N: Nodes>(jobs: &mut [Job<N>], i: usize, last: &mut Option<Frame>)
+/// As `share_memo`, where there is a job behind the i-th; and the last frame goes over to that job,
+/// where its store holds what the frame refers to.
+fn carry_to_next<N: Nodes>(jobs: &mut [Job<N>], i: usize, last: &mut Option<Frame>)
     requires within { i < length jobs.old }
     requires table { (job : Job N) → i + 1 < length jobs.old
         → (N.store (get_or jobs.old i job).nodes).table
@@ -111,17 +111,19 @@ fn hand_on<N: Nodes>(jobs: &mut [Job<N>], i: usize, last: &mut Option<Frame>)
     if i + 1 >= jobs.len() {
         return;
     }
-    if !hand_over(jobs, i) {
+    if !share_memo(jobs, i) {
         *last = None;
     }
 }
 
-/// The most nets of a net whose last frame goes on to another task as it is. That of a larger one leaves the processor's
-/// cache meanwhile, and to mark what is due by its lists takes longer than to evaluate all.
+/// The most nets of a net whose last frame goes on to another task as it is. That of a larger one
+/// leaves the processor's cache meanwhile, and to mark what is due by its lists takes longer than
+/// to evaluate all.
 const MOST_NETS: u32 = 32768;
 
-/// The frame that goes on to another task: the last one, or where the net is large that one as one of no time.
-pub(crate) fn passed_on(alloc: Global, net: &Net, last: Option<Frame>) -> Option<Frame>
+/// The frame that goes on to another task: the last one, or where the net is large that one as one
+/// of no time.
+pub(crate) fn frame_to_carry(alloc: Global, net: &Net, last: Option<Frame>) -> Option<Frame>
     ensures { (s : Store) (raw : RawNet) → IsDiagram s.held s.vars → IfSome last (IsFrame s raw)
         → IfSome result (IsFrame s raw) }
 {
@@ -129,18 +131,9 @@ pub(crate) fn passed_on(alloc: Global, net: &Net, last: Option<Frame>) -> Option
         return None;
     };
     if net.nets() > MOST_NETS {
-        return Some(frame.forgotten(alloc));
+        return Some(frame.into_blank(alloc));
     }
     Some(frame)
-}
-
-/// Makes of the last frame the one that goes on to another job.
-fn pass_on<N: Nodes>(alloc: Global, net: &Net, job: &Job<N>, last: &mut Option<Frame>)
-    requires { IfSome last.old (IsFrame (N.store job.now.nodes) net.now.raw) }
-    ensures { IfSome last.new (IsFrame (N.store job.now.nodes) net.now.raw) }
-{
-    let _ = job;
-    *last = passed_on(alloc, net, last.take());
 }
 
 /// Does a job.
@@ -172,11 +165,11 @@ fn work_at<N: Nodes, G: Gate>(
     let number = numbers[job.place as usize];
     gate.at_task(number);
     work(alloc, net, rows, &tasks[number as usize], cubes, job, last);
-    pass_on(alloc, net, job, last);
+    *last = frame_to_carry(alloc, net, last.take());
 }
 
-/// Each of these jobs is done once, one after another. What the store of one remembers goes over to that of the next, and so
-/// does the last frame.
+/// Each of these jobs is done once, one after another. What the store of one remembers goes over to
+/// that of the next, and so does the last frame.
 fn work_portion<N: Nodes, G: Gate>(
     alloc: Global,
     net: &Net,
@@ -206,7 +199,7 @@ fn work_portion<N: Nodes, G: Gate>(
             gate,
             &mut last,
         );
-        hand_on(jobs, i, &mut last);
+        carry_to_next(jobs, i, &mut last);
     }
 }
 
@@ -327,8 +320,8 @@ fn gather<N: Split>(
     Ok((reports, nodes))
 }
 
-/// Each task of these numbers is checked over a store of `steps` steps that is cut from this one, and all are merged
-/// again.
+/// Each task of these numbers is checked over a store of `steps` steps that is cut from this one,
+/// and all are merged again.
 pub(crate) fn pooled_tasks<N: Split + Send, R: Threads + Sync, G: Gate + Sync>(
     rt: &R,
     alloc: Global,

@@ -2,6 +2,7 @@
 
 ghost use Rattle.std.specs.Prelude.{◌≡◌, ◌*◌, ◌^◌, ◌<◌, ◌≤◌, [], List, length, map, All, IfOk};
 ghost use Rattle.std.specs.List.{AllZip, range_with_len};
+ghost use Rattle.ste_base.specs.Limits.{most_variables};
 ghost use Rattle.dd_table.specs.Sessions.{store_of};
 ghost use Rattle.gate_sets.specs.Lists.{rows_of};
 ghost use Rattle.ste_model.specs.declared.task.Task.{Task as ATask};
@@ -17,7 +18,8 @@ use std::thread::Threads;
 use ste_model::{Report, Task, Tasks};
 use sym_step::GateRows;
 
-/// The reports in the order of the tasks, the table, and the session in which all sessions are merged.
+/// The reports in the order of the tasks, the table, and the session in which all sessions are
+/// merged.
 #[derive(Drop)]
 pub struct PoolAnswer {
     pub reports: Vec<Report>,
@@ -37,13 +39,15 @@ fn numbers_below(alloc: Global, count: u32) -> Result<Vec<u32>, AllocError>
     Ok(numbers)
 }
 
-/// The reports of all tasks, checked by so many workers over one table, each with `steps` node steps of its own, and with
-/// at most `cubes` cubes in each list of a report. `rows` are those of the net. The gate is told of each task by its
-/// number as a worker begins it. Where no thread can be made, the tasks are checked one after another.
+/// The reports of all tasks, checked by so many workers over one table, each with `steps` node
+/// steps of its own, and with at most `cubes` cubes in each list of a report. `rows` are those of
+/// the net. The gate is called with the number of each task as a worker begins it. Where no thread
+/// can be made, the tasks are checked one after another.
 ///
-/// A task's verdict is `Budget` only where its steps are fewer than it needs. All sessions are merged into the one that is
-/// handed back: it made as many nodes at least as the steps of the tasks with the verdict `Budget`, and the nodes of the
-/// kept functions of all other tasks have references in it.
+/// A task's verdict is `Budget` only where its steps are fewer than it needs. All sessions are
+/// merged into the one that is handed back: it made as many nodes at least as the steps of the
+/// tasks with the verdict `Budget`, and the nodes of the kept functions of all other tasks have
+/// references in it.
 pub fn run_tasks<R: Threads + Sync, G: Gate + Sync>(
     rt: &R,
     alloc: Global,
@@ -59,10 +63,10 @@ pub fn run_tasks<R: Threads + Sync, G: Gate + Sync>(
     requires workers { (1 ≤ workers) × (workers ≤ 64) }
     requires some { 1 ≤ length tasks.now.tasks }
     requires steps { (1 ≤ steps) × (length tasks.now.tasks * steps ≤ 16000000) }
-    requires vars { length tasks.now.vars ≤ 1000 }
+    requires vars { length tasks.now.vars ≤ most_variables }
     requires over { All (IsTaskOver net.now.raw (length tasks.now.vars)) tasks.now.tasks }
 
-    // What is told of the tasks, and what the session made and holds.
+    // The reports of the tasks, and what the session made and holds.
     ensures answer { IfOk result (λ answer. IsPooled net.now.raw steps cubes tasks.now.tasks
         answer.reports.items (store_of answer.session)) }
 
@@ -86,8 +90,9 @@ pub fn run_tasks<R: Threads + Sync, G: Gate + Sync>(
     )
 }
 
-/// The reports of the tasks of these numbers, in the order of the numbers, checked over a table of their own, each with
-/// `steps` node steps. All else is as with `run_tasks`: what it says of all tasks holds here of these.
+/// The reports of the tasks of these numbers, in the order of the numbers, checked over a table of
+/// their own, each with `steps` node steps. All else is as with `run_tasks`: what it says of all
+/// tasks holds here of these.
 pub fn run_some<R: Threads + Sync, G: Gate + Sync>(
     rt: &R,
     alloc: Global,
@@ -105,10 +110,10 @@ pub fn run_some<R: Threads + Sync, G: Gate + Sync>(
     requires some { 1 ≤ length numbers.now }
     requires numbers { All (λ number. number < length tasks.now.tasks) numbers.now }
     requires steps { (1 ≤ steps) × (length numbers.now * steps ≤ 16000000) }
-    requires vars { length tasks.now.vars ≤ 1000 }
+    requires vars { length tasks.now.vars ≤ most_variables }
     requires over { All (IsTaskOver net.now.raw (length tasks.now.vars)) tasks.now.tasks }
 
-    // What is told of the tasks of these numbers, and what the session made and holds.
+    // The reports of the tasks of these numbers, and what the session made and holds.
     ensures answer { (some : List ATask) → AreTasksOf tasks.now.tasks numbers.now some
         → IfOk result (λ answer. IsPooled net.now.raw steps cubes some
         answer.reports.items (store_of answer.session)) }
@@ -118,7 +123,7 @@ pub fn run_some<R: Threads + Sync, G: Gate + Sync>(
     ensures slots { IfOk result
         (λ answer. answer.session.slots ≡ 2 * (length numbers.now * steps)) }
 
-    // For each number, in order, what is told of the task of that number.
+    // For each number, in order, the report of the task of that number, or budget.
     ensures told { IfOk result (λ answer. AllZip
         (IsToldOfNumber net.now.raw (length tasks.now.vars) steps cubes tasks.now.tasks)
         numbers.now answer.reports.items) }
@@ -147,7 +152,7 @@ fn run_numbers<R: Threads + Sync, G: Gate + Sync>(
     requires some { 1 ≤ length numbers.now }
     requires numbers { All (λ number. number < length tasks.now.tasks) numbers.now }
     requires steps { (1 ≤ steps) × (length numbers.now * steps ≤ 16000000) }
-    requires vars { length tasks.now.vars ≤ 1000 }
+    requires vars { length tasks.now.vars ≤ most_variables }
     requires over { All (IsTaskOver net.now.raw (length tasks.now.vars)) tasks.now.tasks }
     ensures answer { (task : ATask) → IfOk result (λ answer. IsPooled net.now.raw steps cubes
         (tasks_at tasks.now.tasks numbers.now task) answer.reports.items
@@ -158,7 +163,7 @@ fn run_numbers<R: Threads + Sync, G: Gate + Sync>(
 {
     let all = numbers.len() as u32 * steps;
     let (table, session) = SharedTable::open(alloc, tasks.vars.len() as u32, 2 * all)?;
-    let (reports, session) = over(
+    let (reports, session) = run_on_table(
         rt,
         alloc,
         workers,
@@ -180,7 +185,7 @@ fn run_numbers<R: Threads + Sync, G: Gate + Sync>(
 }
 
 /// The tasks of these numbers over this table, beginning with this session of it.
-fn over<R: Threads + Sync, G: Gate + Sync>(
+fn run_on_table<R: Threads + Sync, G: Gate + Sync>(
     rt: &R,
     alloc: Global,
     workers: u32,

@@ -5,7 +5,8 @@ ghost use Rattle.std.specs.Prelude.{◌<◌, ◌≤◌, All, length};
 use std::alloc::{AllocError, Global};
 use ste_model::{Task, depth};
 
-/// How long a task takes, by a rough measure: its time steps, or what as many rounds as it has vertices evaluate.
+/// How long a task takes, by a rough measure: its time steps, or what as many rounds as it has
+/// vertices evaluate.
 fn size_of_task(task: &Task) -> u64 {
     match task {
         Task::Ste(assertion) => depth(assertion) as u64,
@@ -34,8 +35,8 @@ fn ranked_tasks(
 /// 2^32 over the golden ratio.
 const GOLDEN: u64 = 0x9E37_79B9;
 
-/// Which of so many portions is first to get its nth task. Over numbers at equal distances each portion is first about as
-/// often as any other.
+/// Which of so many portions is first to get its nth task. Over numbers at equal distances each
+/// portion is first about as often as any other.
 fn first_portion(nth: usize, portions: usize) -> usize
     ensures { result ≤ portions }
 {
@@ -59,7 +60,8 @@ fn nth_places(
     Ok(places)
 }
 
-/// The places below `count`: the first of each portion of so many, then the second of each, and so on.
+/// The places below `count`: the first of each portion of so many, then the second of each, and so
+/// on.
 fn places_in_turn(alloc: Global, count: usize, portion: usize) -> Result<Vec<usize>, AllocError>
     requires { 0 < portion }
 {
@@ -72,9 +74,10 @@ fn places_in_turn(alloc: Global, count: usize, portion: usize) -> Result<Vec<usi
     Ok(places)
 }
 
-/// The turn of each task of these numbers. In the order of turns, each worker's portion begins with one of the longest
-/// tasks, and goes on with shorter ones. Tasks of one size that stand at equal distances in the file come to all workers,
-/// since it is now one worker and now another that gets its nth task first: it is often they that fail, and take longer.
+/// The turn of each task of these numbers. In the order of turns, each worker's portion begins with
+/// one of the longest tasks, and goes on with shorter ones. Tasks of one size that stand at equal
+/// distances in the file come to all workers, since it is now one worker and now another that gets
+/// its nth task first: it is often they that fail, and take longer.
 pub(crate) fn turns_of(
     alloc: Global,
     tasks: &[Task],

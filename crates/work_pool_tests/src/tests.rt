@@ -137,8 +137,9 @@ fn has_verdicts(reports: &[Report], verdicts: &[Verdict]) -> bool {
             .all(|(report, verdict)| report.verdict == *verdict)
 }
 
-/// Whether so many workers give the verdicts of all cases, in order, and tell the gate of three tasks.
-fn tells_tasks_in_order<R: Threads + Sync>(
+/// Whether so many workers give the verdicts of all cases, in order, and call the gate for three
+/// tasks.
+fn reports_tasks_in_order<R: Threads + Sync>(
     rt: &R,
     alloc: Global,
     workers: u32,
@@ -159,16 +160,17 @@ fn tells_tasks_in_order<R: Threads + Sync>(
 }
 
 /// The same of the net and the tasks of all cases.
-fn tells_in_order<R: Threads + Sync>(rt: &R, alloc: Global, workers: u32) -> Result<bool, Fail>
+fn reports_in_order<R: Threads + Sync>(rt: &R, alloc: Global, workers: u32) -> Result<bool, Fail>
     requires { (1 ≤ workers) × (workers ≤ 64) }
 {
     let ready = net_with_rows(alloc)?;
     let tasks = all_cases(alloc)?;
-    tells_tasks_in_order(rt, alloc, workers, &ready, &tasks)
+    reports_tasks_in_order(rt, alloc, workers, &ready, &tasks)
 }
 
-/// Whether two workers give the verdicts of the last task and of the first one, in this order, and tell the gate of two.
-fn tells_two_tasks<R: Threads + Sync>(
+/// Whether two workers give the verdicts of the last task and of the first one, in this order, and
+/// call the gate for two.
+fn reports_two_tasks<R: Threads + Sync>(
     rt: &R,
     alloc: Global,
     ready: &Ready,
@@ -190,14 +192,15 @@ fn tells_two_tasks<R: Threads + Sync>(
 }
 
 /// The same of the net and the tasks of all cases.
-fn tells_of_two<R: Threads + Sync>(rt: &R, alloc: Global) -> Result<bool, Fail> {
+fn reports_of_two<R: Threads + Sync>(rt: &R, alloc: Global) -> Result<bool, Fail> {
     let ready = net_with_rows(alloc)?;
     let tasks = all_cases(alloc)?;
-    tells_two_tasks(rt, alloc, &ready, &tasks)
+    reports_two_tasks(rt, alloc, &ready, &tasks)
 }
 
-/// Whether one thread alone gives the verdicts of all cases, in order, and tells the gate of three tasks.
-fn tells_tasks_alone(alloc: Global, ready: &Ready, tasks: &Tasks) -> Result<bool, Fail>
+/// Whether one thread alone gives the verdicts of all cases, in order, and calls the gate for three
+/// tasks.
+fn reports_tasks_alone(alloc: Global, ready: &Ready, tasks: &Tasks) -> Result<bool, Fail>
     requires vars { tasks.now.vars ≡ [] }
     requires long { length tasks.now.tasks ≡ 3 }
     requires over { (net : ARawNet) → net.nets ≡ 1 → All (IsTaskOver net 0) tasks.now.tasks }
@@ -215,22 +218,22 @@ fn tells_tasks_alone(alloc: Global, ready: &Ready, tasks: &Tasks) -> Result<bool
 }
 
 /// The same of the net and the tasks of all cases.
-fn tells_alone(alloc: Global) -> Result<bool, Fail> {
+fn reports_alone(alloc: Global) -> Result<bool, Fail> {
     let ready = net_with_rows(alloc)?;
     let tasks = all_cases(alloc)?;
-    tells_tasks_alone(alloc, &ready, &tasks)
+    reports_tasks_alone(alloc, &ready, &tasks)
 }
 
 #[test]
-fn one_thread_alone_tells_of_the_tasks_in_their_order(rt: HostRuntime) -> Result<(), Fail> {
-    let same = tells_alone(rt.alloc())?;
+fn one_thread_alone_reports_the_tasks_in_their_order(rt: HostRuntime) -> Result<(), Fail> {
+    let same = reports_alone(rt.alloc())?;
     assert!(rt; same);
     Ok(())
 }
 
 #[test]
-fn some_tasks_are_told_of_in_the_order_of_the_numbers(rt: HostRuntime) -> Result<(), Fail> {
-    let same = tells_of_two(&rt, rt.alloc())?;
+fn some_tasks_are_reported_in_the_order_of_the_numbers(rt: HostRuntime) -> Result<(), Fail> {
+    let same = reports_of_two(&rt, rt.alloc())?;
     assert!(rt; same);
     Ok(())
 }
@@ -238,7 +241,7 @@ fn some_tasks_are_told_of_in_the_order_of_the_numbers(rt: HostRuntime) -> Result
 #[test]
 fn reports_stand_in_the_order_of_the_tasks(rt: HostRuntime) -> Result<(), Fail> {
     for workers in 1..5 {
-        let same = tells_in_order(&rt, rt.alloc(), workers)?;
+        let same = reports_in_order(&rt, rt.alloc(), workers)?;
         assert!(rt; same, "with {workers} workers");
     }
     Ok(())

@@ -1,10 +1,12 @@
--- For private functions. What the reader holds of the lines that it has read, and what its parts answer.
+-- For private functions. What the reader holds of the lines that it has read, and what its parts
+-- answer.
 use Rattle.std.specs.Prelude.{◌≡◌, ◌≤◌, ℕ, ◌++◌, ◌∷◌, [], List, length, Option, Some, None, Result, Ok, Err}
+use Rattle.ste_base.specs.Limits.{most_variables}
 use Rattle.bool_expr.specs.declared.expr.Expr.{Expr}
 use Rattle.bool_expr.specs.declared.fault.ExprFault.{ExprFault}
 use Rattle.bool_expr.specs.declared.fault.ExprFault.TheVariants as expr_fault
 use Rattle.bool_expr.specs.Grammar.{Expression}
-use Rattle.bool_expr.specs.Read.{IsAnswer}
+use Rattle.bool_expr.specs.Read.{IsExprAnswer}
 use Rattle.bool_expr.specs.Tree.{tree_of}
 use Rattle.assert_syntax.specs.declared.draft.OpenTask.{OpenTask}
 use Rattle.assert_syntax.specs.declared.draft.OpenTask.TheVariants as task
@@ -31,11 +33,18 @@ use Rattle.assert_syntax.specs.Spelled.{from_of, to_of}
 
 -- what is known of the earlier lines
 abbrev pub context_held : Known → Context
-context_held known = record { place = known.place; vars = known.vars; names = known.names.keys; vertices = known.vertices.keys; edges = known.edges }
+context_held known =
+    record {
+      place = known.position;
+      vars = known.vars;
+      names = known.names.keys;
+      vertices = known.vertices.keys;
+      edges = known.edges;
+    }
 
 -- there are no more of anything than there may be
 pub record HasRoom (context : Context) : Type 0 where
-  pub vars : length context.vars ≤ 1000
+  pub vars : length context.vars ≤ most_variables
   pub names : length context.names ≤ 256
   pub vertices : length context.vertices ≤ 1000
   pub edges : context.edges ≤ 10000
@@ -52,13 +61,14 @@ IsFault line found OutOfMemory = Unit {0}
 
 -- what a text is read as that spells this
 abbrev pub IsRead : List (List ℕ) → Option Expression → Result Expr ExprFault → Type 0
-IsRead vars (Some d) answer = IsAnswer vars d answer
+IsRead vars (Some d) answer = IsExprAnswer vars d answer
 IsRead vars None (Err expr_fault.BadExpr) = Unit {0}
 IsRead vars None (Err expr_fault.OutOfMemory) = Unit {0}
 IsRead vars None other = ⊥
 
 -- the expressions of a clause, or its fault, by what its value and its guard are read as
-abbrev pub both_read : ℕ → Result Expr ExprFault → Result Expr ExprFault → Span → Result (Expr × Expr) TaskFault
+abbrev pub both_read : ℕ → Result Expr ExprFault → Result Expr ExprFault → Span →
+    Result (Expr × Expr) TaskFault
 both_read line (Err expr_fault.OutOfMemory) guard times = Err OutOfMemory
 both_read line value (Err expr_fault.OutOfMemory) times = Err OutOfMemory
 both_read line (Err expr_fault.BadExpr) guard times = Err (BadLine line)
@@ -71,10 +81,13 @@ both_read line (Ok value) (Ok guard) span.Late = Err (TooMany line)
 both_read line (Ok value) (Ok guard) times = Ok (value, guard)
 
 -- what the expressions of a clause are read as, by what its value and its guard spell
-abbrev pub IsClauseRead : List (List ℕ) → Option Expression → Option Expression → Span → ℕ → Result (Expr × Expr) TaskFault → Type 0
+abbrev pub IsClauseRead : List (List ℕ) → Option Expression → Option Expression → Span → ℕ →
+    Result (Expr × Expr) TaskFault → Type 0
 IsClauseRead vars value guard times line (Ok both) =
-    (clause_fault vars value guard times ≡ None) × (tree_of both.0 ≡ tree_over vars value) × (tree_of both.1 ≡ tree_over vars guard)
-IsClauseRead vars value guard times line (Err fault) = IsFault line (clause_fault vars value guard times) fault
+    (clause_fault vars value guard times ≡ None) × (tree_of both.0 ≡ tree_over vars value)
+    × (tree_of both.1 ≡ tree_over vars guard)
+IsClauseRead vars value guard times line (Err fault) =
+    IsFault line (clause_fault vars value guard times) fault
 
 -- one more on this side of two lists
 abbrev pub side_added : {T : Type 0} → Side → List T → List T → T → List T × List T
@@ -84,20 +97,28 @@ side_added Consequent ant con item = (ant, con ++ item ∷ [])
 -- the quintuple of a line
 abbrev pub quint_of : ℕ → Clause → Expr → Expr → RawQuint
 quint_of line clause value guard =
-    record { line = line; guard = guard; node = clause.node; value = value; from = from_of clause.span; to = to_of clause.span }
+    record {
+      line = line;
+      guard = guard;
+      node = clause.node;
+      value = value;
+      from = from_of clause.span;
+      to = to_of clause.span;
+    }
 
 -- the binding of a line
 abbrev pub bind_of : ℕ → Clause → Expr → Expr → RawBind
-bind_of line clause value guard = record { line = line; guard = guard; node = clause.node; value = value }
+bind_of line clause value guard =
+    record { line = line; guard = guard; node = clause.node; value = value }
 
--- the edge, with a clause more
+-- the edge, with one more clause
 abbrev pub edge_with : Option RawEdge → Side → RawBind → Option RawEdge
 edge_with None side bind = None
 edge_with (Some edge) side bind =
     let both = side_added side edge.ant edge.con bind in
     Some (record edge { ant = both.0; con = both.1 })
 
--- the open task, with a clause more
+-- the open task, with one more clause
 abbrev pub clause_added : OpenTask → ℕ → Clause → Expr → Expr → OpenTask
 clause_added task.Closed line clause value guard = task.Closed
 clause_added (task.Ste head name reset ant con weak) line clause value guard =
@@ -106,7 +127,7 @@ clause_added (task.Ste head name reset ant con weak) line clause value guard =
 clause_added (task.Gste head name reset edges edge) line clause value guard =
     task.Gste head name reset edges (edge_with edge clause.side (bind_of line clause value guard))
 
--- the edge, with a weakened node more
+-- the edge, with one more weakened node
 abbrev pub mark_added : Option RawEdge → RawMark → Option RawEdge
 mark_added None mark = None
 mark_added (Some edge) mark = Some (record edge { weak = edge.weak ++ mark ∷ [] })
@@ -116,7 +137,7 @@ abbrev pub weakening_of : ℕ → List ℕ → Span → RawWeak
 weakening_of line node times =
     record { line = line; node = node; from = from_of times; to = to_of times }
 
--- the open task, with a weakening more
+-- the open task, with one more weakening
 abbrev pub weak_added : OpenTask → ℕ → List ℕ → Span → OpenTask
 weak_added task.Closed line node times = task.Closed
 weak_added (task.Ste head name reset ant con weak) line node times =
@@ -129,7 +150,7 @@ abbrev pub edges_closed : List RawEdge → Option RawEdge → List RawEdge
 edges_closed edges None = edges
 edges_closed edges (Some edge) = edges ++ edge ∷ []
 
--- the open task, with an edge more
+-- the open task, with one more edge
 abbrev pub edge_added : OpenTask → ℕ → ℕ → ℕ → OpenTask
 edge_added (task.Gste head name reset edges edge) line from to =
     task.Gste head name reset (edges_closed edges edge)

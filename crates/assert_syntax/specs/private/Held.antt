@@ -1,6 +1,6 @@
 -- For private functions. Forms of lines as the code holds them: over the words of their lines.
 use Rattle.std.specs.Prelude.{ℕ, List, codes}
-use Rattle.blif_lines.specs.Laws.{spaced}
+use Rattle.blif_lines.specs.Laws.{text_of_words}
 use Rattle.assert_syntax.specs.declared.form.Clause as held_clause
 use Rattle.assert_syntax.specs.declared.form.Form as held_form
 use Rattle.assert_syntax.specs.declared.form.Form.TheVariants.{Vars, Ste, Gste, Edge, Clause, Weak, End, Wrong}
@@ -11,14 +11,14 @@ use Rattle.assert_syntax.specs.Forms as said
 -- the text of a guard
 abbrev pub guard_held : Guard → List ℕ
 guard_held Absent = codes "1"
-guard_held (Words words) = spaced words.now
+guard_held (Words words) = text_of_words words.now
 
 -- the clause with the texts of its words
 abbrev pub clause_held : held_clause.Clause → said.Clause
 clause_held clause = record {
   side = clause.side;
   node = clause.node.now;
-  value = spaced clause.value.now;
+  value = text_of_words clause.value.now;
   guard = guard_held clause.guard;
   span = clause.span;
 }

@@ -65,7 +65,8 @@ fn row_with(alloc: Global, characters: &[u8], output: &[u8]) -> Result<Form, All
     }
 }
 
-/// What a line spells whose first word, which does not begin with a dot, is `first`, and whose further words are these.
+/// What a line spells whose first word, which does not begin with a dot, is `first`, and whose
+/// further words are these.
 pub fn form_of_row(alloc: Global, first: &[u8], words: &[Name]) -> Result<Form, AllocError>
     ensures { IfOk result (λ form. form ≡ form_of_row first.now words.now) }
 {

@@ -16,7 +16,8 @@ fn equals(word: &[u8]) -> Option<usize>
     word.iter().position(|byte| *byte == b'=')
 }
 
-/// What stands before the first `=` of a word, and what stands behind it; without one all of the word, and nothing.
+/// What stands before the first `=` of a word, and what stands behind it; without one all of the
+/// word, and nothing.
 fn sides(word: &[u8]) -> (&[u8], &[u8])
     ensures formal { result.0.now
         ≡ take (unwrap_or (position is_equals word.now) (length word.now)) word.now }

@@ -7,26 +7,32 @@ use Rattle.clock_step.specs.declared.fault.InputFault.{InputFault}
 use Rattle.clock_step.specs.declared.fault.InputFault.TheVariants.{OutOfMemory}
 use Rattle.clock_step.specs.Forms.{order_of, row_of}
 use Rattle.clock_step.specs.Order.{is_undriven}
-use Rattle.clock_step.specs.Faults.{names_fault, order_fault, rows_fault, names_of}
+use Rattle.clock_step.specs.Faults.{order_names_fault, order_fault, rows_fault, names_of}
 
--- the names have no fault, and the nodes are their nets, which are different and each an input or free
-pub record AreNodes (net_of : List ℕ → Option ℕ) (net : RawNet) (names : List (List ℕ)) (nodes : List NodeId) : Type 0 where
+-- the names have no fault, and the nodes are their nets, which are different and each an input or
+-- free
+pub record AreNodes (net_of : List ℕ → Option ℕ) (net : RawNet) (names : List (List ℕ))
+    (nodes : List NodeId) : Type 0 where
   pub spelled : map (λ node. Some node.0) nodes ≡ map net_of names
   pub different : AllPairs (λ one other. one.0 ≢ other.0) nodes
   pub undriven : All (λ node. IsTrue (is_undriven net node.0)) nodes
 
 -- the nodes of these names on a line of this number, or what is wrong with them
-abbrev pub IsOrderOf : (List ℕ → Option ℕ) → RawNet → ℕ → List (List ℕ) → Result (List NodeId) InputFault → Type 0
-IsOrderOf net_of net line names (Ok nodes) = (names_fault net_of net line names ≡ None) × AreNodes net_of net names nodes
+abbrev pub IsOrderOf : (List ℕ → Option ℕ) → RawNet → ℕ → List (List ℕ) →
+    Result (List NodeId) InputFault → Type 0
+IsOrderOf net_of net line names (Ok nodes) = (order_names_fault net_of net line names ≡ None)
+    × AreNodes net_of net names nodes
 IsOrderOf net_of net line names (Err OutOfMemory) = Unit {0}
-IsOrderOf net_of net line names (Err fault) = names_fault net_of net line names ≡ Some fault
+IsOrderOf net_of net line names (Err fault) = order_names_fault net_of net line names ≡ Some fault
 
 -- the nodes of a first line, or what is wrong with it
 abbrev pub IsOrder : (List ℕ → Option ℕ) → RawNet → Line → Result (List NodeId) InputFault → Type 0
 IsOrder net_of net line (Ok nodes) =
-    (order_fault net_of net line.number (order_of line.words) ≡ None) × AreNodes net_of net (names_of (line ∷ [])) nodes
+    (order_fault net_of net line.number (order_of line.words) ≡ None)
+    × AreNodes net_of net (names_of (line ∷ [])) nodes
 IsOrder net_of net line (Err OutOfMemory) = Unit {0}
-IsOrder net_of net line (Err fault) = order_fault net_of net line.number (order_of line.words) ≡ Some fault
+IsOrder net_of net line (Err fault) = order_fault net_of net line.number (order_of line.words)
+    ≡ Some fault
 
 -- the rows of these lines, or the first fault of them
 abbrev pub AreRows : ℕ → ℕ → List Line → Result (List (List Bool)) InputFault → Type 0

@@ -1,4 +1,5 @@
--- For private functions. What cuts leave in a matrix where each is put there, one after another, and the first bits of latches.
+-- For private functions. What cuts leave in a matrix where each is put there, one after another,
+-- and the first bits of latches.
 use Rattle.std.specs.Prelude.{◌≡◌, ℕ, Bool, true, false, List, Any, IsTrue, ◌⊎◌, ◌&&◌, ◌==◌, if◌then◌else◌}
 use Rattle.net_core.specs.declared.raw.Init.{Init}
 use Rattle.net_core.specs.declared.raw.Init.TheVariants.{Zero, One, Free}

@@ -15,4 +15,5 @@ block_bit block s id = bit_at block.bits.items ((s - block.from) * block.nets + 
 
 -- the bits of the block at its times, and others at all other times
 abbrev pub over_block : (ℕ → ℕ → Bool) → Block → ℕ → ℕ → Bool
-over_block given block s id = if (nat_le block.from s && nat_lt s block.to) then block_bit block s id else given s id
+over_block given block s id =
+    if (nat_le block.from s && nat_lt s block.to) then block_bit block s id else given s id

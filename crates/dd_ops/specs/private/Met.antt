@@ -12,7 +12,7 @@ use Rattle.dd_ops.specs.private.Recursion.{BitRule, named, AreRefs}
 -- what was met, as a list
 abbrev pub entries_of : Memo → List Entry
 entries_of (InPlace few) = few
-entries_of (InTable results) = results.entries.items
+entries_of (InTable hashed_memo) = hashed_memo.entries.items
 
 -- r was met for x
 abbrev pub HasMet : Memo → Operands → Ref → Type 0
@@ -21,7 +21,7 @@ HasMet m x r = (is_used x ≡ true) × Contains (entries_of m) (entry_of x r)
 -- something was met for x, where a search finds it
 abbrev pub IsMet : Memo → Operands → Type 0
 IsMet (InPlace few) x = (is_used x ≡ true) × ((r : Ref) × Contains few (entry_of x r))
-IsMet (InTable results) x = (is_used x ≡ true) × IsOnWalk results.entries.items x
+IsMet (InTable hashed_memo) x = (is_used x ≡ true) × IsOnWalk hashed_memo.entries.items x
 
 -- nothing was met
 abbrev pub IsBlank : Memo → Type 0

@@ -8,14 +8,16 @@ use Rattle.dd_ops.specs.declared.few.Entry.{Entry}
 
 -- whether operands are the same, one by one
 abbrev pub same_operands : Operands → Operands → Bool
-same_operands x y = same_ref x.first y.first && (same_ref x.second y.second && same_ref x.third y.third)
+same_operands x y =
+    same_ref x.first y.first && (same_ref x.second y.second && same_ref x.third y.third)
 
 abbrev pub entry_of : Operands → Ref → Entry
 entry_of x r = record { operands = x; result = r }
 
 -- the operands of an unused place
 abbrev pub no_operands : Operands
-no_operands = record { first = record { 0 = 0 }; second = record { 0 = 0 }; third = record { 0 = 0 } }
+no_operands =
+    record { first = record { 0 = 0 }; second = record { 0 = 0 }; third = record { 0 = 0 } }
 
 abbrev pub is_used : Operands → Bool
 is_used x = not (same_operands x no_operands)
@@ -30,13 +32,15 @@ taken es = count_by (λ e. is_used e.operands) es
 
 -- the number that is made of operands, modulo 2^64 (multiplicative hashing)
 unfoldable pub mixed : Operands → ℕ
-mixed x = ((x.first.0 * 11400714819323198485 % 2 ^ 64 + x.second.0 * 14029467366897019727 % 2 ^ 64) % 2 ^ 64 + x.third.0 * 9650029242287828579 % 2 ^ 64) % 2 ^ 64
+mixed x =
+    ((x.first.0 * 11400714819323198485 % 2 ^ 64 + x.second.0 * 14029467366897019727 % 2 ^ 64) % 2 ^ 64 + x.third.0 * 9650029242287828579 % 2 ^ 64) % 2 ^ 64
 
 -- the place where the walk of operands begins
 unfoldable pub home : ℕ → Operands → ℕ
 home size x = mixed x * size / 2 ^ 64
 
--- the place that the walk comes to after k others: from the home on, and from the last one to the first
+-- the place that the walk comes to after k others: from the home on, and from the last one to the
+-- first
 unfoldable pub walk : ℕ → Operands → ℕ → ℕ
 walk size x k = (home size x + k) % size
 
@@ -70,17 +74,21 @@ pub record IsPlaced (old : List Entry) (e : Entry) (new : List Entry) : Type 0 w
   pub free : is_used (entry_on old e.operands steps).operands ≡ false
   pub is : new ≡ set old (walk (length old) e.operands steps) e
 
--- what a search finds in the one table stands in the other, or is the entry, and all that it found there it finds here, and the entry
+-- what a search finds in the one table stands in the other, or is the entry, and all that it found
+-- there it finds here, and the entry
 pub record AddsEntry (old : List Entry) (e : Entry) (new : List Entry) : Type 0 where
-  pub only : (y : Operands) (q : Ref) → is_used y ≡ true → Contains new (entry_of y q) → Contains old (entry_of y q) ⊎ ((y ≡ e.operands) × (q ≡ e.result))
+  pub only : (y : Operands) (q : Ref) → is_used y ≡ true → Contains new (entry_of y q) →
+      Contains old (entry_of y q) ⊎ ((y ≡ e.operands) × (q ≡ e.result))
   pub kept : (y : Operands) → is_used y ≡ true → IsOnWalk old y → IsOnWalk new y
   pub added : IsOnWalk new e.operands
 
 -- the table has just the first n of these entries that are used, each where a search finds it
 pub record HasFirst (entries : List Entry) (n : ℕ) (table : List Entry) : Type 0 where
   pub few : taken table ≤ taken (take n entries)
-  pub only : (y : Operands) (q : Ref) → is_used y ≡ true → Contains table (entry_of y q) → Contains entries (entry_of y q)
-  pub all : (i : ℕ) → i < n → i < length entries → is_used (entry_at entries i).operands ≡ true → IsOnWalk table (entry_at entries i).operands
+  pub only : (y : Operands) (q : Ref) → is_used y ≡ true → Contains table (entry_of y q) →
+      Contains entries (entry_of y q)
+  pub all : (i : ℕ) → i < n → i < length entries → is_used (entry_at entries i).operands ≡ true →
+      IsOnWalk table (entry_at entries i).operands
 
 -- the table has just these entries that are used, each where a search finds it
 abbrev pub HasEntries : List Entry → List Entry → Type 0

@@ -1,6 +1,6 @@
 -- For private functions. The parts of a cut and of a gate.
 use Rattle.std.specs.Prelude.{◌∷◌, ◌++◌, map, [], List}
-use Rattle.dd_nodes.specs.Diagram.{Function}
+use Rattle.ste_base.specs.Functions.{Function}
 use Rattle.net_core.specs.declared.cover.Lit.{Lit}
 use Rattle.net_core.specs.Work.{SymbolicSet, conjunction, negation, some_bit, products, factors}
 

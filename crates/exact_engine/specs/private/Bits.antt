@@ -1,7 +1,7 @@
 -- For private functions. The bits of nets at one time, by references.
 use Rattle.std.specs.Prelude.{◌≡◌, ◌≢◌, ◌<◌, ◌≤◌, ℕ, Bool, List, [], ◌∷◌, ◌++◌, All, length, map, Option, None, Some, slice_index, slice_index_or, if◌then◌else◌}
 use Rattle.dd_nodes.specs.declared.node.Ref.{Ref}
-use Rattle.dd_nodes.specs.Diagram.{Function}
+use Rattle.ste_base.specs.Functions.{Function}
 use Rattle.dd_nodes.specs.Stores.{Store, Means}
 use Rattle.ste_base.specs.declared.id.NodeId.{NodeId}
 use Rattle.net_core.specs.declared.cover.Cover.{Cover}
@@ -55,18 +55,21 @@ AreBits s nets bit refs = (id : ℕ) → id < nets → Means s (bit id) (net_ref
 -- each net that no gate drives has its bit
 abbrev pub AreSources : Store → RawNet → (ℕ → Function) → List Ref → Type 0
 AreSources s net bit refs =
-    (id : ℕ) → id < net.nets → All (λ gate. gate.output.0 ≢ id) net.gates → Means s (bit id) (net_ref refs id)
+    (id : ℕ) → id < net.nets → All (λ gate. gate.output.0 ≢ id) net.gates →
+    Means s (bit id) (net_ref refs id)
 
 -- the nets that no gate from the n-th place of the order on drives have their bits
 abbrev pub AreSettled : Store → RawNet → List ℕ → ℕ → (ℕ → Function) → List Ref → Type 0
 AreSettled s net order n bit refs =
     (id : ℕ) → id < net.nets →
-    ((k : ℕ) (d : Gate) → n ≤ k → k < length order → (slice_index_or net.gates (slice_index order k) d).output.0 ≢ id) →
+    ((k : ℕ) (d : Gate) → n ≤ k → k < length order →
+    (slice_index_or net.gates (slice_index order k) d).output.0 ≢ id) →
     Means s (bit id) (net_ref refs id)
 
 -- the gates have their bits at each assignment of so many variables
 abbrev pub FollowGates : ℕ → RawNet → (ℕ → Function) → Type 0
-FollowGates vars net bit = (bits : List Bool) → length bits ≡ vars → AreGateBits net (λ id. bit id bits)
+FollowGates vars net bit =
+    (bits : List Bool) → length bits ≡ vars → AreGateBits net (λ id. bit id bits)
 
 -- the functions for one time
 abbrev pub time_work : RawNet → (ℕ → Function) → List Function

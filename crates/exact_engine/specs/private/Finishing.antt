@@ -1,6 +1,6 @@
 -- For private functions. The results, from where the quintuples are broken.
 use Rattle.std.specs.Prelude.{ℕ, List, [], ◌∷◌}
-use Rattle.dd_nodes.specs.Diagram.{Function}
+use Rattle.ste_base.specs.Functions.{Function}
 use Rattle.dd_nodes.specs.Stores.{Means, Store}
 use Rattle.net_core.specs.Work.{conjunction, negation}
 use Rattle.exact_model.specs.ExactWork.{some_choices}

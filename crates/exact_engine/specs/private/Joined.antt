@@ -2,11 +2,13 @@
 use Rattle.std.specs.Prelude.{◌≡◌, List, Contains}
 use Rattle.dd_nodes.specs.declared.node.Ref.{Ref}
 use Rattle.dd_nodes.specs.Stores.{Store, Means}
-use Rattle.net_core.specs.Work.{Function, chain, whole}
+use Rattle.ste_base.specs.Functions.{Function}
+use Rattle.net_core.specs.Work.{chain, whole}
 
 -- The reference has a function that gives the target where it is joined with the rest, and what is
 -- built on the way is among the work.
-pub record Leads (join : Function → Function → Function) (target : Function) (work rest : List Function) (t : Store) (r : Ref) : Type 0 where
+pub record Leads (join : Function → Function → Function) (target : Function)
+    (work rest : List Function) (t : Store) (r : Ref) : Type 0 where
   pub so_far : Function
   pub means : Means t so_far r
   pub ends : whole join so_far rest ≡ target

@@ -25,21 +25,23 @@ abbrev pub drivers_in : Instance → List Driver
 drivers_in instance = map (driver_at instance) (driver_lines instance.model)
 
 -- marks with those of these nets
-abbrev pub marked : List Bool → List NodeId → List Bool
-marked marks [] = marks
-marked marks (node ∷ nodes) = marked (slice_set marks node.0 true) nodes
+abbrev pub marks_with : List Bool → List NodeId → List Bool
+marks_with marks [] = marks
+marks_with marks (node ∷ nodes) = marks_with (slice_set marks node.0 true) nodes
 
 -- the first driver of a net that is marked, or has an earlier driver
-abbrev pub twice : List Bool → List Driver → Option Driver
-twice marks [] = None
-twice marks (driver ∷ drivers) =
-    if slice_index_or marks driver.net false then Some driver else twice (slice_set marks driver.net true) drivers
+abbrev pub first_driven_twice : List Bool → List Driver → Option Driver
+first_driven_twice marks [] = None
+first_driven_twice marks (driver ∷ drivers) =
+    if slice_index_or marks driver.net false then Some driver
+    else first_driven_twice (slice_set marks driver.net true) drivers
 
 -- the fault of it
 abbrev pub driven_fault : List (List ℕ) → Driver → NetFault
 driven_fault names driver = DrivenTwice driver.line (slice_index_or names driver.net [])
 
--- the latch of a line: its type, and the numbers of its output's net and its control's, where it has these
+-- the latch of a line: its type, and the numbers of its output's net and its control's, where it
+-- has these
 abbrev pub clock_at : Instance → ℕ × LatchLine → Clock
 clock_at instance at = record {
   line = at.0;
@@ -58,18 +60,22 @@ no_clocks = record { rising = None; control = None }
 
 -- the latch has another type, or another control, than what came before
 abbrev pub mixes : Clocks → Clock → Bool
-mixes clocks latch = are_apart beq clocks.rising latch.rising || are_apart nat_eq clocks.control latch.control
+mixes clocks latch = are_apart beq clocks.rising latch.rising
+    || are_apart nat_eq clocks.control latch.control
 
--- what there is with one latch more
+-- what there is with one more latch
 abbrev pub clocks_with : Clocks → Clock → Clocks
 clocks_with clocks latch =
-    record { rising = option_or clocks.rising latch.rising; control = option_or clocks.control latch.control }
+    record {
+      rising = option_or clocks.rising latch.rising;
+      control = option_or clocks.control latch.control;
+    }
 
 -- the first latch that has another type, or another control, than what came before
-abbrev pub mixed : Clocks → List Clock → Option Clock
-mixed clocks [] = None
-mixed clocks (latch ∷ latches) =
-    if mixes clocks latch then Some latch else mixed (clocks_with clocks latch) latches
+abbrev pub first_mixed : Clocks → List Clock → Option Clock
+first_mixed clocks [] = None
+first_mixed clocks (latch ∷ latches) =
+    if mixes clocks latch then Some latch else first_mixed (clocks_with clocks latch) latches
 
 -- the fault of it
 abbrev pub mixed_fault : List (List ℕ) → Clock → NetFault

@@ -1,4 +1,4 @@
--- For private functions. What the passes over instances stand on.
+-- For private functions. What the passes over instances work on.
 use Rattle.std.specs.Prelude.{◌≡◌, ◌≤◌, ℕ, All, List, length, map}
 use Rattle.std.specs.List.{AllZip}
 use Rattle.net_core.specs.declared.cover.Cover.{Cover}
@@ -11,9 +11,11 @@ use Rattle.instances.specs.declared.table.Row.{Row}
 use Rattle.instances.specs.Numbers.{AreRows, numbers_in}
 use Rattle.flat_net.specs.private.Passes.{IsFirstCover, IsNarrow}
 
--- the signals of each model, the rows of the instances, by row the numbers of signals and of the first cover, the nets' own
--- names, and the covers
-pub record ArePartsOf (models : List Model) (names : List (List (List ℕ))) (rows : List Row) (numbers : List (List ℕ)) (own : List (List ℕ)) (firsts : List ℕ) (covers : List Cover) : Type 0 where
+-- the signals of each model, the rows of the instances, by row the numbers of signals and of the
+-- first cover, the nets' own names, and the covers
+pub record ArePartsOf (models : List Model) (names : List (List (List ℕ))) (rows : List Row)
+    (numbers : List (List ℕ)) (own : List (List ℕ)) (firsts : List ℕ) (covers : List Cover) :
+    Type 0 where
   pub signals_known : names ≡ map signals models
   pub rows_known : AreRows models rows
   pub numbers_known : numbers ≡ map (λ path. numbers_in models path) (instances models)

@@ -1,5 +1,6 @@
--- For private functions. The set of a gate of few inputs, for a choice of constant sets of the inputs. A choice is a number: its
--- digits to the base 4, from the lowest on, are the inputs' sets, 1 where a set has 0, and 2 more where it has 1.
+-- For private functions. The set of a gate of few inputs, for a choice of constant sets of the
+-- inputs. A choice is a number: its digits to the base 4, from the lowest on, are the inputs' sets,
+-- 1 where a set has 0, and 2 more where it has 1.
 use Rattle.std.specs.Prelude.{◌≡◌, ◌<◌, ◌≤◌, ◌+◌, ◌*◌, ℕ, List, [], ◌∷◌, All, length}
 use Rattle.std.specs.Int.{bit_at}
 use Rattle.ste_base.specs.declared.id.NodeId.{NodeId}
@@ -11,7 +12,7 @@ use Rattle.gate_sets.specs.declared.words.Digits.TheVariants.{Sets}
 use Rattle.gate_sets.specs.NetSets.{net_at}
 use Rattle.gate_sets.specs.private.Words.{rows_bit}
 
--- for each choice a bit tells whether the gate can be 0, and one whether it can be 1
+-- for each choice a bit says whether the gate can be 0, and one whether it can be 1
 pub record AreChoices (on off : List (List Lit)) (c : Choices) : Type 0 where
   pub zero : (choice : ℕ) → choice < 64 → bit_at c.can0 choice ≡ rows_bit Sets off choice
   pub one : (choice : ℕ) → choice < 64 → bit_at c.can1 choice ≡ rows_bit Sets on choice
@@ -29,7 +30,8 @@ pub record IsDigit (r : NetRails) (digit : ℕ) : Type 0 where
 -- the choice which the sets of these nets are
 abbrev pub choice_at : List NetRails → List NodeId → ℕ
 choice_at nets [] = 0
-choice_at nets (input ∷ inputs) = (net_at nets input.0).can0.0 + 2 * (net_at nets input.0).can1.0 + 4 * choice_at nets inputs
+choice_at nets (input ∷ inputs) =
+    (net_at nets input.0).can0.0 + 2 * (net_at nets input.0).can1.0 + 4 * choice_at nets inputs
 
 -- the sets of at most three nets are constants, and this choice
 pub record IsChoice (nets : List NetRails) (inputs : List NodeId) (choice : ℕ) : Type 0 where

@@ -20,4 +20,5 @@ abbrev pub AreOrdered : Store → List NetRails → ℕ → List NodeId → Type
 AreOrdered s nets from [] = Unit {0}
 AreOrdered s nets from (input ∷ inputs) =
     (IsFree (net_at nets input.0) × AreOrdered s nets from inputs)
-    ⊎ ((v : ℕ) × (from ≤ v) × IsVariable s v (net_at nets input.0) × AreOrdered s nets (v + 1) inputs)
+    ⊎ ((v : ℕ) × (from ≤ v) × IsVariable s v (net_at nets input.0) ×
+    AreOrdered s nets (v + 1) inputs)

@@ -3,7 +3,8 @@ use Rattle.std.specs.Prelude.{Bool, true, List, ◌∷◌, [], if◌then◌else�
 use Rattle.net_core.specs.Cases.{has_only_any}
 use Rattle.net_core.specs.declared.cover.Lit.{Lit}
 use Rattle.net_core.specs.declared.cover.Lit.TheVariants.{Zero, One, Any}
-use Rattle.net_core.specs.Work.{Function, SymbolicSet, disjunction, factor, negation, never, row_products, rows_work, sum}
+use Rattle.ste_base.specs.Functions.{Function}
+use Rattle.net_core.specs.Work.{SymbolicSet, disjunction, factor, negation, never, row_products, rows_work, sum}
 
 -- what a literal refuses of a set: o for 0, z for 1, nothing for -
 abbrev pub other_factor : Lit → SymbolicSet → Function
@@ -11,9 +12,11 @@ other_factor Zero w = w.one
 other_factor One w = w.zero
 other_factor Any w = never
 
--- where some row matches, and where none does, of sets that have one bit each; and the functions for both
+-- where some row matches, and where none does, of sets that have one bit each; and the functions
+-- for both
 abbrev pub list_set : List (List Lit) → List SymbolicSet → SymbolicSet
-list_set rows sets = record { zero = negation (sum (row_products rows sets)); one = sum (row_products rows sets) }
+list_set rows sets =
+    record { zero = negation (sum (row_products rows sets)); one = sum (row_products rows sets) }
 
 abbrev pub list_work : List (List Lit) → List SymbolicSet → List Function
 list_work rows sets = negation (sum (row_products rows sets)) ∷ rows_work rows sets
@@ -51,8 +54,10 @@ abbrev pub refused_sums : Function → List Lit → List SymbolicSet → List Fu
 refused_sums f [] sets = []
 refused_sums f (lit ∷ row) [] = []
 refused_sums f (Any ∷ row) (w ∷ sets) = refused_sums f row sets
-refused_sums f (Zero ∷ row) (w ∷ sets) = disjunction f w.one ∷ refused_sums (disjunction f w.one) row sets
-refused_sums f (One ∷ row) (w ∷ sets) = disjunction f w.zero ∷ refused_sums (disjunction f w.zero) row sets
+refused_sums f (Zero ∷ row) (w ∷ sets) =
+    disjunction f w.one ∷ refused_sums (disjunction f w.one) row sets
+refused_sums f (One ∷ row) (w ∷ sets) =
+    disjunction f w.zero ∷ refused_sums (disjunction f w.zero) row sets
 
 -- the last of these sums
 abbrev pub refused_total : Function → List Lit → List SymbolicSet → Function

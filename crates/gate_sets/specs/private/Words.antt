@@ -30,7 +30,8 @@ lit_bit Sets Any choice = max (bit_at choice 0) (bit_at choice 1)
 -- 1 where each literal of the row does so with its digit
 abbrev pub row_bit : Digits → List Lit → ℕ → ℕ
 row_bit digits [] choice = 1
-row_bit digits (lit ∷ row) choice = min (lit_bit digits lit choice) (row_bit digits row (choice / base_of digits))
+row_bit digits (lit ∷ row) choice =
+    min (lit_bit digits lit choice) (row_bit digits row (choice / base_of digits))
 
 -- 1 where some row does
 abbrev pub rows_bit : Digits → List (List Lit) → ℕ → ℕ

@@ -3,7 +3,8 @@ use Rattle.std.specs.Prelude.{◌≡◌, ◌⊎◌, ℕ, suc, ◌<◌, List, [],
 use Rattle.graph_path.specs.declared.hop.Hop.{Hop}
 use Rattle.graph_path.specs.Routes.{IsHopRoute}
 
--- the distance of a vertex: how many hops are behind the first of a route from it with the fewest hops
+-- the distance of a vertex: how many hops are behind the first of a route from it with the fewest
+-- hops
 pub record IsDistance (hops : List Hop) (vertex k : ℕ) : Type 0 where
   pub some : (route : List ℕ) × IsHopRoute hops vertex route × (length route ≡ suc k)
   pub least : (others : List ℕ) → IsHopRoute hops vertex others → k < length others
@@ -11,7 +12,8 @@ pub record IsDistance (hops : List Hop) (vertex k : ℕ) : Type 0 where
 -- the distances below a level are known, and no others
 pub record AreDistancesBelow (hops : List Hop) (far : List (Option ℕ)) (level : ℕ) : Type 0 where
   pub some : (v k : ℕ) → slice_get far v ≡ Some (Some k) → (k < level) × IsDistance hops v k
-  pub none : (v : ℕ) → slice_get far v ≡ Some None → (others : List ℕ) → IsHopRoute hops v others → level < length others
+  pub none : (v : ℕ) → slice_get far v ≡ Some None → (others : List ℕ) → IsHopRoute hops v others →
+      level < length others
 
 -- all distances are known
 pub record AreDistances (hops : List Hop) (far : List (Option ℕ)) : Type 0 where

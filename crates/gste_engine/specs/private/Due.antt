@@ -1,4 +1,4 @@
--- For private functions. The run that is told of a strong assignment.
+-- For private functions. The run that is printed for a strong assignment.
 use Rattle.std.specs.Prelude.{◌≡◌, ◌⊎◌, ℕ, Bool, List, Option, None, Some}
 use Rattle.net_core.specs.declared.raw.RawNet.{RawNet}
 use Rattle.ste_model.specs.declared.run.Run.{Run}

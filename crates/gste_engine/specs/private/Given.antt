@@ -1,6 +1,6 @@
 -- For private functions. The parts of an edge's work functions.
 use Rattle.std.specs.Prelude.{ℕ, List, ◌∷◌, ◌++◌, map}
-use Rattle.dd_nodes.specs.Diagram.{Function}
+use Rattle.ste_base.specs.Functions.{Function}
 use Rattle.net_core.specs.declared.raw.RawNet.{RawNet}
 use Rattle.net_core.specs.Work.{SymbolicSet, negation, some_empty}
 use Rattle.ste_model.specs.declared.task.Bind.{Bind}
@@ -18,4 +18,5 @@ gated_sets f ws = map (λ w. gated_set w f) ws
 -- the functions behind those of one time: !c, f, and those of the next sets
 abbrev pub given_work : RawNet → SymbolicState → (ℕ → SymbolicSet) → List Function
 given_work net source sets =
-    negation (some_empty net sets) ∷ feasible_where net source sets ∷ sets_functions (given_by net source sets).latches
+    negation (some_empty net sets) ∷ feasible_where net source sets ∷
+    sets_functions (given_by net source sets).latches

@@ -4,7 +4,8 @@ use Rattle.gste_engine.specs.declared.waiting.Waiting.{Waiting}
 
 -- a vertex with a flag is on the list, and those of the list are vertices
 pub record IsWaiting (r : Waiting) : Type 0 where
-  pub listed : (vertex : ℕ) → IsTrue (get_or r.flags.items vertex false) → Contains r.list.items vertex
+  pub listed : (vertex : ℕ) → IsTrue (get_or r.flags.items vertex false) →
+      Contains r.list.items vertex
   pub inside : All (λ vertex. vertex < length r.flags.items) r.list.items
 
 -- this vertex waits too

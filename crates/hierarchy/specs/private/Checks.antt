@@ -1,4 +1,5 @@
--- For private functions. The lines of reachable models in one list, and the first fault that a check finds in a list.
+-- For private functions. The lines of reachable models in one list, and the first fault that a
+-- check finds in a list.
 use Rattle.std.specs.Prelude.{◌≡◌, ◌↔◌, ◌⊎◌, ℕ, suc, ◌++◌, ◌∷◌, [], List, Bool, Option, None, Some, map, slice_index_or, false, true, if◌then◌else◌}
 use Rattle.blif_syntax.specs.declared.models.Item.{Item}
 use Rattle.blif_syntax.specs.declared.models.Model.{Model}
@@ -35,7 +36,8 @@ first_fault_in check (x ∷ xs) = or_else (check x) (first_fault_in check xs)
 -- the fault is the first of its kind in a list, or there is none
 abbrev pub FirstIn : {X : Type 0} → (X → NetFault → Type 0) → List X → NetFault → Type 0
 FirstIn kind [] fault = ⊥
-FirstIn kind (x ∷ xs) fault = kind x fault ⊎ (((its : NetFault) → kind x its → ⊥) × FirstIn kind xs fault)
+FirstIn kind (x ∷ xs) fault = kind x fault ⊎ (((its : NetFault) → kind x its → ⊥)
+    × FirstIn kind xs fault)
 
 abbrev pub NoneIn : {X : Type 0} → (X → NetFault → Type 0) → List X → Type 0
 NoneIn kind [] = Unit {0}
@@ -43,8 +45,10 @@ NoneIn kind (x ∷ xs) = ((its : NetFault) → kind x its → ⊥) × NoneIn kin
 
 -- marks of just the models that the top reaches
 abbrev pub AreReached : List Model → List Bool → Type 0
-AreReached models marks = (k : ℕ) → (slice_index_or marks k false ≡ true) ↔ Reaches (uses models) 0 k
+AreReached models marks = (k : ℕ) → (slice_index_or marks k false ≡ true)
+    ↔ Reaches (uses models) 0 k
 
 -- the items of just those models, by line
 abbrev pub AreReachable : List Model → List ItemAt → Type 0
-AreReachable models lines = (marks : List Bool) × AreReached models marks × (lines ≡ marked_items marks models)
+AreReachable models lines = (marks : List Bool) × AreReached models marks
+    × (lines ≡ marked_items marks models)

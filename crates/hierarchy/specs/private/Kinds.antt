@@ -1,4 +1,5 @@
--- For private functions. The kinds of fault from some kind on, in their order, and what a check of one use finds.
+-- For private functions. The kinds of fault from some kind on, in their order, and what a check of
+-- one use finds.
 use Rattle.std.specs.Prelude.{List, ℕ, Option, None, Some, not, find, map, option_map, if◌then◌else◌}
 use Rattle.blif_syntax.specs.declared.models.Item.{Item}
 use Rattle.blif_syntax.specs.declared.models.Model.{Model}

@@ -2,7 +2,8 @@
 use Rattle.std.specs.Prelude.{◌≡◌, ◌≤◌, ◌⊎◌, ℕ, ◌+◌, ◌*◌, List, Bool, true, false, not, Contains, count_by, length, slice_index_or}
 
 -- all of these numbers are marked, and what is marked anew is one of them and on the work list
-pub record Marks (before : List Bool) (work numbers : List ℕ) (after : List Bool) (more : List ℕ) : Type 0 where
+pub record Marks (before : List Bool) (work numbers : List ℕ) (after : List Bool) (more : List ℕ) :
+    Type 0 where
   pub long : length after ≡ length before
   pub kept : (k : ℕ) → slice_index_or before k false ≡ true → slice_index_or after k false ≡ true
   pub all : (k : ℕ) → Contains numbers k → slice_index_or after k false ≡ true

@@ -8,4 +8,5 @@ lists_of (suc n) = map (λ bits. false ∷ bits) (lists_of n) ++ map (λ bits. t
 
 -- by number of inputs: all lists of so many bits
 abbrev pub AreChoices : List (List (List Bool)) → Type 0
-AreChoices choices = (k : ℕ) (d : List (List Bool)) → k < length choices → slice_index_or choices k d ≡ lists_of k
+AreChoices choices =
+    (k : ℕ) (d : List (List Bool)) → k < length choices → slice_index_or choices k d ≡ lists_of k

@@ -1,4 +1,5 @@
--- For private functions. What is known of the edges of a graph under one assignment, and routes along them.
+-- For private functions. What is known of the edges of a graph under one assignment, and routes
+-- along them.
 use Rattle.std.specs.Prelude.{◌≡◌, ◌≢◌, ◌<◌, ◌≤◌, ◌↔◌, ◌==◌, ◌&&◌, ℕ, Bool, not, List, [], ◌∷◌, length, IsTrue, nat_lt, if◌then◌else◌, Some, slice_get, slice_index_or}
 use Rattle.std.specs.declared.cmp.Ordering.TheVariants.{Greater}
 use Rattle.std.specs.Cmp.Lexicographic.{slice_cmp}
@@ -31,12 +32,15 @@ hop_fails failure.Weak hop = hop.weak
 abbrev pub is_feasible : Hop → Bool
 is_feasible hop = hop.feasible
 
--- the hop has the edge's ends, and says whether the edge is feasible under the table, and whether a consequent of it fails
-pub record IsHopOf (net : RawNet) (bits : List Bool) (table : ℕ → VertexState) (edge : Edge) (hop : Hop) : Type 0 where
+-- the hop has the edge's ends, and says whether the edge is feasible under the table, and whether a
+-- consequent of it fails
+pub record IsHopOf (net : RawNet) (bits : List Bool) (table : ℕ → VertexState) (edge : Edge)
+    (hop : Hop) : Type 0 where
   pub from : hop.from ≡ edge.from
   pub to : hop.to ≡ edge.to
   pub feasible : IsTrue hop.feasible ↔ ((sets : ℕ → BitSet) × IsFeasible net bits table edge sets)
-  pub fails : (how : Failure) → IsTrue (hop_fails how hop) ↔ FailsOn (fails_of how) net bits table edge
+  pub fails : (how : Failure) → IsTrue (hop_fails how hop) ↔ FailsOn
+      (fails_of how) net bits table edge
 
 -- a hop for each edge, by number
 abbrev pub AreHops : RawNet → List Bool → (ℕ → VertexState) → List Edge → List Hop → Type 0
@@ -56,12 +60,13 @@ IsGraphOutcome net graph bits Contradictory = IsGraphContradictory net graph bit
 IsGraphOutcome net graph bits Strong = IsGraphStrong net graph bits
 IsGraphOutcome net graph bits Weak = IsGraphWeak net graph bits
 IsGraphOutcome net graph bits Fine =
-    (¬ IsGraphContradictory net graph bits) × (¬ IsGraphStrong net graph bits) × (¬ IsGraphWeak net graph bits)
+    (¬ IsGraphContradictory net graph bits) × (¬ IsGraphStrong net graph bits) ×
+    (¬ IsGraphWeak net graph bits)
 
 -- ---- routes
 
--- a route from a vertex, by the numbers of its hops: the first one from this vertex, each other from where the one before
--- leads; all but the last are feasible, and the last one fails so
+-- a route from a vertex, by the numbers of its hops: the first one from this vertex, each other
+-- from where the one before leads; all but the last are feasible, and the last one fails so
 abbrev pub IsRoute : Failure → List Hop → ℕ → List ℕ → Type 0
 IsRoute how hops vertex [] = ⊥
 IsRoute how hops vertex (n ∷ []) =
@@ -75,31 +80,35 @@ abbrev pub IsBest : Failure → List Hop → ℕ → ℕ → List ℕ → Type 0
 IsBest how hops n vertex [] = (other : List ℕ) → IsRoute how hops vertex other → length other ≢ n
 IsBest how hops n vertex (k ∷ path) =
     IsRoute how hops vertex (k ∷ path) × (length (k ∷ path) ≡ n)
-    × ((other : List ℕ) → IsRoute how hops vertex other → length other ≡ n → slice_cmp nat_cmp (k ∷ path) other ≢ Greater)
+    × ((other : List ℕ) → IsRoute how hops vertex other → length other ≡ n →
+    slice_cmp nat_cmp (k ∷ path) other ≢ Greater)
 
 -- so for each vertex
 abbrev pub AreBest : Failure → List Hop → ℕ → List (List ℕ) → Type 0
-AreBest how hops n best = (vertex : ℕ) → vertex < length best → IsBest how hops n vertex (slice_index_or best vertex [])
+AreBest how hops n best =
+    (vertex : ℕ) → vertex < length best → IsBest how hops n vertex (slice_index_or best vertex [])
 
 -- the hop is from the vertex, feasible, and leads to a vertex with a route
 abbrev pub leads : List (List ℕ) → ℕ → Hop → Bool
-leads best vertex hop = (hop.from == vertex) && (hop.feasible && nat_lt 0 (length (slice_index_or best hop.to [])))
+leads best vertex hop =
+    (hop.from == vertex) && (hop.feasible && nat_lt 0 (length (slice_index_or best hop.to [])))
 
 -- the hop is from the vertex, and fails so
 abbrev pub ends_so : Failure → ℕ → Hop → Bool
 ends_so how vertex hop = (hop.from == vertex) && hop_fails how hop
 
--- a search for routes from vertex 0 with up to n hops: these are the least ones of some number of hops, no route from vertex
--- 0 has fewer, and where vertex 0 has none the number is n
-pub record IsSearched (how : Failure) (hops : List Hop) (n : ℕ) (best : List (List ℕ)) : Type 0 where
+-- a search for routes from vertex 0 with up to n hops: these are the least ones of some number of
+-- hops, no route from vertex 0 has fewer, and where vertex 0 has none the number is n
+pub record IsSearched (how : Failure) (hops : List Hop) (n : ℕ)
+    (best : List (List ℕ)) : Type 0 where
   pub count : ℕ
   pub some : 0 < count
   pub are : AreBest how hops count best
   pub fewest : (other : List ℕ) → IsRoute how hops 0 other → count ≤ length other
   pub all : slice_index_or best 0 [] ≡ [] → count ≡ n
 
--- the route from vertex 0 with the fewest hops, and among those with the least list of numbers; or no number where each
--- route has more than n hops
+-- the route from vertex 0 with the fewest hops, and among those with the least list of numbers; or
+-- no number where each route has more than n hops
 abbrev pub IsShortest : Failure → List Hop → ℕ → List ℕ → Type 0
 IsShortest how hops n [] = (other : List ℕ) → IsRoute how hops 0 other → n < length other
 IsShortest how hops n (k ∷ path) =

@@ -42,7 +42,8 @@ fails_cut how sets cut = cut.on && fails how (sets cut.node) cut.value
 
 -- some quintuple fails so at a time
 abbrev pub fails_at : Failure → List BitSet → List Quint → List Bool → ℕ → Bool
-fails_at how row quints bits t = list_any (λ quint. fails_cut how (set_at row) (quint_at bits t quint)) quints
+fails_at how row quints bits t =
+    list_any (λ quint. fails_cut how (set_at row) (quint_at bits t quint)) quints
 
 -- a binding of an edge fails so on the sets of a row
 abbrev pub bind_fails : Failure → List BitSet → List Bool → Bind → Bool
@@ -53,7 +54,8 @@ abbrev pub IsOutcome : RawNet → Assertion → List Bool → Outcome → Type 0
 IsOutcome net task bits Contradictory = IsContradictory net task bits
 IsOutcome net task bits Strong = IsStrong net task bits
 IsOutcome net task bits Weak = IsWeak net task bits
-IsOutcome net task bits Fine = (¬ IsContradictory net task bits) × (¬ IsStrong net task bits) × (¬ IsWeak net task bits)
+IsOutcome net task bits Fine =
+    (¬ IsContradictory net task bits) × (¬ IsStrong net task bits) × (¬ IsWeak net task bits)
 
 abbrev pub is_strong : Outcome → Bool
 is_strong Strong = true

@@ -1,4 +1,5 @@
--- For private functions. The possible sets of one time, as the plain checker comes to them net by net.
+-- For private functions. The possible sets of one time, as the plain checker comes to them net by
+-- net.
 use Rattle.std.specs.Prelude.{◌≡◌, ◌≢◌, ◌&&◌, ℕ, ◌<◌, ◌≤◌, ◌↔◌, Bool, false, not, List, length, All, IsTrue, slice_index, slice_index_or}
 use Rattle.std.specs.List.{list_all, list_any, zip}
 use Rattle.net_core.specs.declared.bit_set.BitSet.{BitSet}
@@ -34,13 +35,15 @@ NoGate net id = All (λ gate. gate.output.0 ≢ id) net.gates
 abbrev pub AreLatched : RawNet → ℕ → (ℕ → BitSet) → List BitSet → Type 0
 AreLatched net n family sets =
     (id : ℕ) → id < net.nets → NoGate net id →
-    ((k : ℕ) (d : Latch) → n ≤ k → k < length net.latches → (slice_index_or net.latches k d).output.0 ≢ id) → set_at sets id ≡ family id
+    ((k : ℕ) (d : Latch) → n ≤ k → k < length net.latches →
+    (slice_index_or net.latches k d).output.0 ≢ id) → set_at sets id ≡ family id
 
 -- the nets that no gate from the n-th place of the order on drives have their sets
 abbrev pub AreSets : RawNet → List ℕ → ℕ → (ℕ → BitSet) → List BitSet → Type 0
 AreSets net order n family sets =
     (id : ℕ) → id < net.nets →
-    ((k : ℕ) (d : Gate) → n ≤ k → k < length order → (slice_index_or net.gates (slice_index order k) d).output.0 ≢ id) →
+    ((k : ℕ) (d : Gate) → n ≤ k → k < length order →
+    (slice_index_or net.gates (slice_index order k) d).output.0 ≢ id) →
     set_at sets id ≡ family id
 
 -- each bit is in the set at its position
@@ -52,4 +55,5 @@ abbrev pub may_give_one : Cover → List BitSet → List (List Bool) → Bool
 may_give_one cover sets choices = list_any (λ bits. fits bits sets && cover_bit cover bits) choices
 
 abbrev pub may_give_zero : Cover → List BitSet → List (List Bool) → Bool
-may_give_zero cover sets choices = list_any (λ bits. fits bits sets && not (cover_bit cover bits)) choices
+may_give_zero cover sets choices =
+    list_any (λ bits. fits bits sets && not (cover_bit cover bits)) choices

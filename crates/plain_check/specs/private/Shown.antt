@@ -15,7 +15,8 @@ use Rattle.plain_check.specs.declared.graph_checker.Shown.{Shown}
 use Rattle.plain_check.specs.private.Hops.{IsGraphOutcome, fails_of}
 
 -- the shown path, and the failing place along it
-pub record IsShownSo (net : RawNet) (graph : Graph) (bits : List Bool) (how : Failure) (shown : Shown) : Type 0 where
+pub record IsShownSo (net : RawNet) (graph : Graph) (bits : List Bool) (how : Failure)
+    (shown : Shown) : Type 0 where
   pub is_path : IsShownPath (fails_of how) net graph bits shown.path
   pub is_place : (path : List Edge) → AreNumbers graph shown.path path →
       IsPathPlace (fails_of how) net graph bits path shown.time shown.consequent
@@ -37,6 +38,7 @@ GoesWith net graph bits None shown = shown ≡ None
 GoesWith net graph bits (Some how) shown = IsShownIf net graph bits how shown
 
 -- what is found of a graph under an assignment
-pub record IsFoundBy (net : RawNet) (graph : Graph) (bits : List Bool) (found : GraphFound) : Type 0 where
+pub record IsFoundBy (net : RawNet) (graph : Graph) (bits : List Bool)
+    (found : GraphFound) : Type 0 where
   pub outcome : IsGraphOutcome net graph bits found.outcome
   pub shown : GoesWith net graph bits (failure_of found.outcome) found.shown

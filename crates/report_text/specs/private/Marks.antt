@@ -21,7 +21,8 @@ in_edges edges id = list_any (λ (edge : Edge). in_binds edge.ant id || in_binds
 -- as many marks as before; a net is marked where it was, or is named
 pub record AddsMarks (before after : List Bool) (named : ℕ → Bool) : Type 0 where
   pub long : length after ≡ length before
-  pub marked : (id : ℕ) → id < length before → slice_index_or after id false ≡ slice_index_or before id false || named id
+  pub marked : (id : ℕ) → id < length before → slice_index_or after id false
+      ≡ slice_index_or before id false || named id
 
 -- the line of a net in a run, where it is marked
 abbrev pub marked_line : List Bool → ℕ × (List ℕ × List Bool) → List ℕ

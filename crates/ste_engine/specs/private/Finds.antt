@@ -1,6 +1,6 @@
 -- For private functions. What is found, step by step.
 use Rattle.std.specs.Prelude.{ℕ, List, [], ◌∷◌, ◌++◌}
-use Rattle.dd_nodes.specs.Diagram.{Function}
+use Rattle.ste_base.specs.Functions.{Function}
 use Rattle.dd_nodes.specs.Stores.{Store, IsRef, Means}
 use Rattle.net_core.specs.Work.{SymbolicCut, SymbolicSet, chain, conjunction, disjunction, negation, whole}
 use Rattle.ste_model.specs.Work.{both_bits, consequents_work, refutes, strong_findings, weak_findings}
@@ -41,7 +41,8 @@ more_weak sets cuts h = whole disjunction h (weak_findings sets cuts)
 
 abbrev pub found_work : (ℕ → SymbolicSet) → List SymbolicCut → Function → Function → List Function
 found_work sets cuts f h =
-    consequents_work sets cuts ++ (chain disjunction f (strong_findings sets cuts) ++ chain disjunction h (weak_findings sets cuts))
+    consequents_work sets cuts ++ (chain disjunction f (strong_findings sets cuts) ++
+    chain disjunction h (weak_findings sets cuts))
 
 -- what the sums c, f and h over all times end with, and the functions for it
 abbrev pub last_strong : Function → Function → Function
@@ -51,7 +52,8 @@ abbrev pub last_weak : Function → Function → Function → Function
 last_weak c f h = except (except h c) (except f c)
 
 abbrev pub last_work : Function → Function → Function → List Function
-last_work c f h = negation c ∷ except f c ∷ negation (except f c) ∷ except h c ∷ last_weak c f h ∷ []
+last_work c f h =
+    negation c ∷ except f c ∷ negation (except f c) ∷ except h c ∷ last_weak c f h ∷ []
 
 pub record AreLast (c f h : Function) (t : Store) (r : Results) : Type 0 where
   pub strong : Means t (last_strong c f) r.strong

@@ -25,10 +25,12 @@ pub record TellFindings (s : Store) (net : RawNet) (task : Assertion) (r : Resul
 -- the printed run under a strong assignment, where the antecedent is bindable
 abbrev pub IsRunDue : RawNet → Assertion → List Bool → Option Run → Type 0
 IsRunDue net task bits run =
-    (IsBindable net (Ste task) × IsPrintedUnder net task (Some bits) run) ⊎ ((¬ IsBindable net (Ste task)) × (run ≡ None))
+    (IsBindable net (Ste task) × IsPrintedUnder net task (Some bits) run) ⊎
+    ((¬ IsBindable net (Ste task)) × (run ≡ None))
 
 -- what a failure shows, with this verdict
-pub record IsFailureOf (net : RawNet) (vars : ℕ) (task : Assertion) (verdict : Verdict) (least : Option (List Bool)) (fails : Option (NodeId × ℕ)) (told : Option Run) : Type 0 where
+pub record IsFailureOf (net : RawNet) (vars : ℕ) (task : Assertion) (verdict : Verdict)
+    (least : Option (List Bool)) (fails : Option (NodeId × ℕ)) (told : Option Run) : Type 0 where
   pub shown :
       ((verdict ≡ Strong) × IsShown (IsStrong net task) FailsStrongly net vars task least fails)
       ⊎ (((verdict ≡ Weak) × IsShown (IsWeak net task) FailsWeakly net vars task least fails)

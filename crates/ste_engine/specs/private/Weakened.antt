@@ -3,13 +3,13 @@ use Rattle.std.specs.Prelude.{◌≡◌, ◌+◌, ℕ, suc, List, [], ◌∷◌,
 use Rattle.ste_model.specs.declared.task.Weakening.{Weakening}
 use Rattle.ste_model.specs.Asked.{weakened_at}
 use Rattle.sym_step.specs.Step.{ids_of}
-use Rattle.ste_engine.specs.declared.asks.Ask.{Ask}
+use Rattle.ste_engine.specs.declared.timed_cuts.TimedCut.{TimedCut}
 use Rattle.ste_engine.specs.declared.weakened.WeakLine.{WeakLine}
 use Rattle.ste_engine.specs.private.Times.{IsTimeline}
 
 -- a weakening as an entry of a timeline, with the times below the depth
-abbrev pub weak_ask : ℕ → ℕ → Weakening → Ask
-weak_ask depth place weakening = record {
+abbrev pub weak_timed_cut : ℕ → ℕ → Weakening → TimedCut
+weak_timed_cut depth place weakening = record {
   cut = record { node = weakening.node; guard = record { 0 = 0 }; value = record { 0 = 0 } };
   from = weakening.from;
   to = min weakening.to depth;
@@ -17,13 +17,14 @@ weak_ask depth place weakening = record {
 }
 
 -- the same of lists, from this place on
-abbrev pub weak_asks : ℕ → ℕ → List Weakening → List Ask
-weak_asks depth place [] = []
-weak_asks depth place (weakening ∷ weak) = weak_ask depth place weakening ∷ weak_asks depth (suc place) weak
+abbrev pub weak_timed_cuts : ℕ → ℕ → List Weakening → List TimedCut
+weak_timed_cuts depth place [] = []
+weak_timed_cuts depth place (weakening ∷ weak) =
+    weak_timed_cut depth place weakening ∷ weak_timed_cuts depth (suc place) weak
 
 -- the line of weakenings, when it has come to time t and not dealt with it
 abbrev pub IsWeakLine : List Weakening → ℕ → ℕ → WeakLine → Type 0
-IsWeakLine weak depth t line = IsTimeline (weak_asks depth 0 weak) depth t line.line
+IsWeakLine weak depth t line = IsTimeline (weak_timed_cuts depth 0 weak) depth t line.line
 
 -- it has dealt with time t, and has the nets of that time
 pub record HasWeakened (weak : List Weakening) (depth t : ℕ) (line : WeakLine) : Type 0 where

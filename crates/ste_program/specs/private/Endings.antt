@@ -9,11 +9,13 @@ use Rattle.ste_program.specs.declared.run.Status.{Status}
 use Rattle.ste_program.specs.declared.run.Status.TheVariants as status
 
 -- the message went out, and the status is the expected one; or the sink failed before its end
-abbrev pub IsTold : List ℕ → Status → Status → SinkState → SinkState → Type 0
-IsTold message expected result err err' =
-    ((result ≡ expected) × WentOut message err err') ⊎ ((result ≡ status.Faulted) × BrokeOff message err err')
+abbrev pub IsMessageWritten : List ℕ → Status → Status → SinkState → SinkState → Type 0
+IsMessageWritten message expected result err err' =
+    ((result ≡ expected) × WentOut message err err') ⊎
+    ((result ≡ status.Faulted) × BrokeOff message err err')
 
--- the refusal was told, or want of memory for its message
+-- the refusal was reported, or that there was no memory for its message
 abbrev pub IsEnded : Option Command → Refusal → Status → SinkState → SinkState → Type 0
 IsEnded command found result err err' =
-    IsTold (message_of command found) (status_of found) result err err' ⊎ IsTold out_of_memory status.NoMemory result err err'
+    IsMessageWritten (message_of command found) (status_of found) result err err' ⊎
+    IsMessageWritten out_of_memory status.NoMemory result err err'

@@ -23,7 +23,7 @@ use Rattle.ste_model.specs.declared.task.Weakening.{Weakening}
 use Rattle.ste_model.specs.declared.task.Task.TheVariants.{Ste, Gste}
 use Rattle.ste_model.specs.GraphNeed.{BindsReadBelow}
 use Rattle.ste_model.specs.Need.{ReadBelow}
-use Rattle.task_binding.specs.Answer.{IsAnswer}
+use Rattle.task_binding.specs.Answer.{IsBindAnswer}
 use Rattle.task_binding.specs.declared.fault.BindFault.{BindFault}
 use Rattle.task_binding.specs.declared.fault.BindFault.TheVariants as bind
 use Rattle.ste_io.specs.Outside.{FilesState}
@@ -47,13 +47,14 @@ pub record IsNetOf (models : List Model) (net : RawNet) (names : NetNames) : Typ
 abbrev pub HasNoNet : List Model → Refusal → Type 0
 HasNoNet models found =
     ((fault : NetFault) × (found ≡ refusal.Hierarchy fault) × IsRefusal models fault)
-    ⊎ ((name : List ℕ) × (found ≡ refusal.Loop name) × IsFree (IsRefusal models) × IsLoop models name)
+    ⊎ ((name : List ℕ) × (found ≡ refusal.Loop name) × IsFree (IsRefusal models) ×
+    IsLoop models name)
 
 -- why tasks are not bound to a net
 abbrev pub IsNotBound : List Model → RawTasks → Refusal → Type 0
 IsNotBound models raw found =
     (fault : BindFault) × (found ≡ refusal.Binding fault) × (fault ≢ bind.OutOfMemory)
-    × IsAnswer (net_named models) (length (nets models)) raw (Err fault)
+    × IsBindAnswer (net_named models) (length (nets models)) raw (Err fault)
 
 -- the bindings name nets below this number
 abbrev pub AreBindsIn : ℕ → List Bind → Type 0
@@ -63,10 +64,12 @@ AreBindsIn nets binds = All (λ bind. bind.node.0 < nets) binds
 abbrev pub IsBetween : ℕ → Edge → Type 0
 IsBetween vertices edge = (edge.from < vertices) × (edge.to < vertices)
 
--- the bindings of an edge name nets, and read variables, below these numbers, and so do its weakenings name nets
+-- the bindings of an edge name nets, and read variables, below these numbers, and so do its
+-- weakenings name nets
 abbrev pub IsEdgeFit : ℕ → ℕ → Edge → Type 0
 IsEdgeFit nets vars edge =
-    AreBindsIn nets edge.ant × AreBindsIn nets edge.con × BindsReadBelow vars edge.ant × BindsReadBelow vars edge.con
+    AreBindsIn nets edge.ant × AreBindsIn nets edge.con × BindsReadBelow vars edge.ant ×
+    BindsReadBelow vars edge.con
     × All (λ node. node.0 < nets) edge.weak
 
 -- a graph has a vertex, and each of its edges lies between its vertices, and is fit
@@ -94,9 +97,11 @@ graphs_in (Gste graph) = graph ∷ []
 abbrev pub IsCheckable : ℕ → ℕ → Task → Type 0
 IsCheckable nets vars task =
     All (λ quint. quint.node.0 < nets) (quints_in task) × ReadBelow vars (quints_in task)
-    × All (IsGraphFit nets vars) (graphs_in task) × All (λ weakening. weakening.node.0 < nets) (weak_in task)
+    × All (IsGraphFit nets vars) (graphs_in task)
+    × All (λ weakening. weakening.node.0 < nets) (weak_in task)
 
 -- the report that a command asks for, with what its files were asked for
-pub record IsMade (command : Option Command) (files files' : FilesState) (passes : Bool) (bytes : List ℕ) : Type 0 where
+pub record IsMade (command : Option Command) (files files' : FilesState) (passes : Bool)
+    (bytes : List ℕ) : Type 0 where
   pub report : IsReport command files passes bytes
   pub asking : AskedAll command files files'

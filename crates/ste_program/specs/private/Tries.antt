@@ -1,4 +1,5 @@
--- For private functions. With how many node steps tasks are tried, which are tried again, and where what is told of them goes.
+-- For private functions. With how many node steps tasks are tried, which are tried again, and where
+-- their new reports go.
 use Rattle.std.specs.Prelude.{◌/◌, ◌*◌, ℕ, Bool, true, false, if◌then◌else◌, min, max, nat_lt, List, [], ◌∷◌, filter, length, set, Option, Some, None, slice_get}
 use Rattle.std.specs.List.{range_with_len}
 use Rattle.ste_model.specs.declared.report.Report.{Report}
@@ -14,9 +15,12 @@ is_budget other = false
 abbrev pub most_first_steps : ℕ → ℕ
 most_first_steps vars = if nat_lt vars 9 then 4096 else 2097152
 
--- the node steps of each of so many tasks over so many nets and variables that are tried first, where so many are granted
+-- the node steps of each of so many tasks over so many nets and variables that are tried first,
+-- where so many are granted
 abbrev pub first_steps : ℕ → ℕ → ℕ → ℕ → ℕ
-first_steps nets tasks vars steps = min (max (min (min (max (12 * nets) 20480) (2097152 / tasks)) (most_first_steps vars)) 1024) steps
+first_steps nets tasks vars steps =
+    min (max (min (min (max (12 * nets) 20480) (2097152 / tasks)) (most_first_steps vars)) 1024)
+    steps
 
 -- the node steps of a task that are tried behind so many, where so many are granted
 abbrev pub next_steps : ℕ → ℕ → ℕ
@@ -36,7 +40,8 @@ abbrev pub budget_numbers : List Report → List ℕ
 budget_numbers reports = filter (says_budget reports) (range_with_len 0 (length reports))
 
 -- the reports with new ones in the places of these numbers
-abbrev pub woven : List Report → List ℕ → List Report → List Report
-woven reports [] again = reports
-woven reports (number ∷ numbers) [] = reports
-woven reports (number ∷ numbers) (report ∷ again) = woven (set reports number report) numbers again
+abbrev pub with_replaced : List Report → List ℕ → List Report → List Report
+with_replaced reports [] again = reports
+with_replaced reports (number ∷ numbers) [] = reports
+with_replaced reports (number ∷ numbers) (report ∷ again) =
+    with_replaced (set reports number report) numbers again

@@ -18,7 +18,8 @@ ArePlaces order places = (place : ℕ) → place < length order → IsPlace orde
 -- no gate has a mark at whose place the bit is 0
 abbrev pub AreAsleep : List Bool → List ℕ → List ℕ → Type 0
 AreAsleep flags order words =
-    (place : ℕ) → place < length order → bit_of words place ≡ 0 → flag_at flags (slice_index_or order place 0) ≡ false
+    (place : ℕ) → place < length order → bit_of words place ≡ 0 →
+    flag_at flags (slice_index_or order place 0) ≡ false
 
 -- no latch has a mark whose bit is 0, the marks of latches being behind those of so many gates
 abbrev pub AreResting : List Bool → ℕ → List ℕ → Type 0

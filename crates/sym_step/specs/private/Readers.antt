@@ -15,7 +15,8 @@ flag_at flags id = slice_index_or flags id false
 
 -- a number that has no mark afterwards had none before, and is none that was to be marked
 abbrev pub AreMarked : (ℕ → Type 0) → List Bool → List Bool → Type 0
-AreMarked Left old new = (k : ℕ) → k < length old → flag_at new k ≡ false → (flag_at old k ≡ false) × Left k
+AreMarked Left old new =
+    (k : ℕ) → k < length old → flag_at new k ≡ false → (flag_at old k ≡ false) × Left k
 
 -- the link names a slot: it is one more than the slot's place
 abbrev pub IsLink : List Slot → ℕ → Type 0
@@ -40,7 +41,9 @@ pub record IsOnChain (slots : List Slot) (head k : ℕ) : Type 0 where
 
 -- the number is on none of the first n slots of the chain
 abbrev pub IsNotMet : List Slot → ℕ → ℕ → ℕ → Type 0
-IsNotMet slots head n k = (m : ℕ) → m < n → IsLink slots (spot slots head m) → (slot_of slots (spot slots head m)).number ≢ k
+IsNotMet slots head n k =
+    (m : ℕ) → m < n → IsLink slots (spot slots head m) →
+    (slot_of slots (spot slots head m)).number ≢ k
 
 -- the first link of the list of a net
 abbrev pub head_of : Readers → ℕ → ℕ
@@ -67,11 +70,14 @@ pub record IsBetween (readers : Readers) (k : ℕ) (latch : Latch) : Type 0 wher
 
 -- each gate stands in the lists of its inputs and of its output
 abbrev pub AreGates : RawNet → Readers → Type 0
-AreGates net readers = (k : ℕ) (d : Gate) → k < length net.gates → ReadsAs readers k (slice_index_or net.gates k d)
+AreGates net readers =
+    (k : ℕ) (d : Gate) → k < length net.gates → ReadsAs readers k (slice_index_or net.gates k d)
 
 -- each latch does, by its number behind those of the gates
 abbrev pub AreLatches : RawNet → Readers → Type 0
-AreLatches net readers = (k : ℕ) (d : Latch) → k < length net.latches → IsBetween readers (length net.gates + k) (slice_index_or net.latches k d)
+AreLatches net readers =
+    (k : ℕ) (d : Latch) → k < length net.latches →
+    IsBetween readers (length net.gates + k) (slice_index_or net.latches k d)
 
 -- the lists of a net
 pub record AreReaders (net : RawNet) (readers : Readers) : Type 0 where

@@ -1,4 +1,5 @@
--- For private functions. Whether the nodes of tasks name nets, by the net that each text names, or none.
+-- For private functions. Whether the nodes of tasks name nets, by the net that each text names, or
+-- none.
 use Rattle.std.specs.Prelude.{ℕ, List, Bool, Option, is_some, ◌&&◌}
 use Rattle.std.specs.List.{list_all}
 use Rattle.assert_syntax.specs.declared.tasks.RawBind.{RawBind}

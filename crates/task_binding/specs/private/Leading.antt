@@ -12,7 +12,8 @@ Leads net_of mentions (Some mention) = IsFirstUnknown net_of mentions mention
 
 -- what was found before and what is found with these mentions more
 abbrev pub GoesOn : (List ℕ → Option ℕ) → List Mention → Option Mention → Option Mention → Type 0
-GoesOn net_of more before found = (mentions : List Mention) → Leads net_of mentions before → Leads net_of (mentions ++ more) found
+GoesOn net_of more before found = (mentions : List Mention) → Leads net_of mentions before →
+    Leads net_of (mentions ++ more) found
 
 -- what is found of the sizes
 abbrev pub IsLarge : ℕ → List RawTask → Option ℕ → Type 0

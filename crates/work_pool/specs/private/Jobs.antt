@@ -14,14 +14,15 @@ use Rattle.work_pool.specs.Told.{IsToldOf, budgets}
 abbrev pub tasks_at : List Task → List ℕ → Task → List Task
 tasks_at tasks numbers task = map (λ number. get_or tasks number task) numbers
 
--- t stands on the table of s, has its variables, made nothing, and may make so many nodes
+-- t is a store on the table of s, has its variables, made nothing, and may make so many nodes
 pub record IsReady (steps : ℕ) (s t : Store) : Type 0 where
   pub made : t.made ≡ []
   pub limit : t.limit ≡ steps
   pub vars : t.vars ≡ s.vars
   pub table : t.table ≡ s.table
 
--- t may stand for s where a task is checked: it made as much, may make as much, and has the variables and the table
+-- t may stand for s where a task is checked: it made as much, may make as much, and has the
+-- variables and the table
 pub record IsLike (s t : Store) : Type 0 where
   pub made : t.made ≡ s.made
   pub limit : t.limit ≡ s.limit
@@ -29,7 +30,8 @@ pub record IsLike (s t : Store) : Type 0 where
   pub table : t.table ≡ s.table
 
 -- what a job with so many steps, on the table of s, leaves of its store and of its task
-pub record IsDone (net : RawNet) (steps cubes : ℕ) (task : Task) (s t : Store) (outcome : Result Report AllocError) : Type 0 where
+pub record IsDone (net : RawNet) (steps cubes : ℕ) (task : Task) (s t : Store)
+    (outcome : Result Report AllocError) : Type 0 where
   pub limit : t.limit ≡ steps
   pub vars : t.vars ≡ s.vars
   pub table : t.table ≡ s.table
@@ -37,32 +39,48 @@ pub record IsDone (net : RawNet) (steps cubes : ℕ) (task : Task) (s t : Store)
   pub full : IfOk outcome (λ report. report.verdict ≡ Budget → length t.made ≡ steps)
   pub kept : IfOk outcome (λ report. report.verdict ≢ Budget → IsTaskKept net task t)
 
--- jobs that may be done: each has the place of one of the numbers, which are those of tasks, and a store that made nothing, over which its
--- task is; all stores stand on one table
-pub record AreJobs {X : Type 0} (store : X → Store) (place : X → ℕ) (net : RawNet) (tasks : List Task) (numbers : List ℕ) (jobs : List X) : Type 0 where
+-- jobs that may be done: each has the place of one of the numbers, which are those of tasks, and a
+-- store that made nothing, over which its task is; all stores are on one table
+pub record AreJobs {X : Type 0} (store : X → Store) (place : X → ℕ) (net : RawNet)
+    (tasks : List Task) (numbers : List ℕ) (jobs : List X) : Type 0 where
   pub numbered : All (λ number. number < length tasks) numbers
   pub within : All (λ job. place job < length numbers) jobs
   pub made : All (λ job. (store job).made ≡ []) jobs
-  pub over : (task : Task) → All (λ job. IsTaskOver net (store job).vars (get_or tasks (get_or numbers (place job) 0) task)) jobs
-  pub table : (i k : ℕ) (job : X) → i < length jobs → k < length jobs → (store (get_or jobs i job)).table ≡ (store (get_or jobs k job)).table
+  pub over : (task : Task) →
+      All (λ job. IsTaskOver net (store job).vars
+      (get_or tasks (get_or numbers (place job) 0) task)) jobs
+  pub table : (i k : ℕ) (job : X) → i < length jobs → k < length jobs →
+      (store (get_or jobs i job)).table ≡ (store (get_or jobs k job)).table
 
 -- the jobs stay as they are, but the stores of those behind the i-th may get ones like them
-pub record HandsOn {X : Type 0} (store : X → Store) (place : X → ℕ) (outcome : X → Result Report AllocError) (i : ℕ) (old new : List X) : Type 0 where
+pub record HandsOn {X : Type 0} (store : X → Store) (place : X → ℕ)
+    (outcome : X → Result Report AllocError) (i : ℕ) (old new : List X) : Type 0 where
   pub long : length new ≡ length old
-  pub same : (k : ℕ) (job : X) → k < length old → place (get_or new k job) ≡ place (get_or old k job)
-  pub outcomes : (k : ℕ) (job : X) → k < length old → outcome (get_or new k job) ≡ outcome (get_or old k job)
-  pub stores : (k : ℕ) (job : X) → k < length old → k ≤ i → store (get_or new k job) ≡ store (get_or old k job)
-  pub like : (k : ℕ) (job : X) → k < length old → IsLike (store (get_or old k job)) (store (get_or new k job))
+  pub same : (k : ℕ) (job : X) → k < length old →
+      place (get_or new k job) ≡ place (get_or old k job)
+  pub outcomes : (k : ℕ) (job : X) → k < length old →
+      outcome (get_or new k job) ≡ outcome (get_or old k job)
+  pub stores : (k : ℕ) (job : X) → k < length old → k ≤ i →
+      store (get_or new k job) ≡ store (get_or old k job)
+  pub like : (k : ℕ) (job : X) → k < length old →
+      IsLike (store (get_or old k job)) (store (get_or new k job))
 
 -- jobs as they were, and done
-pub record AreDone {X : Type 0} (store : X → Store) (place : X → ℕ) (outcome : X → Result Report AllocError) (net : RawNet) (cubes : ℕ) (tasks : List Task) (numbers : List ℕ) (old new : List X) : Type 0 where
+pub record AreDone {X : Type 0} (store : X → Store) (place : X → ℕ)
+    (outcome : X → Result Report AllocError) (net : RawNet) (cubes : ℕ) (tasks : List Task)
+    (numbers : List ℕ) (old new : List X) : Type 0 where
   pub long : length new ≡ length old
-  pub same : (i : ℕ) (job : X) → i < length old → place (get_or new i job) ≡ place (get_or old i job)
+  pub same : (i : ℕ) (job : X) → i < length old →
+      place (get_or new i job) ≡ place (get_or old i job)
   pub done : (i : ℕ) (task : Task) (job : X) → i < length old →
-      IsDone net (store (get_or old i job)).limit cubes (get_or tasks (get_or numbers (place (get_or old i job)) 0) task) (store (get_or old i job)) (store (get_or new i job)) (outcome (get_or new i job))
+      IsDone net (store (get_or old i job)).limit cubes
+      (get_or tasks (get_or numbers (place (get_or old i job)) 0) task)
+      (store (get_or old i job)) (store (get_or new i job)) (outcome (get_or new i job))
 
--- what is told of these tasks, where t is the store that their jobs' stores were merged into, and s the one before them
-pub record IsGathered (net : RawNet) (steps cubes : ℕ) (s t : Store) (tasks : List Task) (reports : List Report) : Type 0 where
+-- the reports of these tasks, where t is the store that their jobs' stores were merged into, and s
+-- the one before them
+pub record IsGathered (net : RawNet) (steps cubes : ℕ) (s t : Store) (tasks : List Task)
+    (reports : List Report) : Type 0 where
   pub told : AllZip (IsToldOf net t.vars steps cubes) tasks reports
   pub used : budgets reports * steps ≤ length t.made
   pub limit : t.limit ≡ length tasks * steps
@@ -70,9 +88,10 @@ pub record IsGathered (net : RawNet) (steps cubes : ℕ) (s t : Store) (tasks : 
   pub vars : t.vars ≡ s.vars
   pub table : t.table ≡ s.table
 
--- The first of these tasks are gathered, and the jobs that are left are those of the others; left says what is left of a
--- task by a job.
-pub record IsGathering (X : Type 0) (left : Task → X → Type 0) (net : RawNet) (steps cubes : ℕ) (s t : Store) (tasks : List Task) (reports : List Report) (jobs : List X) : Type 0 where
+-- The first of these tasks are gathered, and the jobs that are left are those of the others; left
+-- says what is left of a task by a job.
+pub record IsGathering (X : Type 0) (left : Task → X → Type 0) (net : RawNet) (steps cubes : ℕ)
+    (s t : Store) (tasks : List Task) (reports : List Report) (jobs : List X) : Type 0 where
   pub before : List Task
   pub behind : List Task
   pub all : tasks ≡ before ++ behind

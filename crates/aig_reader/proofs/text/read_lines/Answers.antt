@@ -25,11 +25,11 @@ returns-then-is_end c =
           c.in_ok-said.ensures;
     } in
     finish c.args.head.now c.loop-rest.aig c.loop-rest.defined.keys c.loop-rest.count
-    c.loop-rest.rest.now c.args.text.now c.finished.result
+    c.loop-rest.rest.now c.args.text.now c.aig_if_complete.result
     (end_here c.args.head.now c.loop-rest.count c.loop-rest.rest.now c.cut.result.0.now
     c.cut.result.1.now c.line_feed.result c.in_ok-said.said c.is_end.result next
     c.is_end.ensures c.if-is_end.true)
-    c.loop-rest.invariant.0 c.finished.ensures
+    c.loop-rest.invariant.0 c.aig_if_complete.ensures
 
 pub returns-then-not-good : goal.returns-then-not-good
 returns-then-not-good c =
@@ -88,6 +88,6 @@ pub returns : goal.returns
 returns c =
     let none : length c.loop-rest.rest.now ≡ 0 = grind arith in
     finish c.args.head.now c.loop-rest.aig c.loop-rest.defined.keys c.loop-rest.count
-    c.loop-rest.rest.now c.args.text.now c.finished-2.result
+    c.loop-rest.rest.now c.args.text.now c.aig_if_complete-2.result
     (nothing_left c.args.head.now c.loop-rest.count c.loop-rest.rest.now none)
-    c.loop-rest.invariant.0 c.finished-2.ensures
+    c.loop-rest.invariant.0 c.aig_if_complete-2.ensures

@@ -1,6 +1,6 @@
 use Rattle.std.proofs.Common.{◌-◌, ℕ, List, length, take, drop, Ok, Err, refl, sym, subst}
 use Rattle.blif_lines.specs.declared.lines.Line.{Line}
-use Rattle.clock_step.specs.Answer.{IsAnswer}
+use Rattle.clock_step.specs.Answer.{IsInputsAnswer}
 use Rattle.clock_step.specs.private.Answers.{AreRows}
 use Rattle.clock_step.proofs.Reading.{from_first, handed_on, rows_read, rows_refused}
 use Rattle.clock_step.proofs.read.read_inputs.Goals as goal
@@ -17,7 +17,7 @@ returns-in_err-rows-clause-exact g c =
     let rows : AreRows (length nodes) net.nets later (Err fault) =
     subst (λ (n : ℕ). AreRows n net.nets later (Err fault)) c.len.ensures (subst (λ (n : ℕ). AreRows c.len.result n later (Err fault)) c.nets.ensures c.in_err-rows.ensures) in
     handed_on net_of net lines fault c.from_residual-in_err-rows.result c.from_residual-in_err-rows.ensures.1
-    (subst (λ (ls : List Line). IsAnswer net_of net ls (Err fault)) (sym whole)
+    (subst (λ (ls : List Line). IsInputsAnswer net_of net ls (Err fault)) (sym whole)
     (rows_refused net_of net c.first-item.result later nodes c.in_ok-nodes.ensures.0 c.in_ok-nodes.ensures.1 fault rows))
 
 pub returns-clause-exact : goal.returns-clause-exact

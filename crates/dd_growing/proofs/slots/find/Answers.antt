@@ -1,10 +1,10 @@
 use Rattle.std.proofs.Common.{◌≡◌, ◌<◌, ◌%◌, ◌/◌, ℕ, sym, ap, ◌∙◌, arith}
 use Rattle.std.specs.Prelude.{Some}
 use Rattle.dd_nodes.specs.Plain.{plain_held}
-use Rattle.dd_growing.specs.private.Slots.{ref_in, slot_at, mark_of}
+use Rattle.dd_growing.specs.private.Slots.{ref_in, slot_at, hash_of}
 use Rattle.dd_growing.proofs.Parts.{held_inside, ref_in-slot_of, slot_parts}
 use Rattle.dd_growing.proofs.Walks.{begins, goes_on, passes_on, true_or_false}
-use Rattle.dd_growing.proofs.slots.find.Goals.{else-slot-mark-via-then-slot-mark+else-is_at, else-slot-mark-via-else-slot-mark}
+use Rattle.dd_growing.proofs.slots.find.Goals.{else-slot-hash-via-then-slot-hash+else-is_at, else-slot-hash-via-else-slot-hash}
 use Rattle.dd_growing.proofs.slots.find.Goals as goal
 
 pub loop-n-init : goal.loop-n-init
@@ -24,12 +24,12 @@ loop-n-preserved c =
           let few = c.requires.few in
           let inside = held_inside nodes r c.args.node held in
           let low : r.0 < 16777216 = omega (arith, few, inside) in
-          elim c.else-slot-mark.branch [
-            | else-slot-mark-via-then-slot-mark+else-is_at w ↦
-                let same : ref_in (slot_at xs c.loop-n.at) ≡ r = ap ref_in is ∙ ref_in-slot_of (mark_of c.args.node) r low in
+          elim c.else-slot-hash.branch [
+            | else-slot-hash-via-then-slot-hash+else-is_at w ↦
+                let same : ref_in (slot_at xs c.loop-n.at) ≡ r = ap ref_in is ∙ ref_in-slot_of (hash_of c.args.node) r low in
                 let at : plain_held nodes (ref_in (slot_at xs c.loop-n.at)) ≡ Some c.args.node = ap (plain_held nodes) same ∙ held in
                 true_or_false _ (w.is_at.ensures.no at) w.if-is_at.false
-            | else-slot-mark-via-else-slot-mark w ↦
-                w.if-slot-mark.false (ap (λ (x : ℕ). x / 16777216) is ∙ (slot_parts (mark_of c.args.node) r low).1 ∙ ap (λ (m : ℕ). m % 256) (sym c.requires.mark))
+            | else-slot-hash-via-else-slot-hash w ↦
+                w.if-slot-hash.false (ap (λ (x : ℕ). x / 16777216) is ∙ (slot_parts (hash_of c.args.node) r low).1 ∙ ap (λ (m : ℕ). m % 256) (sym c.requires.hash))
           ]);
     }

@@ -1,6 +1,6 @@
 use Rattle.std.proofs.Common.{get_or, false, arith}
-use Rattle.dd_nodes.specs.Diagram.{Function}
-use Rattle.dd_nodes.specs.Functions.{size}
+use Rattle.ste_base.specs.Functions.{Function}
+use Rattle.dd_nodes.specs.Functions.{diagram_size}
 use Rattle.dd_nodes.specs.Stores.{Store}
 use Rattle.dd_nodes.proofs.Stores.{Means-keeps}
 use Rattle.diagram_tests.proofs.Variables.{size-variable, nine}
@@ -18,6 +18,6 @@ returns g c =
     let kept = c.in_ok-p.ensures.keeps.vars in
     let kept_too = c.in_ok-q.ensures.keeps.vars in
     let within = c.requires in
-    nine (size u p) (size u q) c.args.steps.now c.apply.new.steps
+    nine (diagram_size u p) (diagram_size u q) c.args.steps.now c.apply.new.steps
     (size-variable u 0 p du (omega arith) (Means-keeps t u f p dt du c.in_ok-q.ensures.keeps c.in_ok-p.ensures.ok))
     (size-variable u 1 q du (omega arith) c.in_ok-q.ensures.ok) c.apply.ensures.bound

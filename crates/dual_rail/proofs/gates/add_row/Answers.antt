@@ -1,5 +1,5 @@
 use Rattle.std.proofs.Common.{◌∷◌, List, map, Ok, Err}
-use Rattle.dd_nodes.specs.Diagram.{Function}
+use Rattle.ste_base.specs.Functions.{Function}
 use Rattle.dd_nodes.specs.Stores.{Store}
 use Rattle.net_core.specs.Work.{disjunction, factors, product}
 use Rattle.dual_rail.specs.Rail.{Built, HasFunction}

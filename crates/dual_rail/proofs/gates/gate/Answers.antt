@@ -1,6 +1,6 @@
 use Rattle.std.proofs.Common.{◌≡◌, ◌↔◌, ◌∷◌, [], Bool, List, length, map, refl, sym, ◌∙◌, ap, subst, Ok, Err}
 use Rattle.std.specs.List.{AllZip}
-use Rattle.dd_nodes.specs.Diagram.{Function}
+use Rattle.ste_base.specs.Functions.{Function}
 use Rattle.dd_nodes.specs.Stores.{Store, function}
 use Rattle.net_core.specs.Work.{SymbolicSet, sum, row_products, rows_work, gate_set, gate_work}
 use Rattle.dual_rail.specs.declared.rails.Rails.{Rails}

@@ -1,6 +1,6 @@
 use Rattle.std.proofs.Common.{◌≡◌, ◌<◌, List, length, ◌+◌, subst, arith, take, get_or, Ok, Err}
 use Rattle.dd_nodes.specs.declared.node.Ref.{Ref}
-use Rattle.dd_nodes.specs.Diagram.{Function}
+use Rattle.ste_base.specs.Functions.{Function}
 use Rattle.dd_nodes.specs.Stores.{Store, Means, function}
 use Rattle.net_core.specs.Work.{conjunction, factors, product}
 use Rattle.dual_rail.specs.declared.rails.Rails.{Rails}

@@ -1,5 +1,5 @@
 use Rattle.std.proofs.Common.{◌≡◌, ◌<◌, List, length, map, ◌+◌, sym, subst, arith, take, get_or, Ok, Err}
-use Rattle.dd_nodes.specs.Diagram.{Function}
+use Rattle.ste_base.specs.Functions.{Function}
 use Rattle.dd_nodes.specs.Stores.{Store, Means, function}
 use Rattle.net_core.specs.Work.{disjunction, sum, row_products, rows_work}
 use Rattle.dual_rail.specs.declared.rails.Rails.{Rails}

@@ -1,6 +1,6 @@
 use Rattle.std.proofs.Common.{◌≡◌, ◌∷◌, [], ◌++◌, List, Bool, refl, sym, ◌∙◌, ap, subst, arith, Ok, Err, get_or, false, true}
 use Rattle.bool_expr.specs.declared.expr.Expr.{Expr}
-use Rattle.dd_nodes.specs.Diagram.{Function}
+use Rattle.ste_base.specs.Functions.{Function}
 use Rattle.dd_nodes.specs.Stores.{Store, Means}
 use Rattle.net_core.specs.Work.{negation, whole}
 use Rattle.ste_model.specs.Expressions.{SymbolicValue, symbolic_step, symbolic_value}
@@ -18,7 +18,7 @@ use Rattle.std.proofs.lemmas.List.Elements.{Contains-append_left, Contains-appen
 use Rattle.bool_expr.specs.declared.expr.Expr.TheVariants as tree
 use Rattle.dd_nodes.proofs.Walks.{IsFrom-grows}
 use Rattle.net_core.specs.Work.{always, never, conjunction, disjunction}
-use Rattle.ste_model.specs.Expressions.{reads, reads_step, joined, exclusive_disjunction}
+use Rattle.ste_model.specs.Expressions.{reads, reads_step, joined_parts, exclusive_disjunction}
 use Rattle.dual_rail.proofs.Works.{first, last, pass, Built-wider, and_built, or_built, not_built}
 use Rattle.engine_parts.proofs.Exprs.{work_of, so_far, part_built, part_turn, part_reads, xor_built, values_long}
 use Rattle.ste_model.proofs.Values.{values_of}
@@ -37,7 +37,7 @@ returns-in-Var g m c =
     (Built-answer (f ∷ []) f f s t c.var.result (0, omega arith, refl) (λ bits l. refl) c.var.ensures))
 
 -- ---- All
-built_all : (v : Vec Expr Global) → symbolic_value (tree.All v) ≡ joined conjunction always (map symbolic_value v.items)
+built_all : (v : Vec Expr Global) → symbolic_value (tree.All v) ≡ joined_parts conjunction always (map symbolic_value v.items)
 built_all v = ap symbolic_value (sym (tree.rolls-All v)) ∙ fold-roll-Expr SymbolicValue symbolic_step _
 
 reads_all : (vars : ℕ) (v : Vec Expr Global) → reads vars (tree.All v) ≡ list_all (λ b. b) (map (reads vars) v.items)
@@ -49,7 +49,7 @@ loop-part-init g t c =
     let es : List Expr = c.deref-part-items.result.now in
     let same : es ≡ c.in-All.parts.items = c.deref-part-items.ensures.value in
     record {
-      is = ap symbolic_value c.in-All.is ∙ built_all c.in-All.parts ∙ ap (λ (xs : List Expr). joined conjunction always (map symbolic_value xs)) (sym same);
+      is = ap symbolic_value c.in-All.is ∙ built_all c.in-All.parts ∙ ap (λ (xs : List Expr). joined_parts conjunction always (map symbolic_value xs)) (sym same);
       reads = λ k d lt. part_reads s.vars es k d lt (subst (λ (xs : List Expr). IsTrue (list_all (λ b. b) (map (reads s.vars) xs))) (sym same) (sym (reads_all s.vars c.in-All.parts) ∙ ap (reads s.vars) (sym c.in-All.is) ∙ c.requires));
       so = record { so = So-start (work_of conjunction always es) s; means = one_means s (g.met.N.Nodes.diagram c.args.nodes.now) };
     }
@@ -67,7 +67,7 @@ returns-in_err-r-in-All g m c =
     let gs = g.met.N.Nodes.diagram c.args.nodes.now in
     let b = part_built conjunction always es s t u c.loop-part.part-index c.part-item.result c.loop-part.all (Err fault) gt gu c.loop-part-test.true c.part-item.is c.loop-part.invariant.so c.in_err-r-in-All.ensures in
     subst (λ (b : SymbolicValue). Built b.work (HasFunction b.value) s u c.from_residual-in_err-r-in-All.result) (sym c.loop-part.invariant.is)
-    (pass work (HasFunction (symbolic_value c.part-item.result).value) (HasFunction (joined conjunction always (map symbolic_value es)).value) s s u fault c.from_residual-in_err-r-in-All.result gs gu (So-start work s) b c.from_residual-in_err-r-in-All.ensures.1)
+    (pass work (HasFunction (symbolic_value c.part-item.result).value) (HasFunction (joined_parts conjunction always (map symbolic_value es)).value) s s u fault c.from_residual-in_err-r-in-All.result gs gu (So-start work s) b c.from_residual-in_err-r-in-All.ensures.1)
 
 pub loop-part-preserved : goal.loop-part-preserved
 loop-part-preserved g m c =
@@ -108,7 +108,7 @@ returns-in_err-all-in-All g m c =
     let b = part_turn conjunction always es s t u v k c.part-item.result c.loop-part.all c.in_ok-r-in-All.r (Err fault) gt gu gv c.loop-part-test.true c.part-item.is c.loop-part.invariant.so c.in_ok-r-in-All.ensures
     (λ part f h has mf mh. and_built part f h u v c.loop-part.all c.in_ok-r-in-All.r (Err fault) has mf mh c.in_err-all-in-All.ensures) in
     subst (λ (b : SymbolicValue). Built b.work (HasFunction b.value) s v c.from_residual-in_err-all-in-All.result) (sym c.loop-part.invariant.is)
-    (pass work (HasFunction (so_far conjunction always es (k + 1))) (HasFunction (joined conjunction always (map symbolic_value es)).value) s s v fault c.from_residual-in_err-all-in-All.result gs gv (So-start work s) b c.from_residual-in_err-all-in-All.ensures.1)
+    (pass work (HasFunction (so_far conjunction always es (k + 1))) (HasFunction (joined_parts conjunction always (map symbolic_value es)).value) s s v fault c.from_residual-in_err-all-in-All.result gs gv (So-start work s) b c.from_residual-in_err-all-in-All.ensures.1)
 
 pub both-requires-clause-left : goal.both-requires-clause-left
 both-requires-clause-left g m c =
@@ -122,12 +122,12 @@ returns-after-loop-part g m c =
     let k = c.loop-part.part-index in
     let p = c.loop-part.invariant.so in
     let n = values_long es in
-    let end : so_far conjunction always es k ≡ (joined conjunction always (map symbolic_value es)).value = ap (whole conjunction always) (take_all k (values_of es) (omega (arith, n, c.loop-part-test.false))) in
+    let end : so_far conjunction always es k ≡ (joined_parts conjunction always (map symbolic_value es)).value = ap (whole conjunction always) (take_all k (values_of es) (omega (arith, n, c.loop-part-test.false))) in
     subst (λ (b : SymbolicValue). Built b.work (HasFunction b.value) s t (Ok c.loop-part.all)) (sym c.loop-part.invariant.is)
-    (Built-made (work_of conjunction always es) (HasFunction (joined conjunction always (map symbolic_value es)).value) s t c.loop-part.all p.so (subst (λ (f : Function). Means t f c.loop-part.all) end p.means))
+    (Built-made (work_of conjunction always es) (HasFunction (joined_parts conjunction always (map symbolic_value es)).value) s t c.loop-part.all p.so (subst (λ (f : Function). Means t f c.loop-part.all) end p.means))
 
 -- ---- Odd
-built_odd : (v : Vec Expr Global) → symbolic_value (tree.Odd v) ≡ joined exclusive_disjunction never (map symbolic_value v.items)
+built_odd : (v : Vec Expr Global) → symbolic_value (tree.Odd v) ≡ joined_parts exclusive_disjunction never (map symbolic_value v.items)
 built_odd v = ap symbolic_value (sym (tree.rolls-Odd v)) ∙ fold-roll-Expr SymbolicValue symbolic_step _
 
 reads_odd : (vars : ℕ) (v : Vec Expr Global) → reads vars (tree.Odd v) ≡ list_all (λ b. b) (map (reads vars) v.items)
@@ -139,7 +139,7 @@ loop-part-2-init g t c =
     let es : List Expr = c.deref-part-items-in-Odd.result.now in
     let same : es ≡ c.in-Odd.parts.items = c.deref-part-items-in-Odd.ensures.value in
     record {
-      is = ap symbolic_value c.in-Odd.is ∙ built_odd c.in-Odd.parts ∙ ap (λ (xs : List Expr). joined exclusive_disjunction never (map symbolic_value xs)) (sym same);
+      is = ap symbolic_value c.in-Odd.is ∙ built_odd c.in-Odd.parts ∙ ap (λ (xs : List Expr). joined_parts exclusive_disjunction never (map symbolic_value xs)) (sym same);
       reads = λ k d lt. part_reads s.vars es k d lt (subst (λ (xs : List Expr). IsTrue (list_all (λ b. b) (map (reads s.vars) xs))) (sym same) (sym (reads_odd s.vars c.in-Odd.parts) ∙ ap (reads s.vars) (sym c.in-Odd.is) ∙ c.requires));
       so = record { so = So-start (work_of exclusive_disjunction never es) s; means = zero_means s (g.met.N.Nodes.diagram c.args.nodes.now) };
     }
@@ -157,7 +157,7 @@ returns-in_err-r-in-Odd g m c =
     let gs = g.met.N.Nodes.diagram c.args.nodes.now in
     let b = part_built exclusive_disjunction never es s t u c.loop-part-2.part-index c.part-item-in-loop-part-2.result c.loop-part-2.odd (Err fault) gt gu c.loop-part-2-test.true c.part-item-in-loop-part-2.is c.loop-part-2.invariant.so c.in_err-r-in-Odd.ensures in
     subst (λ (b : SymbolicValue). Built b.work (HasFunction b.value) s u c.from_residual-in_err-r-in-Odd.result) (sym c.loop-part-2.invariant.is)
-    (pass work (HasFunction (symbolic_value c.part-item-in-loop-part-2.result).value) (HasFunction (joined exclusive_disjunction never (map symbolic_value es)).value) s s u fault c.from_residual-in_err-r-in-Odd.result gs gu (So-start work s) b c.from_residual-in_err-r-in-Odd.ensures.1)
+    (pass work (HasFunction (symbolic_value c.part-item-in-loop-part-2.result).value) (HasFunction (joined_parts exclusive_disjunction never (map symbolic_value es)).value) s s u fault c.from_residual-in_err-r-in-Odd.result gs gu (So-start work s) b c.from_residual-in_err-r-in-Odd.ensures.1)
 
 pub loop-part-2-preserved : goal.loop-part-2-preserved
 loop-part-2-preserved g m c =
@@ -198,7 +198,7 @@ returns-in_err-odd-in-Odd g m c =
     let b = part_turn exclusive_disjunction never es s t u v k c.part-item-in-loop-part-2.result c.loop-part-2.odd c.in_ok-r-in-Odd.r (Err fault) gt gu gv c.loop-part-2-test.true c.part-item-in-loop-part-2.is c.loop-part-2.invariant.so c.in_ok-r-in-Odd.ensures
     (λ part f h has mf mh. xor_built part f h u v c.loop-part-2.odd c.in_ok-r-in-Odd.r (Err fault) has mf mh c.in_err-odd-in-Odd.ensures) in
     subst (λ (b : SymbolicValue). Built b.work (HasFunction b.value) s v c.from_residual-in_err-odd-in-Odd.result) (sym c.loop-part-2.invariant.is)
-    (pass work (HasFunction (so_far exclusive_disjunction never es (k + 1))) (HasFunction (joined exclusive_disjunction never (map symbolic_value es)).value) s s v fault c.from_residual-in_err-odd-in-Odd.result gs gv (So-start work s) b c.from_residual-in_err-odd-in-Odd.ensures.1)
+    (pass work (HasFunction (so_far exclusive_disjunction never es (k + 1))) (HasFunction (joined_parts exclusive_disjunction never (map symbolic_value es)).value) s s v fault c.from_residual-in_err-odd-in-Odd.result gs gv (So-start work s) b c.from_residual-in_err-odd-in-Odd.ensures.1)
 
 pub xor-requires-clause-left : goal.xor-requires-clause-left
 xor-requires-clause-left g m c =
@@ -212,12 +212,12 @@ returns-after-loop-part-2 g m c =
     let k = c.loop-part-2.part-index in
     let p = c.loop-part-2.invariant.so in
     let n = values_long es in
-    let end : so_far exclusive_disjunction never es k ≡ (joined exclusive_disjunction never (map symbolic_value es)).value = ap (whole exclusive_disjunction never) (take_all k (values_of es) (omega (arith, n, c.loop-part-2-test.false))) in
+    let end : so_far exclusive_disjunction never es k ≡ (joined_parts exclusive_disjunction never (map symbolic_value es)).value = ap (whole exclusive_disjunction never) (take_all k (values_of es) (omega (arith, n, c.loop-part-2-test.false))) in
     subst (λ (b : SymbolicValue). Built b.work (HasFunction b.value) s t (Ok c.loop-part-2.odd)) (sym c.loop-part-2.invariant.is)
-    (Built-made (work_of exclusive_disjunction never es) (HasFunction (joined exclusive_disjunction never (map symbolic_value es)).value) s t c.loop-part-2.odd p.so (subst (λ (f : Function). Means t f c.loop-part-2.odd) end p.means))
+    (Built-made (work_of exclusive_disjunction never es) (HasFunction (joined_parts exclusive_disjunction never (map symbolic_value es)).value) s t c.loop-part-2.odd p.so (subst (λ (f : Function). Means t f c.loop-part-2.odd) end p.means))
 
 -- ---- Any
-built_any : (v : Vec Expr Global) → symbolic_value (tree.Any v) ≡ joined disjunction never (map symbolic_value v.items)
+built_any : (v : Vec Expr Global) → symbolic_value (tree.Any v) ≡ joined_parts disjunction never (map symbolic_value v.items)
 built_any v = ap symbolic_value (sym (tree.rolls-Any v)) ∙ fold-roll-Expr SymbolicValue symbolic_step _
 
 reads_any : (vars : ℕ) (v : Vec Expr Global) → reads vars (tree.Any v) ≡ list_all (λ b. b) (map (reads vars) v.items)
@@ -229,7 +229,7 @@ loop-part-3-init g t c =
     let es : List Expr = c.deref-part-items-in-Any.result.now in
     let same : es ≡ c.in-Any.parts.items = c.deref-part-items-in-Any.ensures.value in
     record {
-      is = ap symbolic_value c.in-Any.is ∙ built_any c.in-Any.parts ∙ ap (λ (xs : List Expr). joined disjunction never (map symbolic_value xs)) (sym same);
+      is = ap symbolic_value c.in-Any.is ∙ built_any c.in-Any.parts ∙ ap (λ (xs : List Expr). joined_parts disjunction never (map symbolic_value xs)) (sym same);
       reads = λ k d lt. part_reads s.vars es k d lt (subst (λ (xs : List Expr). IsTrue (list_all (λ b. b) (map (reads s.vars) xs))) (sym same) (sym (reads_any s.vars c.in-Any.parts) ∙ ap (reads s.vars) (sym c.in-Any.is) ∙ c.requires));
       so = record { so = So-start (work_of disjunction never es) s; means = zero_means s (g.met.N.Nodes.diagram c.args.nodes.now) };
     }
@@ -247,7 +247,7 @@ returns-in_err-r-in-Any g m c =
     let gs = g.met.N.Nodes.diagram c.args.nodes.now in
     let b = part_built disjunction never es s t u c.loop-part-3.part-index c.part-item-in-loop-part-3.result c.loop-part-3.any (Err fault) gt gu c.loop-part-3-test.true c.part-item-in-loop-part-3.is c.loop-part-3.invariant.so c.in_err-r-in-Any.ensures in
     subst (λ (b : SymbolicValue). Built b.work (HasFunction b.value) s u c.from_residual-in_err-r-in-Any.result) (sym c.loop-part-3.invariant.is)
-    (pass work (HasFunction (symbolic_value c.part-item-in-loop-part-3.result).value) (HasFunction (joined disjunction never (map symbolic_value es)).value) s s u fault c.from_residual-in_err-r-in-Any.result gs gu (So-start work s) b c.from_residual-in_err-r-in-Any.ensures.1)
+    (pass work (HasFunction (symbolic_value c.part-item-in-loop-part-3.result).value) (HasFunction (joined_parts disjunction never (map symbolic_value es)).value) s s u fault c.from_residual-in_err-r-in-Any.result gs gu (So-start work s) b c.from_residual-in_err-r-in-Any.ensures.1)
 
 pub loop-part-3-preserved : goal.loop-part-3-preserved
 loop-part-3-preserved g m c =
@@ -288,7 +288,7 @@ returns-in_err-any-in-Any g m c =
     let b = part_turn disjunction never es s t u v k c.part-item-in-loop-part-3.result c.loop-part-3.any c.in_ok-r-in-Any.r (Err fault) gt gu gv c.loop-part-3-test.true c.part-item-in-loop-part-3.is c.loop-part-3.invariant.so c.in_ok-r-in-Any.ensures
     (λ part f h has mf mh. or_built part f h u v c.loop-part-3.any c.in_ok-r-in-Any.r (Err fault) has mf mh c.in_err-any-in-Any.ensures) in
     subst (λ (b : SymbolicValue). Built b.work (HasFunction b.value) s v c.from_residual-in_err-any-in-Any.result) (sym c.loop-part-3.invariant.is)
-    (pass work (HasFunction (so_far disjunction never es (k + 1))) (HasFunction (joined disjunction never (map symbolic_value es)).value) s s v fault c.from_residual-in_err-any-in-Any.result gs gv (So-start work s) b c.from_residual-in_err-any-in-Any.ensures.1)
+    (pass work (HasFunction (so_far disjunction never es (k + 1))) (HasFunction (joined_parts disjunction never (map symbolic_value es)).value) s s v fault c.from_residual-in_err-any-in-Any.result gs gv (So-start work s) b c.from_residual-in_err-any-in-Any.ensures.1)
 
 pub either-requires-clause-left : goal.either-requires-clause-left
 either-requires-clause-left g m c =
@@ -302,9 +302,9 @@ returns-after-loop-part-3 g m c =
     let k = c.loop-part-3.part-index in
     let p = c.loop-part-3.invariant.so in
     let n = values_long es in
-    let end : so_far disjunction never es k ≡ (joined disjunction never (map symbolic_value es)).value = ap (whole disjunction never) (take_all k (values_of es) (omega (arith, n, c.loop-part-3-test.false))) in
+    let end : so_far disjunction never es k ≡ (joined_parts disjunction never (map symbolic_value es)).value = ap (whole disjunction never) (take_all k (values_of es) (omega (arith, n, c.loop-part-3-test.false))) in
     subst (λ (b : SymbolicValue). Built b.work (HasFunction b.value) s t (Ok c.loop-part-3.any)) (sym c.loop-part-3.invariant.is)
-    (Built-made (work_of disjunction never es) (HasFunction (joined disjunction never (map symbolic_value es)).value) s t c.loop-part-3.any p.so (subst (λ (f : Function). Means t f c.loop-part-3.any) end p.means))
+    (Built-made (work_of disjunction never es) (HasFunction (joined_parts disjunction never (map symbolic_value es)).value) s t c.loop-part-3.any p.so (subst (λ (f : Function). Means t f c.loop-part-3.any) end p.means))
 
 -- ---- the others
 built_bit : (b : Bool) → symbolic_value (tree.Const b) ≡ record { value = λ bits. b; work = (λ bits. b) ∷ [] }

@@ -1,5 +1,5 @@
 use Rattle.std.proofs.Common.{List, Ok, Err}
-use Rattle.dd_nodes.specs.Diagram.{Function}
+use Rattle.ste_base.specs.Functions.{Function}
 use Rattle.dd_nodes.specs.declared.node.Ref.{Ref}
 use Rattle.dd_nodes.specs.Stores.{Store, IsRef}
 use Rattle.dd_nodes.proofs.Stores.{Means-keeps}

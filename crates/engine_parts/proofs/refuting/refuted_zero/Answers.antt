@@ -1,5 +1,5 @@
 use Rattle.std.proofs.Common.{List, refl, arith, Ok, Err}
-use Rattle.dd_nodes.specs.Diagram.{Function}
+use Rattle.ste_base.specs.Functions.{Function}
 use Rattle.dd_nodes.specs.Stores.{Store}
 use Rattle.dd_nodes.proofs.Stores.{Means-keeps}
 use Rattle.net_core.specs.Work.{conjunction, negation}

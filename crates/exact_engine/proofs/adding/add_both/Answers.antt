@@ -1,7 +1,7 @@
 use Rattle.std.proofs.Common.{List, Ok, Err}
 use Rattle.std.proofs.lemmas.List.Elements.{Contains-append_left, Contains-append_right}
 use Rattle.dd_nodes.specs.declared.node.Ref.{Ref}
-use Rattle.dd_nodes.specs.Diagram.{Function}
+use Rattle.ste_base.specs.Functions.{Function}
 use Rattle.dd_nodes.specs.Stores.{Store}
 use Rattle.dd_nodes.proofs.Stores.{Keeps-trans, Means-keeps}
 use Rattle.dd_nodes.proofs.Walks.{IsFrom-grows}
@@ -9,13 +9,13 @@ use Rattle.net_core.specs.Work.{disjunction, whole}
 use Rattle.ste_model.specs.Work.{symbolic_cuts_at}
 use Rattle.dual_rail.specs.Rail.{HasFunction}
 use Rattle.dual_rail.proofs.Works.{So-start, Built-made, Built-wider, first, more, pass}
-use Rattle.exact_engine.specs.private.Asks.{AreBothAdded, both_added, broken_at, cuts_added}
+use Rattle.exact_engine.specs.private.TimedCuts.{AreBothAdded, both_added, broken_at, cuts_added}
 use Rattle.exact_engine.specs.private.Bits.{net_ref}
-use Rattle.exact_engine.proofs.Added.{ask_refs_keep, asks_keep}
+use Rattle.exact_engine.proofs.Added.{ask_refs_keep, timed_cuts_keep}
 use Rattle.exact_engine.proofs.adding.add_both.Goals as goal
 
-pub add_time-requires-2-clause-asks : goal.add_time-requires-2-clause-asks
-add_time-requires-2-clause-asks g c = ask_refs_keep (g.N.Nodes.store c.args.nodes.now) (g.N.Nodes.store c.add_time.new.nodes) _ c.args.con.now c.in_ok-first.ensures.keeps c.requires.con
+pub add_time-requires-2-clause-timed_cuts : goal.add_time-requires-2-clause-timed_cuts
+add_time-requires-2-clause-timed_cuts g c = ask_refs_keep (g.N.Nodes.store c.args.nodes.now) (g.N.Nodes.store c.add_time.new.nodes) _ c.args.con.now c.in_ok-first.ensures.keeps c.requires.con
 
 pub returns-in_err-first-clause-built : goal.returns-in_err-first-clause-built
 returns-in_err-first-clause-built g c = λ f h bit one two mf mh bits fa fc.
@@ -47,7 +47,7 @@ returns-in_err-second-clause-built g c = λ f h bit one two mf mh bits fa fc.
     let fault = c.in_err-second.field-0.0 in
     pass work (HasFunction (whole disjunction h (broken_at bit b))) (AreBothAdded f h bit a b) s t u fault c.from_residual-in_err-second.result dt du (first work (HasFunction (whole disjunction f (broken_at bit a))) s t (Ok c.in_ok-first.first) x)
     (Built-wider work (cuts_added h bit b) (HasFunction (whole disjunction h (broken_at bit b))) t u (Err fault) (λ k y. Contains-append_right (cuts_added f bit a) (cuts_added h bit b) k y)
-    (c.in_err-second.ensures.built h bit two (Means-keeps s t h c.args.sums.con ds dt keeps mh) (λ id l. Means-keeps s t (bit id) (net_ref refs id) ds dt keeps (bits id l)) (asks_keep s t two c.args.con.now ds dt keeps fc)))
+    (c.in_err-second.ensures.built h bit two (Means-keeps s t h c.args.sums.con ds dt keeps mh) (λ id l. Means-keeps s t (bit id) (net_ref refs id) ds dt keeps (bits id l)) (timed_cuts_keep s t two c.args.con.now ds dt keeps fc)))
     c.from_residual-in_err-second.ensures.1
 
 pub returns-in_err-second-clause-keeps : goal.returns-in_err-second-clause-keeps
@@ -71,7 +71,7 @@ returns-clause-built g c = λ f h bit one two mf mh bits fa fc.
     let two_f : Function = whole disjunction h (broken_at bit b) in
     let x = Built-wider work (cuts_added f bit a) (HasFunction one_f) s t (Ok c.in_ok-first.first) (λ k y. Contains-append_left (cuts_added f bit a) (cuts_added h bit b) k y) (c.in_ok-first.ensures.built f bit one mf bits fa) in
     let z = Built-wider work (cuts_added h bit b) (HasFunction two_f) t u (Ok c.in_ok-second.second) (λ k y. Contains-append_right (cuts_added f bit a) (cuts_added h bit b) k y)
-    (c.in_ok-second.ensures.built h bit two (Means-keeps s t h c.args.sums.con ds dt keeps mh) (λ id l. Means-keeps s t (bit id) (net_ref refs id) ds dt keeps (bits id l)) (asks_keep s t two c.args.con.now ds dt keeps fc)) in
+    (c.in_ok-second.ensures.built h bit two (Means-keeps s t h c.args.sums.con ds dt keeps mh) (λ id l. Means-keeps s t (bit id) (net_ref refs id) ds dt keeps (bits id l)) (timed_cuts_keep s t two c.args.con.now ds dt keeps fc)) in
     Built-made work (AreBothAdded f h bit a b) s u (record { ant = c.in_ok-first.first; con = c.in_ok-second.second })
     (more work (HasFunction two_f) s t u (Ok c.in_ok-second.second) dt du (first work (HasFunction one_f) s t (Ok c.in_ok-first.first) x) z)
     (record { ant = Means-keeps t u one_f c.in_ok-first.first dt du z.spends.keeps x.ok; con = z.ok })

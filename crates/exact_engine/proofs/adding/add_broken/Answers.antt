@@ -1,5 +1,5 @@
 use Rattle.std.proofs.Common.{List, Ok, Err, refl, arith}
-use Rattle.dd_nodes.specs.Diagram.{Function}
+use Rattle.ste_base.specs.Functions.{Function}
 use Rattle.dd_nodes.specs.Stores.{Store}
 use Rattle.dd_nodes.proofs.Stores.{Means-keeps}
 use Rattle.dd_nodes.proofs.Walks.{IsFrom-grows}
@@ -7,7 +7,7 @@ use Rattle.net_core.specs.Work.{disjunction}
 use Rattle.ste_model.specs.Expressions.{exclusive_disjunction}
 use Rattle.dual_rail.specs.Rail.{HasFunction}
 use Rattle.dual_rail.proofs.Works.{So-start, and_built, first, last, more, or_built, pass}
-use Rattle.exact_engine.specs.private.Asks.{broken, broken_work}
+use Rattle.exact_engine.specs.private.TimedCuts.{broken, broken_work}
 use Rattle.exact_engine.proofs.Added.{xor_built}
 use Rattle.exact_engine.proofs.adding.add_broken.Goals as goal
 

@@ -1,5 +1,5 @@
 use Rattle.std.proofs.Common.{List, Ok, Err}
-use Rattle.dd_nodes.specs.Diagram.{Function}
+use Rattle.ste_base.specs.Functions.{Function}
 use Rattle.dd_nodes.specs.Stores.{Store, function}
 use Rattle.dd_nodes.proofs.Stores.{Means-keeps}
 use Rattle.dd_nodes.proofs.Walks.{IsFrom-grows}

@@ -1,7 +1,7 @@
 use Rattle.std.proofs.Common.{List, Some, Ok, Err, subst}
 use Rattle.dd_nodes.specs.declared.node.Ref.{Ref}
 use Rattle.net_core.specs.declared.cover.Lit.{Lit}
-use Rattle.dd_nodes.specs.Diagram.{Function}
+use Rattle.ste_base.specs.Functions.{Function}
 use Rattle.dd_nodes.specs.Stores.{Store, function}
 use Rattle.net_core.specs.Work.{sum}
 use Rattle.dual_rail.specs.Rail.{Built, HasFunction}

@@ -1,5 +1,5 @@
 use Rattle.std.proofs.Common.{ℕ, drop, All}
-use Rattle.dd_nodes.specs.Diagram.{Function}
+use Rattle.ste_base.specs.Functions.{Function}
 use Rattle.dd_nodes.specs.Spending.{Spends}
 use Rattle.dd_nodes.specs.Stores.{IsRef}
 use Rattle.net_core.specs.Work.{disjunction, sum}

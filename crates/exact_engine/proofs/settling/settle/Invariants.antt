@@ -1,5 +1,5 @@
 use Rattle.std.proofs.Common.{◌≡◌, ℕ, All, length}
-use Rattle.dd_nodes.specs.Diagram.{Function}
+use Rattle.ste_base.specs.Functions.{Function}
 use Rattle.dd_nodes.specs.Spending.{Spends}
 use Rattle.dd_nodes.specs.Stores.{IsRef, Keeps}
 use Rattle.exact_engine.specs.private.Bits.{AreSettled, AreSources, FollowGates, time_work}

@@ -6,10 +6,10 @@ use Rattle.dd_nodes.proofs.Stores.{Keeps-refl, Keeps-trans, Means-keeps}
 use Rattle.dd_nodes.proofs.Walks.{IsFrom-grows}
 use Rattle.dual_rail.proofs.Works.{So-start, Built-made, first}
 use Rattle.ste_model.specs.Asked.{depth}
-use Rattle.exact_engine.specs.private.Asks.{IsAskRef}
+use Rattle.exact_engine.specs.private.TimedCuts.{IsTimedCutRef}
 use Rattle.exact_engine.specs.private.Bits.{AreBits, net_ref}
 use Rattle.exact_engine.specs.private.Times.{AreTimes, broken_before}
-use Rattle.exact_engine.proofs.Added.{ask_refs_keep, asks_keep}
+use Rattle.exact_engine.proofs.Added.{ask_refs_keep, timed_cuts_keep}
 use Rattle.exact_engine.proofs.Rows.{refs_keep}
 use Rattle.exact_engine.proofs.AllTimes.{HasSums, add_failed, bits_failed, choice_first, choice_next, room_at, time_turn, work}
 use Rattle.exact_engine.proofs.times.broken_sums.Goals as goal
@@ -67,12 +67,12 @@ add_both-requires-clause-con_sum g c = IsFrom-grows (g.N.Nodes.store c.loop-t.no
 pub add_both-requires-clause-ant : goal.add_both-requires-clause-ant
 add_both-requires-clause-ant g c =
     let long : length c.as_slice-in-loop-t.result.now ≡ c.args.net.now.raw.nets = ap length c.as_slice-in-loop-t.ensures.value ∙ c.in_ok-bits.ensures.long in
-    subst (λ (m : ℕ). All (IsAskRef (g.N.Nodes.store c.bits_at.new.nodes) m) c.args.ant.now) (sym long) (ask_refs_keep (g.N.Nodes.store c.loop-t.nodes) (g.N.Nodes.store c.bits_at.new.nodes) c.args.net.now.raw.nets c.args.ant.now c.in_ok-bits.ensures.keeps c.loop-t.invariant.ant)
+    subst (λ (m : ℕ). All (IsTimedCutRef (g.N.Nodes.store c.bits_at.new.nodes) m) c.args.ant.now) (sym long) (ask_refs_keep (g.N.Nodes.store c.loop-t.nodes) (g.N.Nodes.store c.bits_at.new.nodes) c.args.net.now.raw.nets c.args.ant.now c.in_ok-bits.ensures.keeps c.loop-t.invariant.ant)
 
 pub add_both-requires-clause-con : goal.add_both-requires-clause-con
 add_both-requires-clause-con g c =
     let long : length c.as_slice-in-loop-t.result.now ≡ c.args.net.now.raw.nets = ap length c.as_slice-in-loop-t.ensures.value ∙ c.in_ok-bits.ensures.long in
-    subst (λ (m : ℕ). All (IsAskRef (g.N.Nodes.store c.bits_at.new.nodes) m) c.args.con.now) (sym long) (ask_refs_keep (g.N.Nodes.store c.loop-t.nodes) (g.N.Nodes.store c.bits_at.new.nodes) c.args.net.now.raw.nets c.args.con.now c.in_ok-bits.ensures.keeps c.loop-t.invariant.con)
+    subst (λ (m : ℕ). All (IsTimedCutRef (g.N.Nodes.store c.bits_at.new.nodes) m) c.args.con.now) (sym long) (ask_refs_keep (g.N.Nodes.store c.loop-t.nodes) (g.N.Nodes.store c.bits_at.new.nodes) c.args.net.now.raw.nets c.args.con.now c.in_ok-bits.ensures.keeps c.loop-t.invariant.con)
 
 pub returns-in_err-bits-clause-built : goal.returns-in_err-bits-clause-built
 returns-in_err-bits-clause-built g c = λ bit given fa fc.
@@ -122,7 +122,7 @@ returns-in_err-broken-clause-built g c = λ bit given fa fc.
     let here : AreBits u (length c.as_slice-in-loop-t.result.now) (bit n) c.as_slice-in-loop-t.result.now = λ id l. subst (λ (xs : List Ref). Means u (bit n id) (net_ref xs id)) (sym value) (made.ok id (subst (λ (m : ℕ). id < m) long l)) in
     let to_u = Keeps-trans s t u p.keeps keeps in
     add_failed net vars task bit s t u n dt du inside (p.so bit given fa fc) v dv before bits c.in_err-broken.field-0.0 c.from_residual-in_err-broken.result (p.sums bit given fa fc) made
-    (λ mf mh. c.in_err-broken.ensures.built (broken_before task.ant bit n) (broken_before task.con bit n) (bit n) task.ant task.con mf mh here (asks_keep s u task.ant c.args.ant.now ds du to_u fa) (asks_keep s u task.con c.args.con.now ds du to_u fc))
+    (λ mf mh. c.in_err-broken.ensures.built (broken_before task.ant bit n) (broken_before task.con bit n) (bit n) task.ant task.con mf mh here (timed_cuts_keep s u task.ant c.args.ant.now ds du to_u fa) (timed_cuts_keep s u task.con c.args.con.now ds du to_u fc))
     c.from_residual-in_err-broken.ensures.1 ds
 
 pub returns-in_err-broken-clause-keeps : goal.returns-in_err-broken-clause-keeps
@@ -173,7 +173,7 @@ loop-t-preserved g c =
           let to_u = Keeps-trans s t u p.keeps keeps in
           first (work net vars task bit) (HasSums net vars task bit (n + 1)) s v (Ok added)
           (time_turn net vars task bit s t u n dt du inside (p.so bit given fa fc) v dv before bits (Ok added) (p.sums bit given fa fc) made
-          (λ mf mh. c.in_ok-broken.ensures.built (broken_before task.ant bit n) (broken_before task.con bit n) (bit n) task.ant task.con mf mh here (asks_keep s u task.ant c.args.ant.now ds du to_u fa) (asks_keep s u task.con c.args.con.now ds du to_u fc)));
+          (λ mf mh. c.in_ok-broken.ensures.built (broken_before task.ant bit n) (broken_before task.con bit n) (bit n) task.ant task.con mf mh here (timed_cuts_keep s u task.ant c.args.ant.now ds du to_u fa) (timed_cuts_keep s u task.con c.args.con.now ds du to_u fc)));
       last = λ bit given fa fc k e.
           let same : k ≡ n = omega (arith, e) in
           let made = (c.in_ok-bits.ensures.built bit (subst (λ (v : ℕ). AreTimes v net vars task bit) (sym p.keeps.vars) given) inside
@@ -187,7 +187,7 @@ loop-t-preserved g c =
           let here : AreBits u (length c.as_slice-in-loop-t.result.now) (bit n) c.as_slice-in-loop-t.result.now = λ id l. subst (λ (xs : List Ref). Means u (bit n id) (net_ref xs id)) (sym value) (made.ok id (subst (λ (m : ℕ). id < m) long l)) in
           let to_u = Keeps-trans s t u p.keeps keeps in
           (time_turn net vars task bit s t u n dt du inside (p.so bit given fa fc) v dv before bits (Ok added) (p.sums bit given fa fc) made
-          (λ mf mh. c.in_ok-broken.ensures.built (broken_before task.ant bit n) (broken_before task.con bit n) (bit n) task.ant task.con mf mh here (asks_keep s u task.ant c.args.ant.now ds du to_u fa) (asks_keep s u task.con c.args.con.now ds du to_u fc))).ok;
+          (λ mf mh. c.in_ok-broken.ensures.built (broken_before task.ant bit n) (broken_before task.con bit n) (bit n) task.ant task.con mf mh here (timed_cuts_keep s u task.ant c.args.ant.now ds du to_u fa) (timed_cuts_keep s u task.con c.args.con.now ds du to_u fc))).ok;
     }
 
 pub returns-clause-built : goal.returns-clause-built

@@ -1,6 +1,6 @@
 use Rattle.std.proofs.Common.{[], ◌∷◌, List, subst}
 use Rattle.dd_nodes.specs.Stores.{Store}
-use Rattle.dd_nodes.specs.Diagram.{Function}
+use Rattle.ste_base.specs.Functions.{Function}
 use Rattle.net_core.specs.declared.cover.Lit.{Lit}
 use Rattle.net_core.specs.Work.{row_products, sum}
 use Rattle.dual_rail.specs.Rail.{Built, HasFunction}

@@ -4,16 +4,16 @@ use Rattle.net_core.specs.Work.{SymbolicSet}
 use Rattle.dual_rail.specs.declared.rails.Rails.{Rails}
 use Rattle.dual_rail.specs.Rail.{AreRefs, Built, HasSet}
 use Rattle.dual_rail.proofs.Works.{SoFar, So-start, Built-made, first, last, lost, more, pass}
-use Rattle.gate_sets.specs.declared.table.Tables.{Tables}
-use Rattle.gate_sets.specs.private.Tables.{AreAlike, AreFrom, AreMet, HasSetOrNot, IsFull, half_rails, set_by_tables}
-use Rattle.gate_sets.proofs.ByTable.{AreDone, AreOpen, Met-keeps, Open-keeps, both_done, both_of, found, found_at, half_asked, half_of, half_off, half_on, high_done, low_done, met_back, met_found, met_put, part_from, settled_found, split_done, told_found}
+use Rattle.gate_sets.specs.declared.truth_table.TruthTables.{TruthTables}
+use Rattle.gate_sets.specs.private.TruthTables.{AreAlike, AreFrom, AreMet, HasSetOrNot, IsFull, half_rails, set_by_tables}
+use Rattle.gate_sets.proofs.ByTable.{AreDone, AreOpen, GateMemo-keeps, Open-keeps, both_done, both_of, found, found_at, half_asked, half_of, half_off, half_on, high_done, low_done, met_back, met_found, met_put, part_from, settled_found, split_done, told_found}
 use Rattle.gate_sets.proofs.by_table.+halving.Goals as goal
 
 pub sum_at-returns-in_err-add_half-clause-built : goal.sum_at-returns-in_err-add_half-clause-built
 sum_at-returns-in_err-add_half-clause-built g t0 c =
     let s : Store = g.N.Nodes.store c.args.nodes.now in
     let ds = g.met.N.Nodes.diagram c.args.nodes.now in
-    let n : Tables = c.args.tables in
+    let n : TruthTables = c.args.tables in
     let v : ℕ = c.args.var in
     let old : List Rails = c.args.stack.now.items in
     let ops : List Rails = drop c.args.begin old in
@@ -25,7 +25,7 @@ pub sum_at-sum_of-requires : goal.sum_at-sum_of-requires
 sum_at-sum_of-requires g t0 c κs within =
     let s : Store = g.N.Nodes.store c.args.nodes.now in
     let ds = g.met.N.Nodes.diagram c.args.nodes.now in
-    let n : Tables = c.args.tables in
+    let n : TruthTables = c.args.tables in
     let v : ℕ = c.args.var in
     let old : List Rails = c.args.stack.now.items in
     let ops : List Rails = drop c.args.begin old in
@@ -42,7 +42,7 @@ pub sum_at-returns-in_err-lo-clause-built : goal.sum_at-returns-in_err-lo-clause
 sum_at-returns-in_err-lo-clause-built g t0 c =
     let s : Store = g.N.Nodes.store c.args.nodes.now in
     let ds = g.met.N.Nodes.diagram c.args.nodes.now in
-    let n : Tables = c.args.tables in
+    let n : TruthTables = c.args.tables in
     let v : ℕ = c.args.var in
     let old : List Rails = c.args.stack.now.items in
     let ops : List Rails = drop c.args.begin old in
@@ -60,7 +60,7 @@ pub sum_at-returns-in_default-clause-built : goal.sum_at-returns-in_default-clau
 sum_at-returns-in_default-clause-built g t0 c =
     let s : Store = g.N.Nodes.store c.args.nodes.now in
     let ds = g.met.N.Nodes.diagram c.args.nodes.now in
-    let n : Tables = c.args.tables in
+    let n : TruthTables = c.args.tables in
     let v : ℕ = c.args.var in
     let old : List Rails = c.args.stack.now.items in
     let ops : List Rails = drop c.args.begin old in
@@ -79,7 +79,7 @@ pub sum_at-returns-in_err-add_half-2-clause-built : goal.sum_at-returns-in_err-a
 sum_at-returns-in_err-add_half-2-clause-built g t0 c =
     let s : Store = g.N.Nodes.store c.args.nodes.now in
     let ds = g.met.N.Nodes.diagram c.args.nodes.now in
-    let n : Tables = c.args.tables in
+    let n : TruthTables = c.args.tables in
     let v : ℕ = c.args.var in
     let old : List Rails = c.args.stack.now.items in
     let ops : List Rails = drop c.args.begin old in
@@ -98,7 +98,7 @@ pub sum_at-sum_of-requires-2 : goal.sum_at-sum_of-requires-2
 sum_at-sum_of-requires-2 g t0 c κs within =
     let s : Store = g.N.Nodes.store c.args.nodes.now in
     let ds = g.met.N.Nodes.diagram c.args.nodes.now in
-    let n : Tables = c.args.tables in
+    let n : TruthTables = c.args.tables in
     let v : ℕ = c.args.var in
     let old : List Rails = c.args.stack.now.items in
     let ops : List Rails = drop c.args.begin old in
@@ -123,7 +123,7 @@ pub sum_at-returns-in_err-hi-clause-built : goal.sum_at-returns-in_err-hi-clause
 sum_at-returns-in_err-hi-clause-built g t0 c =
     let s : Store = g.N.Nodes.store c.args.nodes.now in
     let ds = g.met.N.Nodes.diagram c.args.nodes.now in
-    let n : Tables = c.args.tables in
+    let n : TruthTables = c.args.tables in
     let v : ℕ = c.args.var in
     let old : List Rails = c.args.stack.now.items in
     let ops : List Rails = drop c.args.begin old in
@@ -148,7 +148,7 @@ pub sum_at-returns-in_default-hi-clause-built : goal.sum_at-returns-in_default-h
 sum_at-returns-in_default-hi-clause-built g t0 c =
     let s : Store = g.N.Nodes.store c.args.nodes.now in
     let ds = g.met.N.Nodes.diagram c.args.nodes.now in
-    let n : Tables = c.args.tables in
+    let n : TruthTables = c.args.tables in
     let v : ℕ = c.args.var in
     let old : List Rails = c.args.stack.now.items in
     let ops : List Rails = drop c.args.begin old in
@@ -173,7 +173,7 @@ pub sum_at-split_set-requires-clause-lo : goal.sum_at-split_set-requires-clause-
 sum_at-split_set-requires-clause-lo g t0 c =
     let s : Store = g.N.Nodes.store c.args.nodes.now in
     let ds = g.met.N.Nodes.diagram c.args.nodes.now in
-    let n : Tables = c.args.tables in
+    let n : TruthTables = c.args.tables in
     let v : ℕ = c.args.var in
     let old : List Rails = c.args.stack.now.items in
     let ops : List Rails = drop c.args.begin old in
@@ -199,7 +199,7 @@ pub sum_at-split_set-requires-clause-hi : goal.sum_at-split_set-requires-clause-
 sum_at-split_set-requires-clause-hi g t0 c =
     let s : Store = g.N.Nodes.store c.args.nodes.now in
     let ds = g.met.N.Nodes.diagram c.args.nodes.now in
-    let n : Tables = c.args.tables in
+    let n : TruthTables = c.args.tables in
     let v : ℕ = c.args.var in
     let old : List Rails = c.args.stack.now.items in
     let ops : List Rails = drop c.args.begin old in
@@ -225,7 +225,7 @@ pub sum_at-returns-in_err-split_set-clause-built : goal.sum_at-returns-in_err-sp
 sum_at-returns-in_err-split_set-clause-built g t0 c =
     let s : Store = g.N.Nodes.store c.args.nodes.now in
     let ds = g.met.N.Nodes.diagram c.args.nodes.now in
-    let n : Tables = c.args.tables in
+    let n : TruthTables = c.args.tables in
     let v : ℕ = c.args.var in
     let old : List Rails = c.args.stack.now.items in
     let ops : List Rails = drop c.args.begin old in
@@ -254,7 +254,7 @@ pub sum_at-returns-clause-met : goal.sum_at-returns-clause-met
 sum_at-returns-clause-met g t0 c =
     let s : Store = g.N.Nodes.store c.args.nodes.now in
     let ds = g.met.N.Nodes.diagram c.args.nodes.now in
-    let n : Tables = c.args.tables in
+    let n : TruthTables = c.args.tables in
     let v : ℕ = c.args.var in
     let old : List Rails = c.args.stack.now.items in
     let ops : List Rails = drop c.args.begin old in
@@ -277,13 +277,13 @@ sum_at-returns-clause-met g t0 c =
     let x : Store = g.N.Nodes.store c.split_set.new.nodes in
     let dx = g.met.N.Nodes.diagram c.split_set.new.nodes in
     let split : Built (both_of w) (HasSet w) u x (Ok c.in_ok-split_set.field-0) = split_done s v ops ds o n u x c.in-Some.lo c.in-Some-hi.hi (Ok c.in_ok-split_set.field-0) du done c.in_ok-split_set.ensures in
-    Met-keeps u x (length ops) c.sum_of-2.new.met du dx split.spends.keeps (met_back t u v true ops (drop c.len-end.result c.add_half-2.new.stack.items) c.sum_of-2.new.met ones.1 c.in_ok-hi.ensures.met)
+    GateMemo-keeps u x (length ops) c.sum_of-2.new.met du dx split.spends.keeps (met_back t u v true ops (drop c.len-end.result c.add_half-2.new.stack.items) c.sum_of-2.new.met ones.1 c.in_ok-hi.ensures.met)
 
 pub sum_at-returns-clause-built : goal.sum_at-returns-clause-built
 sum_at-returns-clause-built g t0 c =
     let s : Store = g.N.Nodes.store c.args.nodes.now in
     let ds = g.met.N.Nodes.diagram c.args.nodes.now in
-    let n : Tables = c.args.tables in
+    let n : TruthTables = c.args.tables in
     let v : ℕ = c.args.var in
     let old : List Rails = c.args.stack.now.items in
     let ops : List Rails = drop c.args.begin old in
@@ -312,8 +312,8 @@ pub sum_of-returns-in-Some-clause-built : goal.sum_of-returns-in-Some-clause-bui
 sum_of-returns-in-Some-clause-built g t0 c =
     let s : Store = g.N.Nodes.store c.args.nodes.now in
     let ds = g.met.N.Nodes.diagram c.args.nodes.now in
-    let before : Tables = c.args.tables in
-    let after : Tables = c.settle_from-tables.result in
+    let before : TruthTables = c.args.tables in
+    let after : TruthTables = c.settle_from-tables.result in
     let old : List Rails = drop c.args.begin c.args.stack.now.items in
     let new : List Rails = drop c.args.begin c.settle_from-tables.new.stack.items in
     let alike : AreAlike before after old new = c.settle_from-tables.ensures.alike in
@@ -321,17 +321,17 @@ sum_of-returns-in-Some-clause-built g t0 c =
     let full : All (IsFull s) new = alike.full s ds c.requires.full in
     settled_found s s before after old new (Ok (Some c.in-Some.r)) ds alike c.requires.full (told_found s after new c.operands_from.result.now c.in-Some.r ds c.operands_from.ensures c.in-Some.ensures refs full)
 
-pub sum_of-returns-in-Some-found-clause-built : goal.sum_of-returns-in-Some-found-clause-built
-sum_of-returns-in-Some-found-clause-built g t0 c =
+pub sum_of-returns-in-Some-find-clause-built : goal.sum_of-returns-in-Some-find-clause-built
+sum_of-returns-in-Some-find-clause-built g t0 c =
     let s : Store = g.N.Nodes.store c.args.nodes.now in
     let ds = g.met.N.Nodes.diagram c.args.nodes.now in
-    let before : Tables = c.args.tables in
-    let after : Tables = c.settle_from-tables.result in
+    let before : TruthTables = c.args.tables in
+    let after : TruthTables = c.settle_from-tables.result in
     let old : List Rails = drop c.args.begin c.args.stack.now.items in
     let new : List Rails = drop c.args.begin c.settle_from-tables.new.stack.items in
     let alike : AreAlike before after old new = c.settle_from-tables.ensures.alike in
     let met : AreMet s (length new) c.args.met.now = subst (λ (k : ℕ). AreMet s k c.args.met.now) (sym alike.long) c.requires.met in
-    settled_found s s before after old new (Ok (Some c.in-Some-found.r)) ds alike c.requires.full (met_found s after new c.operands_from-3.result.now c.args.met.now c.in-Some-found.r c.operands_from-3.ensures met (c.in-Some-found.ensures s))
+    settled_found s s before after old new (Ok (Some c.in-Some-find.r)) ds alike c.requires.full (met_found s after new c.operands_from-3.result.now c.args.met.now c.in-Some-find.r c.operands_from-3.ensures met (c.in-Some-find.ensures s))
 
 pub sum_of-returns-then-depth-eq0-clause-built : goal.sum_of-returns-then-depth-eq0-clause-built
 sum_of-returns-then-depth-eq0-clause-built g t0 c =
@@ -343,8 +343,8 @@ pub sum_of-sum_at-requires : goal.sum_of-sum_at-requires
 sum_of-sum_at-requires g t0 c κs within =
     let s : Store = g.N.Nodes.store c.args.nodes.now in
     let ds = g.met.N.Nodes.diagram c.args.nodes.now in
-    let before : Tables = c.args.tables in
-    let after : Tables = c.settle_from-tables.result in
+    let before : TruthTables = c.args.tables in
+    let after : TruthTables = c.settle_from-tables.result in
     let old : List Rails = drop c.args.begin c.args.stack.now.items in
     let new : List Rails = drop c.args.begin c.settle_from-tables.new.stack.items in
     let alike : AreAlike before after old new = c.settle_from-tables.ensures.alike in
@@ -388,8 +388,8 @@ pub sum_of-returns-in_err-r-clause-built : goal.sum_of-returns-in_err-r-clause-b
 sum_of-returns-in_err-r-clause-built g t0 c =
     let s : Store = g.N.Nodes.store c.args.nodes.now in
     let ds = g.met.N.Nodes.diagram c.args.nodes.now in
-    let before : Tables = c.args.tables in
-    let after : Tables = c.settle_from-tables.result in
+    let before : TruthTables = c.args.tables in
+    let after : TruthTables = c.settle_from-tables.result in
     let old : List Rails = drop c.args.begin c.args.stack.now.items in
     let new : List Rails = drop c.args.begin c.settle_from-tables.new.stack.items in
     let alike : AreAlike before after old new = c.settle_from-tables.ensures.alike in
@@ -406,8 +406,8 @@ pub sum_of-returns-in_default-2-clause-built : goal.sum_of-returns-in_default-2-
 sum_of-returns-in_default-2-clause-built g t0 c =
     let s : Store = g.N.Nodes.store c.args.nodes.now in
     let ds = g.met.N.Nodes.diagram c.args.nodes.now in
-    let before : Tables = c.args.tables in
-    let after : Tables = c.settle_from-tables.result in
+    let before : TruthTables = c.args.tables in
+    let after : TruthTables = c.settle_from-tables.result in
     let old : List Rails = drop c.args.begin c.args.stack.now.items in
     let new : List Rails = drop c.args.begin c.settle_from-tables.new.stack.items in
     let alike : AreAlike before after old new = c.settle_from-tables.ensures.alike in
@@ -424,8 +424,8 @@ pub sum_of-returns-in_err-put-clause-built : goal.sum_of-returns-in_err-put-clau
 sum_of-returns-in_err-put-clause-built g t0 c =
     let s : Store = g.N.Nodes.store c.args.nodes.now in
     let ds = g.met.N.Nodes.diagram c.args.nodes.now in
-    let before : Tables = c.args.tables in
-    let after : Tables = c.settle_from-tables.result in
+    let before : TruthTables = c.args.tables in
+    let after : TruthTables = c.settle_from-tables.result in
     let old : List Rails = drop c.args.begin c.args.stack.now.items in
     let new : List Rails = drop c.args.begin c.settle_from-tables.new.stack.items in
     let alike : AreAlike before after old new = c.settle_from-tables.ensures.alike in
@@ -442,8 +442,8 @@ pub sum_of-returns-clause-met : goal.sum_of-returns-clause-met
 sum_of-returns-clause-met g t0 c =
     let s : Store = g.N.Nodes.store c.args.nodes.now in
     let ds = g.met.N.Nodes.diagram c.args.nodes.now in
-    let before : Tables = c.args.tables in
-    let after : Tables = c.settle_from-tables.result in
+    let before : TruthTables = c.args.tables in
+    let after : TruthTables = c.settle_from-tables.result in
     let old : List Rails = drop c.args.begin c.args.stack.now.items in
     let new : List Rails = drop c.args.begin c.settle_from-tables.new.stack.items in
     let alike : AreAlike before after old new = c.settle_from-tables.ensures.alike in
@@ -462,8 +462,8 @@ pub sum_of-returns-clause-built : goal.sum_of-returns-clause-built
 sum_of-returns-clause-built g t0 c =
     let s : Store = g.N.Nodes.store c.args.nodes.now in
     let ds = g.met.N.Nodes.diagram c.args.nodes.now in
-    let before : Tables = c.args.tables in
-    let after : Tables = c.settle_from-tables.result in
+    let before : TruthTables = c.args.tables in
+    let after : TruthTables = c.settle_from-tables.result in
     let old : List Rails = drop c.args.begin c.args.stack.now.items in
     let new : List Rails = drop c.args.begin c.settle_from-tables.new.stack.items in
     let alike : AreAlike before after old new = c.settle_from-tables.ensures.alike in

@@ -2,7 +2,7 @@ use Rattle.std.proofs.Common.{List, drop, map, ◌<◌, arith, length, sym, ◌�
 use Rattle.dd_nodes.specs.Stores.{Store}
 use Rattle.dual_rail.specs.declared.rails.Rails.{Rails}
 use Rattle.dual_rail.specs.Rail.{AreRefs}
-use Rattle.gate_sets.specs.private.Tables.{half_rails}
+use Rattle.gate_sets.specs.private.TruthTables.{half_rails}
 use Rattle.gate_sets.proofs.ByTable.{at_place, half_put, halved}
 use Rattle.gate_sets.proofs.by_table.add_half.Goals as goal
 

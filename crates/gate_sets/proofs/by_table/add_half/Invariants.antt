@@ -1,5 +1,5 @@
 use Rattle.std.proofs.Common.{◌≡◌, ◌≤◌, ◌++◌, drop, length, map, take}
-use Rattle.gate_sets.specs.private.Tables.{half_rails}
+use Rattle.gate_sets.specs.private.TruthTables.{half_rails}
 use Rattle.gate_sets.proofs.by_table.add_half.Given as goal
 
 -- the references that are left decide

@@ -1,10 +1,10 @@
 use Rattle.std.proofs.Common.{List, [], ◌∷◌}
-use Rattle.dd_nodes.specs.Diagram.{Function}
+use Rattle.ste_base.specs.Functions.{Function}
 use Rattle.dd_nodes.specs.Stores.{Store}
 use Rattle.dual_rail.proofs.Works.{So-start, lost}
 use Rattle.net_core.specs.Work.{SymbolicSet}
 use Rattle.gate_sets.specs.NetSets.{sets_at}
-use Rattle.gate_sets.specs.private.Tables.{HasSetOrNot, table_choice}
+use Rattle.gate_sets.specs.private.TruthTables.{HasSetOrNot, table_choice}
 use Rattle.gate_sets.proofs.by_table.by_table.Goals as goal
 
 pub returns-in_err-put_operands-clause-built : goal.returns-in_err-put_operands-clause-built

@@ -1,6 +1,6 @@
 use Rattle.std.proofs.Common.{◌≡◌, ◌<◌, ℕ, slice_index_or}
 use Rattle.dual_rail.specs.declared.rails.Rails.{Rails}
-use Rattle.gate_sets.specs.private.Tables.{AreFrom}
+use Rattle.gate_sets.specs.private.TruthTables.{AreFrom}
 use Rattle.gate_sets.proofs.by_table.first_variable.Given as goal
 
 -- the references so far read no earlier variable

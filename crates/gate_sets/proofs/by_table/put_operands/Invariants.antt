@@ -1,6 +1,6 @@
 use Rattle.std.proofs.Common.{◌≡◌, ◌++◌, drop, map}
 use Rattle.gate_sets.specs.NetSets.{net_at}
-use Rattle.gate_sets.specs.private.Tables.{rails_of}
+use Rattle.gate_sets.specs.private.TruthTables.{rails_of}
 use Rattle.gate_sets.proofs.by_table.put_operands.Given as goal
 
 -- the inputs that are left decide

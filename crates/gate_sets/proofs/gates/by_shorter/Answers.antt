@@ -2,7 +2,7 @@ use Rattle.std.proofs.Common.{All, ◌≡◌, true, not, Bool, ℕ, List, length
 use Rattle.std.proofs.lemmas.List.{length-map}
 use Rattle.std.proofs.Math.Bool.{not-not}
 use Rattle.ste_base.specs.declared.id.NodeId.{NodeId}
-use Rattle.dd_nodes.specs.Diagram.{Function}
+use Rattle.ste_base.specs.Functions.{Function}
 use Rattle.dd_nodes.specs.Stores.{Store}
 use Rattle.net_core.specs.declared.cover.Lit.{Lit}
 use Rattle.net_core.specs.Cover.{some_matches}

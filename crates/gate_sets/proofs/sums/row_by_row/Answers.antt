@@ -2,7 +2,7 @@ use Rattle.std.proofs.Common.{◌≡◌, ◌<◌, ℕ, ◌+◌, ◌∷◌, ◌++
 use Rattle.std.proofs.lemmas.List.{get_or_default, drop_more, drop_all}
 use Rattle.ste_base.specs.declared.id.NodeId.{NodeId}
 use Rattle.dd_nodes.specs.declared.node.Ref.{Ref}
-use Rattle.dd_nodes.specs.Diagram.{Function}
+use Rattle.ste_base.specs.Functions.{Function}
 use Rattle.dd_nodes.specs.Stores.{Store}
 use Rattle.net_core.specs.declared.cover.Lit.{Lit}
 use Rattle.net_core.specs.Work.{disjunction, factors, product, rows_work, row_products, sum}
@@ -58,8 +58,8 @@ times-requires-clause-rails g c =
     Net-refs-keep s t _ (g.met.N.Nodes.diagram c.args.nodes.now) (g.met.N.Nodes.diagram c.loop-piece.nodes) p.keeps
     (c.requires.refs _ no_rails (c.requires.inside c.loop-piece.begun no_net fit.0))
 
-pub closed-requires-clause-refs : goal.closed-requires-clause-refs
-closed-requires-clause-refs g c =
+pub add_row_product-requires-clause-refs : goal.add_row_product-requires-clause-refs
+add_row_product-requires-clause-refs g c =
     All-net-refs-keep (g.N.Nodes.store c.args.nodes.now) (g.N.Nodes.store c.loop-piece.nodes) c.args.nets.now (g.met.N.Nodes.diagram c.args.nodes.now) (g.met.N.Nodes.diagram c.loop-piece.nodes) c.loop-piece.invariant.going.keeps c.requires.refs
 
 pub returns-in_err-all-in-Put-clause-built : goal.returns-in_err-all-in-Put-clause-built
@@ -95,10 +95,10 @@ pub returns-in_err-sum-in-Close-clause-built : goal.returns-in_err-sum-in-Close-
 returns-in_err-sum-in-Close-clause-built g c = λ sets have.
     let s : Store = g.N.Nodes.store c.args.nodes.now in
     let t : Store = g.N.Nodes.store c.loop-piece.nodes in
-    let u : Store = g.N.Nodes.store c.closed.new.nodes in
+    let u : Store = g.N.Nodes.store c.add_row_product.new.nodes in
     let ds = g.met.N.Nodes.diagram c.args.nodes.now in
     let dt = g.met.N.Nodes.diagram c.loop-piece.nodes in
-    let du = g.met.N.Nodes.diagram c.closed.new.nodes in
+    let du = g.met.N.Nodes.diagram c.add_row_product.new.nodes in
     let rows : List (List Lit) = c.args.rows.now.list in
     let nets : List NetRails = c.args.nets.now in
     let inputs : List NodeId = c.args.inputs.now in
@@ -157,8 +157,8 @@ loop-piece-preserved g c =
             going = going_same rows nets inputs _ _ after _ _ _ _ s u _ w.begun-is w.products-is w.sum-is (ap g.N.Nodes.store w.nodes-is) q;
           }
       | in-Close+in_ok-sum-in-Close w ↦
-          let u : Store = g.N.Nodes.store w.closed.new.nodes in
-          let du = g.met.N.Nodes.diagram w.closed.new.nodes in
+          let u : Store = g.N.Nodes.store w.add_row_product.new.nodes in
+          let du = g.met.N.Nodes.diagram w.add_row_product.new.nodes in
           let kept = w.in-Close.kept in
           let new = w.in_ok-sum-in-Close.sum in
           let p : IsGoing rows nets inputs n (Close kept ∷ after) products c.loop-piece.sum s t = subst (λ rest. IsGoing rows nets inputs n rest products c.loop-piece.sum s t) (next_is pieces k _ (Close kept) lt w.in-Close.is) c.loop-piece.invariant.going in

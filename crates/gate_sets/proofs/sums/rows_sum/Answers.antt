@@ -1,6 +1,6 @@
 use Rattle.std.proofs.Common.{◌≡◌, ◌≢◌, ◌∷◌, [], List, IfSome, length, sym, ◌∙◌, subst}
 use Rattle.ste_base.specs.declared.id.NodeId.{NodeId}
-use Rattle.dd_nodes.specs.Diagram.{Function}
+use Rattle.ste_base.specs.Functions.{Function}
 use Rattle.dd_nodes.specs.Stores.{Store}
 use Rattle.net_core.specs.declared.cover.Lit.{Lit}
 use Rattle.net_core.specs.Work.{AreWide, SymbolicSet, row_products, rows_work, sum}

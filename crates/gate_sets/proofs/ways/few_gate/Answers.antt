@@ -9,7 +9,7 @@ use Rattle.dual_rail.specs.declared.rails.Rails.{Rails}
 use Rattle.dual_rail.specs.Rail.{HasSet}
 use Rattle.dual_rail.proofs.Works.{So-start, Built-made, first, last, pass}
 use Rattle.gate_sets.specs.NetSets.{sets_at}
-use Rattle.gate_sets.specs.private.Tables.{HasSetOrNot}
+use Rattle.gate_sets.specs.private.TruthTables.{HasSetOrNot}
 use Rattle.gate_sets.proofs.FewGates.{by_tables}
 use Rattle.gate_sets.proofs.NetRefs.{All-net-refs-keep, Inputs-keep}
 use Rattle.gate_sets.proofs.ways.few_gate.Goals as goal

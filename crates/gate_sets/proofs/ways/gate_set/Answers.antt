@@ -10,7 +10,7 @@ use Rattle.net_core.specs.Work.{gate_set, gate_work, input_sets}
 use Rattle.dual_rail.specs.Rail.{Built, HasSet}
 use Rattle.gate_sets.specs.declared.rows.CoverRows.{CoverRows}
 use Rattle.gate_sets.specs.NetSets.{HaveInputs, sets_at}
-use Rattle.gate_sets.specs.private.Tables.{HaveTables}
+use Rattle.gate_sets.specs.private.TruthTables.{HaveTables}
 use Rattle.gate_sets.proofs.Placed.{by_cover}
 use Rattle.gate_sets.proofs.ways.gate_set.Goals as goal
 

@@ -1,5 +1,5 @@
 use Rattle.std.proofs.Common.{◌≡◌, arith}
-use Rattle.gate_sets.proofs.Tables.{ones_0, ones_1, ones_2, ones_3, ones_4, ones_5, ones_bits, ones_choices}
+use Rattle.gate_sets.proofs.TruthTables.{ones_0, ones_1, ones_2, ones_3, ones_4, ones_5, ones_bits, ones_choices}
 use Rattle.gate_sets.proofs.words.ones.Goals as goal
 
 pub returns-then-place-eq0-clause-bits : goal.returns-then-place-eq0-clause-bits

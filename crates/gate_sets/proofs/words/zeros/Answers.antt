@@ -1,5 +1,5 @@
 use Rattle.std.proofs.Common.{◌≡◌, arith}
-use Rattle.gate_sets.proofs.Tables.{zeros_0, zeros_1, zeros_2, zeros_3, zeros_4, zeros_5, zeros_bits, zeros_choices}
+use Rattle.gate_sets.proofs.TruthTables.{zeros_0, zeros_1, zeros_2, zeros_3, zeros_4, zeros_5, zeros_bits, zeros_choices}
 use Rattle.gate_sets.proofs.words.zeros.Goals as goal
 
 pub returns-then-place-eq0-clause-bits : goal.returns-then-place-eq0-clause-bits

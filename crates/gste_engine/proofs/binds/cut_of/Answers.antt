@@ -1,6 +1,6 @@
 use Rattle.std.proofs.Common.{List, refl, Ok, Err}
 use Rattle.std.proofs.lemmas.List.Elements.{Contains-append_left, Contains-append_right}
-use Rattle.dd_nodes.specs.Diagram.{Function}
+use Rattle.ste_base.specs.Functions.{Function}
 use Rattle.dd_nodes.specs.Stores.{Store}
 use Rattle.dd_nodes.proofs.Stores.{Means-keeps}
 use Rattle.dual_rail.specs.Rail.{HasFunction}

@@ -1,6 +1,6 @@
 use Rattle.std.proofs.Common.{ℕ, List, ap, sym, subst, All, Ok, Err, Vec, Global}
 use Rattle.std.specs.List.{AllZip}
-use Rattle.dd_nodes.specs.Diagram.{Function}
+use Rattle.ste_base.specs.Functions.{Function}
 use Rattle.dd_nodes.specs.Stores.{Store}
 use Rattle.dd_nodes.proofs.Stores.{Keeps-trans, Means-keeps}
 use Rattle.dd_nodes.proofs.Walks.{IsFrom-grows}
@@ -117,8 +117,8 @@ returns-in_err-found-clause-found g c = λ r ls sets mr zip family.
     let empty : Ref = c.in_ok-empty.empty in
     let b : Built work Step t u (Ok empty) = Built-wider work time Step t u (Ok empty) (time_in net.raw (state_of r ls) sets edge) (c.in_ok-empty.ensures.built ls (symbolic_asked_on edge) sets latches asks (ap ids_of (sym c.as_slice-2.ensures)) here) in
     let so2 = more work Step s t u (Ok empty) gt gu so1 b in
-    let v : Store = g.N.Nodes.store c.given.new.nodes in
-    let gv = g.met.N.Nodes.diagram c.given.new.nodes in
+    let v : Store = g.N.Nodes.store c.found_from_frame.new.nodes in
+    let gv = g.met.N.Nodes.diagram c.found_from_frame.new.nodes in
     let fault = c.in_err-found.field-0.0 in
     pass work (IsEdgeFound net.raw (state_of r ls) sets) (IsEdgeFound net.raw (state_of r ls) sets) s u v fault c.from_residual-in_err-found.result gu gv so2
     (Built-wider work (given_work net.raw (state_of r ls) sets) (IsEdgeFound net.raw (state_of r ls) sets) u v (Err fault) (given_in net.raw (state_of r ls) sets edge)
@@ -147,8 +147,8 @@ returns-clause-found g c = λ r ls sets mr zip family.
     let empty : Ref = c.in_ok-empty.empty in
     let b : Built work Step t u (Ok empty) = Built-wider work time Step t u (Ok empty) (time_in net.raw (state_of r ls) sets edge) (c.in_ok-empty.ensures.built ls (symbolic_asked_on edge) sets latches asks (ap ids_of (sym c.as_slice-2.ensures)) here) in
     let so2 = more work Step s t u (Ok empty) gt gu so1 b in
-    let v : Store = g.N.Nodes.store c.given.new.nodes in
-    let gv = g.met.N.Nodes.diagram c.given.new.nodes in
+    let v : Store = g.N.Nodes.store c.found_from_frame.new.nodes in
+    let gv = g.met.N.Nodes.diagram c.found_from_frame.new.nodes in
     let found : EdgeFound = c.in_ok-found.found in
     last work (IsEdgeFound net.raw (state_of r ls) sets) s u v (Ok found) gu gv so2
     (Built-wider work (given_work net.raw (state_of r ls) sets) (IsEdgeFound net.raw (state_of r ls) sets) u v (Ok found) (given_in net.raw (state_of r ls) sets edge)
@@ -177,8 +177,8 @@ renew-requires-clause-frame g c =
     let keeps = c.in_ok-cuts.ensures.spends.keeps in
     c.in_ok-begun.ensures.frame t net.raw (frame_keeps s t net.raw c.args.frame net.in_range gs gt keeps c.requires.frame) (StateRefs-keep s t net.raw c.args.source.now keeps c.requires.source)
 
-pub given-requires-clause-reached : goal.given-requires-clause-reached
-given-requires-clause-reached g c =
+pub found_from_frame-requires-clause-reached : goal.found_from_frame-requires-clause-reached
+found_from_frame-requires-clause-reached g c =
     let s : Store = g.N.Nodes.store c.args.nodes.now in
     let t : Store = g.N.Nodes.store c.cuts_of.new.nodes in
     let u : Store = g.N.Nodes.store c.renew.new.nodes in
@@ -197,9 +197,9 @@ returns-clause-frame g c =
     let cuts : Vec Cut Global = c.in_ok-cuts.cuts in
     let a : Built (binds_work edge.ant) (AreCuts edge.ant) s t (Ok cuts) = subst (λ (xs : List Bind). Built (binds_work xs) (AreCuts xs) s t (Ok cuts)) c.as_slice.ensures c.in_ok-cuts.ensures in
     let u : Store = g.N.Nodes.store c.renew.new.nodes in
-    let v : Store = g.N.Nodes.store c.given.new.nodes in
+    let v : Store = g.N.Nodes.store c.found_from_frame.new.nodes in
     let gu = g.met.N.Nodes.diagram c.renew.new.nodes in
-    let gv = g.met.N.Nodes.diagram c.given.new.nodes in
+    let gv = g.met.N.Nodes.diagram c.found_from_frame.new.nodes in
     let settled : IsSettled net.raw = settled_by_order net.raw net.settled net.in_order in
     let refs : AreStateRefs t net.raw source = StateRefs-keep s t net.raw source a.spends.keeps c.requires.source in
     let x : SymbolicState = own_state t source in

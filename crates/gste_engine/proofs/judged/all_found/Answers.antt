@@ -1,6 +1,6 @@
 use Rattle.std.proofs.Common.{◌≡◌, ◌<◌, List, length, get_or, sym, subst, arith, All, Ok, Err}
 use Rattle.std.proofs.lemmas.List.{take_all}
-use Rattle.dd_nodes.specs.Diagram.{Function}
+use Rattle.ste_base.specs.Functions.{Function}
 use Rattle.dd_nodes.specs.Stores.{Store}
 use Rattle.dd_nodes.proofs.Members.{Contains-none}
 use Rattle.dd_nodes.proofs.Spending.{zero_means}

@@ -1,5 +1,5 @@
 use Rattle.std.proofs.Common.{◌≡◌, ◌<◌, ℕ, List, length, sym, ap, ◌∙◌, subst, All, Result, Ok, Err}
-use Rattle.dd_nodes.specs.Diagram.{Function}
+use Rattle.ste_base.specs.Functions.{Function}
 use Rattle.dd_nodes.specs.Stores.{Store}
 use Rattle.dd_nodes.proofs.Stores.{Keeps-trans}
 use Rattle.dd_ops.specs.declared.fault.OpFault.{OpFault}
@@ -42,9 +42,9 @@ AreWanted net vars edges = All (λ (edge : Edge). All (λ (bind : Bind). bind.no
 pub returns-in_err-last : goal.returns-in_err-last
 returns-in_err-last g c = λ tables sets whole.
     let s : Store = g.N.Nodes.store c.args.nodes.now in
-    let t : Store = g.N.Nodes.store c.settled.new.nodes in
+    let t : Store = g.N.Nodes.store c.settled_table.new.nodes in
     let gs = g.met.N.Nodes.diagram c.args.nodes.now in
-    let gt = g.met.N.Nodes.diagram c.settled.new.nodes in
+    let gt = g.met.N.Nodes.diagram c.settled_table.new.nodes in
     let net : RawNet = c.args.net.now.raw in
     let graph : Graph = c.args.graph.now in
     let work : List Function = graph_work net graph tables sets in
@@ -58,9 +58,9 @@ returns-in_err-last g c = λ tables sets whole.
 pub returns-in_err-found : goal.returns-in_err-found
 returns-in_err-found g c = λ tables sets whole.
     let s : Store = g.N.Nodes.store c.args.nodes.now in
-    let t : Store = g.N.Nodes.store c.settled.new.nodes in
+    let t : Store = g.N.Nodes.store c.settled_table.new.nodes in
     let gs = g.met.N.Nodes.diagram c.args.nodes.now in
-    let gt = g.met.N.Nodes.diagram c.settled.new.nodes in
+    let gt = g.met.N.Nodes.diagram c.settled_table.new.nodes in
     let net : RawNet = c.args.net.now.raw in
     let graph : Graph = c.args.graph.now in
     let u : Store = g.N.Nodes.store c.all_found.new.nodes in
@@ -82,9 +82,9 @@ returns-in_err-found g c = λ tables sets whole.
 pub returns-in_err-results : goal.returns-in_err-results
 returns-in_err-results g c = λ tables sets whole.
     let s : Store = g.N.Nodes.store c.args.nodes.now in
-    let t : Store = g.N.Nodes.store c.settled.new.nodes in
+    let t : Store = g.N.Nodes.store c.settled_table.new.nodes in
     let gs = g.met.N.Nodes.diagram c.args.nodes.now in
-    let gt = g.met.N.Nodes.diagram c.settled.new.nodes in
+    let gt = g.met.N.Nodes.diagram c.settled_table.new.nodes in
     let net : RawNet = c.args.net.now.raw in
     let graph : Graph = c.args.graph.now in
     let u : Store = g.N.Nodes.store c.all_found.new.nodes in
@@ -114,9 +114,9 @@ returns-in_err-results g c = λ tables sets whole.
 pub returns : goal.returns
 returns g c = λ tables sets whole.
     let s : Store = g.N.Nodes.store c.args.nodes.now in
-    let t : Store = g.N.Nodes.store c.settled.new.nodes in
+    let t : Store = g.N.Nodes.store c.settled_table.new.nodes in
     let gs = g.met.N.Nodes.diagram c.args.nodes.now in
-    let gt = g.met.N.Nodes.diagram c.settled.new.nodes in
+    let gt = g.met.N.Nodes.diagram c.settled_table.new.nodes in
     let net : RawNet = c.args.net.now.raw in
     let graph : Graph = c.args.graph.now in
     let u : Store = g.N.Nodes.store c.all_found.new.nodes in
@@ -154,9 +154,9 @@ returns g c = λ tables sets whole.
 pub all_found-requires-clause-edges : goal.all_found-requires-clause-edges
 all_found-requires-clause-edges g c =
     let s : Store = g.N.Nodes.store c.args.nodes.now in
-    let t : Store = g.N.Nodes.store c.settled.new.nodes in
+    let t : Store = g.N.Nodes.store c.settled_table.new.nodes in
     let gs = g.met.N.Nodes.diagram c.args.nodes.now in
-    let gt = g.met.N.Nodes.diagram c.settled.new.nodes in
+    let gt = g.met.N.Nodes.diagram c.settled_table.new.nodes in
     let net : RawNet = c.args.net.now.raw in
     let graph : Graph = c.args.graph.now in
     let settled : IsSettled net = settled_by_order net c.args.net.now.settled c.args.net.now.in_order in
@@ -173,9 +173,9 @@ all_found-requires-clause-edges g c =
 pub all_found-requires-clause-wanted : goal.all_found-requires-clause-wanted
 all_found-requires-clause-wanted g c =
     let s : Store = g.N.Nodes.store c.args.nodes.now in
-    let t : Store = g.N.Nodes.store c.settled.new.nodes in
+    let t : Store = g.N.Nodes.store c.settled_table.new.nodes in
     let gs = g.met.N.Nodes.diagram c.args.nodes.now in
-    let gt = g.met.N.Nodes.diagram c.settled.new.nodes in
+    let gt = g.met.N.Nodes.diagram c.settled_table.new.nodes in
     let net : RawNet = c.args.net.now.raw in
     let graph : Graph = c.args.graph.now in
     let settled : IsSettled net = settled_by_order net c.args.net.now.settled c.args.net.now.in_order in
@@ -189,9 +189,9 @@ all_found-requires-clause-wanted g c =
 pub all_found-requires-clause-table : goal.all_found-requires-clause-table
 all_found-requires-clause-table g c =
     let s : Store = g.N.Nodes.store c.args.nodes.now in
-    let t : Store = g.N.Nodes.store c.settled.new.nodes in
+    let t : Store = g.N.Nodes.store c.settled_table.new.nodes in
     let gs = g.met.N.Nodes.diagram c.args.nodes.now in
-    let gt = g.met.N.Nodes.diagram c.settled.new.nodes in
+    let gt = g.met.N.Nodes.diagram c.settled_table.new.nodes in
     let net : RawNet = c.args.net.now.raw in
     let graph : Graph = c.args.graph.now in
     let settled : IsSettled net = settled_by_order net c.args.net.now.settled c.args.net.now.in_order in
@@ -206,9 +206,9 @@ all_found-requires-clause-table g c =
 pub ending-requires : goal.ending-requires
 ending-requires g c =
     let s : Store = g.N.Nodes.store c.args.nodes.now in
-    let t : Store = g.N.Nodes.store c.settled.new.nodes in
+    let t : Store = g.N.Nodes.store c.settled_table.new.nodes in
     let gs = g.met.N.Nodes.diagram c.args.nodes.now in
-    let gt = g.met.N.Nodes.diagram c.settled.new.nodes in
+    let gt = g.met.N.Nodes.diagram c.settled_table.new.nodes in
     let net : RawNet = c.args.net.now.raw in
     let graph : Graph = c.args.graph.now in
     let u : Store = g.N.Nodes.store c.all_found.new.nodes in
@@ -230,9 +230,9 @@ ending-requires g c =
 pub all_found-requires-clause-givens : goal.all_found-requires-clause-givens
 all_found-requires-clause-givens g c =
     let s : Store = g.N.Nodes.store c.args.nodes.now in
-    let t : Store = g.N.Nodes.store c.settled.new.nodes in
+    let t : Store = g.N.Nodes.store c.settled_table.new.nodes in
     let gs = g.met.N.Nodes.diagram c.args.nodes.now in
-    let gt = g.met.N.Nodes.diagram c.settled.new.nodes in
+    let gt = g.met.N.Nodes.diagram c.settled_table.new.nodes in
     let net : RawNet = c.args.net.now.raw in
     let graph : Graph = c.args.graph.now in
     let settled : IsSettled net = settled_by_order net c.args.net.now.settled c.args.net.now.in_order in
@@ -248,9 +248,9 @@ all_found-requires-clause-givens g c =
 pub all_found-requires-clause-seen : goal.all_found-requires-clause-seen
 all_found-requires-clause-seen g c =
     let s : Store = g.N.Nodes.store c.args.nodes.now in
-    let t : Store = g.N.Nodes.store c.settled.new.nodes in
+    let t : Store = g.N.Nodes.store c.settled_table.new.nodes in
     let gs = g.met.N.Nodes.diagram c.args.nodes.now in
-    let gt = g.met.N.Nodes.diagram c.settled.new.nodes in
+    let gt = g.met.N.Nodes.diagram c.settled_table.new.nodes in
     let net : RawNet = c.args.net.now.raw in
     let graph : Graph = c.args.graph.now in
     let settled : IsSettled net = settled_by_order net c.args.net.now.settled c.args.net.now.in_order in

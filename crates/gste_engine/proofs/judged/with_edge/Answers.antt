@@ -2,7 +2,7 @@ use Rattle.std.proofs.Common.{◌≡◌, ◌≢◌, ℕ, zero, suc, Bool, true, 
 use Rattle.std.specs.Prelude.{◌==◌}
 use Rattle.std.specs.List.{AllZip}
 use Rattle.std.proofs.lemmas.List.{length-map}
-use Rattle.dd_nodes.specs.Diagram.{Function}
+use Rattle.ste_base.specs.Functions.{Function}
 use Rattle.dd_nodes.specs.Stores.{Store}
 use Rattle.dd_nodes.proofs.Stores.{Keeps-trans, Means-keeps}
 use Rattle.dd_nodes.proofs.Walks.{IsFrom-grows}
@@ -17,7 +17,7 @@ use Rattle.ste_model.specs.GraphWork.{SymbolicState, edge_work, feasible_where, 
 use Rattle.dual_rail.specs.declared.rails.Rails.{Rails}
 use Rattle.dual_rail.specs.Rail.{AreRails, AreRefs, Built}
 use Rattle.dual_rail.proofs.Turns.{Zip-keep, zip_long}
-use Rattle.dual_rail.proofs.Works.{Built-lost, Built-wider, So-start, first, lost, more, pass}
+use Rattle.dual_rail.proofs.Works.{Built-wider, So-start, first, lost, more, pass}
 use Rattle.sym_step.specs.declared.cut.Cut.{Cut}
 use Rattle.sym_step.specs.Step.{IsCutBy, IsCutOf, rails_at}
 use Rattle.sym_step.specs.Frame.{bare, nets_of}
@@ -107,8 +107,8 @@ returns-in_err-made g c = λ r ls sets f h e mr zip family sums.
     pass work (IsEdgeFound net x sets) (IsWithEdge net edge x sets f h e) s t u fault c.from_residual-in_err-made.result gt gu so1
     (Built-wider work (edge_work net edge x sets) (IsEdgeFound net x sets) t u (Err fault) (edge_in net edge x sets f h e) (c.in_err-made.ensures.found r ls sets hx.reached hx.latches here)) c.from_residual-in_err-made.ensures.1
 
-pub returns-in-Err : goal.returns-in-Err
-returns-in-Err g c = λ r ls sets f h e mr zip family sums.
+pub returns-in_err-sets : goal.returns-in_err-sets
+returns-in_err-sets g c = λ r ls sets f h e mr zip family sums.
     let s : Store = g.N.Nodes.store c.args.nodes.now in
     let t : Store = g.N.Nodes.store c.asked_on.new.nodes in
     let gs = g.met.N.Nodes.diagram c.args.nodes.now in
@@ -129,7 +129,8 @@ returns-in-Err g c = λ r ls sets f h e mr zip family sums.
     let given : EdgeFound = c.in_ok-made.made in
     let b : Built work (IsEdgeFound net x sets) t u (Ok given) = Built-wider work (edge_work net edge x sets) (IsEdgeFound net x sets) t u (Ok given) (edge_in net edge x sets f h e) (c.in_ok-made.ensures.found r ls sets hx.reached hx.latches here) in
     let so2 = more work (IsEdgeFound net x sets) s t u (Ok given) gt gu so1 b in
-    Built-lost work (IsWithEdge net edge x sets f h e) s u so2
+    lost work (IsWithEdge net edge x sets f h e) s u c.from_residual-in_err-sets.result
+    so2 c.from_residual-in_err-sets.ensures.1
 
 pub returns-then-ne : goal.returns-then-ne
 returns-then-ne g c = λ r ls sets f h e mr zip family sums.
@@ -188,7 +189,7 @@ returns g c = λ r ls sets f h e mr zip family sums.
     let z : Function = feasible_where net x sets in
     let ds : List SymbolicCut = symbolic_binds edge.con in
     let zs : AreSeenBy u net sets edge.con (map (rails_of (nets_of given.frame)) edge.con) = seen_zip u net sets (nets_of given.frame) b.ok.nets edge.con in
-    let seen_is : map (rails_of (nets_of given.frame)) edge.con ≡ c.as_slice-2.result.now = seen_are (nets_of given.frame) edge.con c.as_slice.result.now c.in-Ok.sets c.as_slice-2.result.now c.as_slice-2.ensures c.in-Ok.ensures c.as_slice.ensures in
+    let seen_is : map (rails_of (nets_of given.frame)) edge.con ≡ c.as_slice-2.result.now = seen_are (nets_of given.frame) edge.con c.as_slice.result.now c.in_ok-sets.sets c.as_slice-2.result.now c.as_slice-2.ensures c.in_ok-sets.ensures c.as_slice.ensures in
     let zr : AllZip (λ d r. AreRails u (sets d.node) r) ds c.as_slice-2.result.now = subst (λ (xs : List Rails). AllZip (λ d r. AreRails u (sets d.node) r) ds xs) seen_is (wanted_zip u net sets edge.con (map (rails_of (nets_of given.frame)) edge.con) c.requires.wanted zs) in
     let asks : AllZip (IsCutBy u) ds wanted.items = Cuts-keep t u ds wanted.items gt gu b.spends.keeps a.ok.wanted in
     let d : Built (with_found_work sets ds z f h e) (AreFoundWith net edge x sets f h e) u v result =
@@ -312,7 +313,7 @@ with_found-requires-2-clause-seen g c =
     let sets = mine.1 in
     let b : Built (edge_work net edge x sets) (IsEdgeFound net x sets) t u (Ok given) = mine.2 in
     let zs : AreSeenBy u net sets edge.con (map (rails_of (nets_of given.frame)) edge.con) = seen_zip u net sets (nets_of given.frame) b.ok.nets edge.con in
-    let seen_is : map (rails_of (nets_of given.frame)) edge.con ≡ c.as_slice-2.result.now = seen_are (nets_of given.frame) edge.con c.as_slice.result.now c.in-Ok.sets c.as_slice-2.result.now c.as_slice-2.ensures c.in-Ok.ensures c.as_slice.ensures in
+    let seen_is : map (rails_of (nets_of given.frame)) edge.con ≡ c.as_slice-2.result.now = seen_are (nets_of given.frame) edge.con c.as_slice.result.now c.in_ok-sets.sets c.as_slice-2.result.now c.as_slice-2.ensures c.in_ok-sets.ensures c.as_slice.ensures in
     subst (λ (xs : List Rails). All (AreRefs u) xs) seen_is (wanted_refs u net sets edge.con (map (rails_of (nets_of given.frame)) edge.con) c.requires.wanted zs)
 
 pub with_found-requires-2-clause-long : goal.with_found-requires-2-clause-long
@@ -335,7 +336,7 @@ with_found-requires-2-clause-long g c =
     let sets = mine.1 in
     let b : Built (edge_work net edge x sets) (IsEdgeFound net x sets) t u (Ok given) = mine.2 in
     let zs : AreSeenBy u net sets edge.con (map (rails_of (nets_of given.frame)) edge.con) = seen_zip u net sets (nets_of given.frame) b.ok.nets edge.con in
-    let seen_is : map (rails_of (nets_of given.frame)) edge.con ≡ c.as_slice-2.result.now = seen_are (nets_of given.frame) edge.con c.as_slice.result.now c.in-Ok.sets c.as_slice-2.result.now c.as_slice-2.ensures c.in-Ok.ensures c.as_slice.ensures in
+    let seen_is : map (rails_of (nets_of given.frame)) edge.con ≡ c.as_slice-2.result.now = seen_are (nets_of given.frame) edge.con c.as_slice.result.now c.in_ok-sets.sets c.as_slice-2.result.now c.as_slice-2.ensures c.in_ok-sets.ensures c.as_slice.ensures in
     let n = zip_long (λ (d : SymbolicCut) (r : Rails). AreRails u (sets d.node) r) (symbolic_binds edge.con) (map (rails_of (nets_of given.frame)) edge.con) (wanted_zip u net sets edge.con (map (rails_of (nets_of given.frame)) edge.con) c.requires.wanted zs) in
     let m = demands_long t (symbolic_binds edge.con) wanted.items a.ok.wanted in
     ap (λ (xs : List Rails). length xs) (sym seen_is) ∙ sym n ∙ m ∙ ap (λ (xs : List Cut). length xs) (sym {A = List Cut} c.as_slice-cuts.ensures.value)

@@ -1,5 +1,5 @@
 use Rattle.std.proofs.Common.{ℕ, List, length, sym, subst, Ok}
-use Rattle.dd_nodes.specs.Diagram.{Function}
+use Rattle.ste_base.specs.Functions.{Function}
 use Rattle.dd_nodes.specs.Stores.{Store}
 use Rattle.dual_rail.specs.Rail.{Built}
 use Rattle.dual_rail.proofs.Works.{Built-made, So-start, first, pass}
@@ -19,9 +19,9 @@ HasLast net graph tables t rs = HasStates (tables (enough net graph)) (length gr
 pub returns-in_err-last : goal.returns-in_err-last
 returns-in_err-last g c = λ tables sets whole.
     let s : Store = g.N.Nodes.store c.args.nodes.now in
-    let t : Store = g.N.Nodes.store c.settled.new.nodes in
+    let t : Store = g.N.Nodes.store c.settled_table.new.nodes in
     let gs = g.met.N.Nodes.diagram c.args.nodes.now in
-    let gt = g.met.N.Nodes.diagram c.settled.new.nodes in
+    let gt = g.met.N.Nodes.diagram c.settled_table.new.nodes in
     let net : RawNet = c.args.net.now.raw in
     let graph : Graph = c.args.graph.now in
     let work : List Function = rounds_work net graph tables sets in
@@ -31,9 +31,9 @@ returns-in_err-last g c = λ tables sets whole.
 pub returns : goal.returns
 returns g c = λ tables sets whole.
     let s : Store = g.N.Nodes.store c.args.nodes.now in
-    let t : Store = g.N.Nodes.store c.settled.new.nodes in
+    let t : Store = g.N.Nodes.store c.settled_table.new.nodes in
     let gs = g.met.N.Nodes.diagram c.args.nodes.now in
-    let gt = g.met.N.Nodes.diagram c.settled.new.nodes in
+    let gt = g.met.N.Nodes.diagram c.settled_table.new.nodes in
     let net : RawNet = c.args.net.now.raw in
     let graph : Graph = c.args.graph.now in
     let work : List Function = rounds_work net graph tables sets in

@@ -10,7 +10,7 @@ set_own (y ∷ xs) (suc k) x l e = ap (λ zs. y ∷ zs) (set_own xs k x (omega (
 
 pub returns-then-same_state : goal.returns-then-same_state
 returns-then-same_state c =
-    let givens : List State = c.args.wave.givens.items in
+    let givens : List State = c.args.edge_results.givens.items in
     let same : c.index.result.now ≡ c.args.given = c.same_state.ensures.0 c.if-same_state.true in
     let own : get_or givens c.args.k c.args.given ≡ c.args.given =
     subst (λ (x : State). get_or givens c.args.k x ≡ x) same (sym c.index.ensures) in

@@ -1,7 +1,7 @@
 use Rattle.std.proofs.Common.{◌≡◌, ◌+◌, ◌<◌, length, get_or, sym, ◌∙◌, ap, subst, arith, List, Ok, Err, take}
 use Rattle.std.specs.List.{AllZip}
 use Rattle.std.proofs.lemmas.List.{get_or-set_other, get_or_default, length-set, take_all, take_more_set}
-use Rattle.dd_nodes.specs.Diagram.{Function}
+use Rattle.ste_base.specs.Functions.{Function}
 use Rattle.dd_nodes.specs.Stores.{Store}
 use Rattle.dd_nodes.proofs.Stores.{Keeps-refl, Keeps-trans}
 use Rattle.net_core.specs.Work.{SymbolicSet, everything, union}

@@ -1,6 +1,6 @@
 use Rattle.std.proofs.Common.{◌≡◌, ◌+◌, ◌<◌, ℕ, List, length, get_or, take, sym, ◌∙◌, subst, arith, All, Ok, Err}
 use Rattle.std.proofs.lemmas.List.{get_or_default, take_all}
-use Rattle.dd_nodes.specs.Diagram.{Function}
+use Rattle.ste_base.specs.Functions.{Function}
 use Rattle.dd_nodes.specs.Stores.{Store}
 use Rattle.dd_nodes.proofs.Stores.{Keeps-refl, Keeps-trans}
 use Rattle.ste_model.specs.declared.task.Edge.{Edge}
@@ -8,14 +8,14 @@ use Rattle.ste_model.specs.declared.task.Graph.{Graph}
 use Rattle.ste_model.specs.GraphWork.{SymbolicState}
 use Rattle.dual_rail.specs.Rail.{Built}
 use Rattle.dual_rail.proofs.Turns.{zip_long}
-use Rattle.dual_rail.proofs.Works.{Built-made, So-start, first, pass}
+use Rattle.dual_rail.proofs.Works.{Built-made, So-start, first, lost, pass}
 use Rattle.gste_engine.specs.declared.links.End.TheVariants.{To}
 use Rattle.gste_engine.specs.declared.links.Links.{Links}
 use Rattle.gste_engine.specs.declared.state.State.{State}
 use Rattle.gste_engine.specs.Tables.{AreStateRefs, IsState}
 use Rattle.gste_engine.specs.private.Links.{AreLinks, IsNextAt}
-use Rattle.gste_engine.specs.private.Sums.{arrivals_work, begun_at, summed_at, with_state}
-use Rattle.gste_engine.proofs.Arrivals.{begun_at_refs, begun_is, no_edge, now_at, sum_fit, sum_skips, sum_turn}
+use Rattle.gste_engine.specs.private.Sums.{arrivals_work, first_state, summed_at, with_state}
+use Rattle.gste_engine.proofs.Arrivals.{first_state_refs, first_state_is, no_edge, now_at, sum_fit, sum_skips, sum_turn}
 use Rattle.gste_engine.proofs.Lists.{unions_long}
 use Rattle.gste_engine.proofs.StateRefs.{StateRefs-keep, own_is, own_long, own_state, state_refs}
 use Rattle.gste_engine.proofs.Sweeps.{have_refs}
@@ -34,7 +34,7 @@ loop-k-init g c =
     let net = c.args.net.now.raw in
     let graph : Graph = c.args.graph.now in
     let vertex = c.args.vertex in
-    let is : c.in-Ok.sum ≡ begun_at net graph.reset vertex = c.in-Ok.ensures in
+    let is : c.in_ok-first.first ≡ first_state net graph.reset vertex = c.in_ok-first.ensures in
     let k = c.index-k.result.now in
     let heads : List ℕ = c.args.into.now.first.items in
     let read : get_or heads vertex 0 ≡ k = get_or_default heads vertex 0 k (let n = c.requires.into.firsts in let i = c.requires.inside in omega (arith, n, i)) ∙ sym c.index-k.ensures in
@@ -43,11 +43,11 @@ loop-k-init g c =
       keeps = Keeps-refl s;
       most = at.most;
       here = at.here;
-      refs = subst (AreStateRefs s net) (sym {A = State} is) (begun_at_refs net graph.reset vertex s gs);
+      refs = subst (AreStateRefs s net) (sym {A = State} is) (first_state_refs net graph.reset vertex s gs);
       so = λ given zip. record {
         so = So-start (arrivals_work net graph given) s;
-        fit = subst (λ (x : SymbolicState). IsState s x c.in-Ok.sum) (sym (sum_skips net graph.reset given graph.edges vertex 0 k at))
-            (subst (λ (r : State). IsState s (summed_at net graph.reset given (take 0 graph.edges) vertex) r) (sym {A = State} is) (begun_is net graph.reset given s vertex gs));
+        fit = subst (λ (x : SymbolicState). IsState s x c.in_ok-first.first) (sym (sum_skips net graph.reset given graph.edges vertex 0 k at))
+            (subst (λ (r : State). IsState s (summed_at net graph.reset given (take 0 graph.edges) vertex) r) (sym {A = State} is) (first_state_is net graph.reset given s vertex gs));
       };
     }
 
@@ -98,6 +98,14 @@ loop-k-preserved g c =
           };
     }
 
+pub returns-in_err-first : goal.returns-in_err-first
+returns-in_err-first g c = λ given zip.
+    let s : Store = g.N.Nodes.store c.args.nodes.now in
+    let net = c.args.net.now.raw in
+    let graph : Graph = c.args.graph.now in
+    let work : List Function = arrivals_work net graph given in
+    lost work (λ t (r : State). IsState t (summed_at net graph.reset given graph.edges c.args.vertex) r) s s c.from_residual.result (So-start work s) c.from_residual.ensures.1
+
 pub returns-in_err-sum : goal.returns-in_err-sum
 returns-in_err-sum g c = λ given zip.
     let s : Store = g.N.Nodes.store c.args.nodes.now in
@@ -125,8 +133,8 @@ returns-in_err-sum g c = λ given zip.
     let q = p.so given zip in
     let Good : Store → State → Type 0 = λ w r. IsState w (now_at net graph given s t u vertex k no_edge sum other givens gs gt gu lt c.requires.inside here zip refs p.keeps q) r in
     let fault = c.in_err-sum.field-0.0 in
-    pass work Good Last s s u fault c.from_residual.result gs gu (So-start work s)
-    (sum_turn net graph given s t u vertex k no_edge sum other givens gs gt gu lt c.requires.inside here zip refs p.keeps q is_other (Err fault) c.in_err-sum.ensures) c.from_residual.ensures.1
+    pass work Good Last s s u fault c.from_residual-in_err-sum.result gs gu (So-start work s)
+    (sum_turn net graph given s t u vertex k no_edge sum other givens gs gt gu lt c.requires.inside here zip refs p.keeps q is_other (Err fault) c.in_err-sum.ensures) c.from_residual-in_err-sum.ensures.1
 
 pub returns : goal.returns
 returns g c = λ given zip.

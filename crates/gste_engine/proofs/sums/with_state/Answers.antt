@@ -1,6 +1,6 @@
 use Rattle.std.proofs.Common.{List, length, refl, sym, ◌∙◌, ap, subst, arith, All, Ok, Err}
 use Rattle.std.specs.List.{AllZip}
-use Rattle.dd_nodes.specs.Diagram.{Function}
+use Rattle.ste_base.specs.Functions.{Function}
 use Rattle.dd_nodes.specs.Stores.{Store}
 use Rattle.dd_nodes.proofs.Stores.{Means-keeps}
 use Rattle.net_core.specs.Work.{disjunction}

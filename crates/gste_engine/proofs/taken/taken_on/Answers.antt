@@ -21,12 +21,12 @@ use Rattle.gste_engine.proofs.taken.taken_on.Goals as goal
 pub returns-then-eq-clause-taken : goal.returns-then-eq-clause-taken
 returns-then-eq-clause-taken g c = λ states is.
     let s : Store = g.N.Nodes.store c.args.nodes.now in
-    let t : Store = g.N.Nodes.store c.stepped.new.nodes in
+    let t : Store = g.N.Nodes.store c.fixed_step.new.nodes in
     let net : RawNet = c.args.net.now.raw in
     let bits = c.args.bits.now in
     let source = c.args.source.now in
     let edge : Edge = c.args.edge.now in
-    let gt = g.met.N.Nodes.diagram c.stepped.new.nodes in
+    let gt = g.met.N.Nodes.diagram c.fixed_step.new.nodes in
     let told = c.in_ok-made.ensures in
     let made = c.in_ok-made.made in
     let step : IsStepOn net bits (map (set_of s bits) source.latches) edge t made = subst (λ (x : Store). IsStepOn net bits (map (set_of x bits) source.latches) edge t made) c.eval.ensures.store told.step in
@@ -37,12 +37,12 @@ returns-then-eq-clause-taken g c = λ states is.
 pub first_failing-first-requires : goal.first_failing-first-requires
 first_failing-first-requires g c =
     let s : Store = g.N.Nodes.store c.args.nodes.now in
-    let t : Store = g.N.Nodes.store c.stepped.new.nodes in
+    let t : Store = g.N.Nodes.store c.fixed_step.new.nodes in
     let net : RawNet = c.args.net.now.raw in
     let bits = c.args.bits.now in
     let source = c.args.source.now in
     let edge : Edge = c.args.edge.now in
-    let gt = g.met.N.Nodes.diagram c.stepped.new.nodes in
+    let gt = g.met.N.Nodes.diagram c.fixed_step.new.nodes in
     let told = c.in_ok-made.ensures in
     let made = c.in_ok-made.made in
     let step : IsStepOn net bits (map (set_of s bits) source.latches) edge t made = subst (λ (x : Store). IsStepOn net bits (map (set_of x bits) source.latches) edge t made) c.eval.ensures.store told.step in
@@ -56,12 +56,12 @@ first_failing-first-requires g c =
 pub returns-clause-taken : goal.returns-clause-taken
 returns-clause-taken g c = λ states is.
     let s : Store = g.N.Nodes.store c.args.nodes.now in
-    let t : Store = g.N.Nodes.store c.stepped.new.nodes in
+    let t : Store = g.N.Nodes.store c.fixed_step.new.nodes in
     let net : RawNet = c.args.net.now.raw in
     let bits = c.args.bits.now in
     let source = c.args.source.now in
     let edge : Edge = c.args.edge.now in
-    let gt = g.met.N.Nodes.diagram c.stepped.new.nodes in
+    let gt = g.met.N.Nodes.diagram c.fixed_step.new.nodes in
     let told = c.in_ok-made.ensures in
     let made = c.in_ok-made.made in
     let step : IsStepOn net bits (map (set_of s bits) source.latches) edge t made = subst (λ (x : Store). IsStepOn net bits (map (set_of x bits) source.latches) edge t made) c.eval.ensures.store told.step in

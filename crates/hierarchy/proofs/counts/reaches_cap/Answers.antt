@@ -1,5 +1,5 @@
 use Rattle.std.proofs.Common.{◌<◌, ◌+◌, ◌∙◌, ap, ℕ, List, length, map, min, get_or, sym, subst}
-use Rattle.hierarchy.specs.private.Counts.{measured, uses_weight, weight_below}
+use Rattle.hierarchy.specs.private.Counts.{measure_of, uses_weight, weight_below}
 use Rattle.hierarchy.proofs.Measured.{count_is, reaches_is}
 use Rattle.hierarchy.proofs.Refused.{uses_low}
 use Rattle.hierarchy.proofs.counts.reaches_cap.Goals as goal
@@ -11,7 +11,7 @@ count_below-requires-clause-in_range c =
 
 pub returns : goal.returns
 returns c =
-    reaches_is c.args.cap c.add_capped.result (c.index.result.now + c.in_ok-below.below) (measured c.args.measure c.args.models.now) c.add_capped.ensures
+    reaches_is c.args.cap c.add_capped.result (c.index.result.now + c.in_ok-below.below) (measure_of c.args.measure c.args.models.now) c.add_capped.ensures
     (count_is c.args.measure c.args.cap c.args.models.now c.args.names.now.keys c.args.graph.now c.in_ok-weights.weights.items c.in_ok-own.own.items c.index.result.now c.in_ok-below.below
     c.requires.some c.requires.known c.requires.bound c.requires.names c.requires.graph c.in_ok-weights.ensures
     (c.in_ok-own.ensures ∙ ap (λ weights. map (λ model. min c.args.cap (uses_weight c.args.measure weights c.args.names.now.keys model)) c.args.models.now) c.as_slice.ensures.value)

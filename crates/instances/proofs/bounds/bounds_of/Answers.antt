@@ -1,12 +1,12 @@
 use Rattle.std.proofs.Common.{drop, ◌∙◌, arith}
 use Rattle.instances.specs.Numbers.{bound_number, number_of}
-use Rattle.instances.proofs.Bound.{bound_next, none_bound}
+use Rattle.instances.proofs.Bound.{bound_next, empty_bounds}
 use Rattle.instances.proofs.bounds.bounds_of.Goals as goal
 
 pub loop-left-init : goal.loop-left-init
 loop-left-init c = record {
   low = omega arith;
-  value = c.in_ok-bounds.ensures ∙ none_bound (number_of c.args.above.now.keys c.args.numbers.now) c.args.bindings.now c.args.names.now.keys;
+  value = c.in_ok-bounds.ensures ∙ empty_bounds (number_of c.args.above.now.keys c.args.numbers.now) c.args.bindings.now c.args.names.now.keys;
 }
 
 pub loop-left-preserved : goal.loop-left-preserved

@@ -10,7 +10,7 @@ use Rattle.ste_model.specs.GraphTable.{enough}
 use Rattle.plain_check.specs.declared.rounds.State.{State}
 use Rattle.plain_check.specs.private.Hops.{fails_of}
 use Rattle.plain_check.specs.private.Outcome.{bind_fails}
-use Rattle.plain_check.specs.private.States.{IsEdgeRow, states_of}
+use Rattle.plain_check.specs.States.{IsEdgeRow, states_of}
 use Rattle.plain_check.proofs.OneRound.{item_of, state_there}
 use Rattle.plain_check.proofs.Placed.{at_last, hops_end, no_failing, no_row, nothing_shown, one_less, path_shown, placed, within_edges}
 use Rattle.plain_check.proofs.graph_checker.failure_shown.Goals as goal

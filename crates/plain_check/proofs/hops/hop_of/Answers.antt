@@ -3,7 +3,7 @@ use Rattle.std.specs.List.{list_any}
 use Rattle.net_core.specs.declared.bit_set.BitSet.{BitSet}
 use Rattle.plain_check.specs.declared.found.Failure.TheVariants as failure
 use Rattle.plain_check.specs.private.Outcome.{bind_fails}
-use Rattle.plain_check.specs.private.States.{IsEdgeRow}
+use Rattle.plain_check.specs.States.{IsEdgeRow}
 use Rattle.plain_check.proofs.HopFacts.{none_hop, some_hop}
 use Rattle.plain_check.proofs.hops.hop_of.Goals as goal
 

@@ -3,7 +3,7 @@ use Rattle.std.proofs.lemmas.List.{take_all}
 use Rattle.ste_model.specs.declared.task.Edge.{Edge}
 use Rattle.plain_check.specs.declared.hops.Hop.{Hop}
 use Rattle.plain_check.specs.private.Hops.{AreHops, IsHopOf}
-use Rattle.plain_check.specs.private.States.{states_of}
+use Rattle.plain_check.specs.States.{states_of}
 use Rattle.plain_check.proofs.OneRound.{item_of, state_there}
 use Rattle.plain_check.proofs.Verdicts.{zip_more}
 use Rattle.plain_check.proofs.hops.hops_of.Goals as goal

@@ -1,6 +1,6 @@
 use Rattle.std.proofs.Common.{take}
 use Rattle.plain_check.specs.private.Hops.{AreHops}
-use Rattle.plain_check.specs.private.States.{states_of}
+use Rattle.plain_check.specs.States.{states_of}
 use Rattle.plain_check.proofs.hops.hops_of.Given as goal
 
 -- the edges so far have their hops

@@ -5,7 +5,7 @@ use Rattle.net_core.specs.declared.bit_set.BitSet.{BitSet}
 use Rattle.net_core.specs.Sets.{next_sets}
 use Rattle.plain_check.specs.declared.rounds.State.{State}
 use Rattle.plain_check.specs.private.Sets.{set_at}
-use Rattle.plain_check.specs.private.States.{IsEdgeRow, joined, states_of}
+use Rattle.plain_check.specs.States.{IsEdgeRow, latch_unions, states_of}
 use Rattle.plain_check.proofs.OneRound.{add_edge, arrived_long, arrives, set_others, skip_edge}
 use Rattle.plain_check.proofs.rounds.follow.Goals as goal
 
@@ -33,7 +33,7 @@ returns-clause-next c = λ graph edges table is next.
     let to = c.args.edge.now.to in
     let state = c.in_ok-state.state in
     let row = subst (IsEdgeRow net c.args.bits.now table c.args.edge.now) c.in-Some.is (c.in_ok-row.ensures table is) in
-    let latches = subst (λ (r : List BitSet). state.latches ≡ joined c.index.result.now.latches (next_sets net (set_at r))) c.as_slice.ensures c.in_ok-state.ensures.latches in
+    let latches = subst (λ (r : List BitSet). state.latches ≡ latch_unions c.index.result.now.latches (next_sets net (set_at r))) c.as_slice.ensures c.in_ok-state.ensures.latches in
     add_edge net graph c.args.bits.now table (states_of net items) _ edges c.args.edge.now (set_at c.in-Some.row) c.settles.ensures next row.1
     (set_others net items to state)
     (arrives net items to c.index.result.now state (set_at c.in-Some.row) c.requires.to c.index.ensures (next.takes.long to) c.in_ok-state.ensures.reached latches)

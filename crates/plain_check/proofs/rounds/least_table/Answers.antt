@@ -1,6 +1,6 @@
 use Rattle.std.proofs.Common.{◌≡◌, ◌+◌, ◌*◌, ◌∙◌, ℕ, length, ap, subst, arith}
 use Rattle.ste_model.specs.GraphTable.{IsNext, enough}
-use Rattle.plain_check.specs.private.States.{states_of}
+use Rattle.plain_check.specs.States.{states_of}
 use Rattle.plain_check.proofs.LastRound.{IsRound, first_round, last_round, next_round}
 use Rattle.plain_check.proofs.rounds.least_table.Goals as goal
 

@@ -1,5 +1,5 @@
 use Rattle.std.proofs.Common.{◌+◌, ◌*◌, length}
-use Rattle.plain_check.specs.private.States.{AreStates, states_of}
+use Rattle.plain_check.specs.States.{AreStates, states_of}
 use Rattle.plain_check.proofs.LastRound.{IsRound}
 use Rattle.plain_check.proofs.rounds.least_table.Given as goal
 

@@ -2,7 +2,7 @@ use Rattle.std.proofs.Common.{◌≡◌, ◌<◌, ◌+◌, ◌++◌, ◌∷◌, 
 use Rattle.std.proofs.lemmas.List.{take_all, take_more}
 use Rattle.ste_model.specs.declared.task.Edge.{Edge}
 use Rattle.ste_model.specs.GraphTable.{IsNext}
-use Rattle.plain_check.specs.private.States.{states_of, with_edges}
+use Rattle.plain_check.specs.States.{states_of, with_edges}
 use Rattle.plain_check.proofs.OneRound.{item_of, no_edges, start_next, state_there}
 use Rattle.plain_check.proofs.rounds.round.Goals as goal
 

@@ -1,6 +1,6 @@
 use Rattle.std.proofs.Common.{take}
 use Rattle.ste_model.specs.GraphTable.{IsNext}
-use Rattle.plain_check.specs.private.States.{AreStates, states_of, with_edges}
+use Rattle.plain_check.specs.States.{AreStates, states_of, with_edges}
 use Rattle.plain_check.proofs.rounds.round.Given as goal
 
 -- the table of the next round of the graph with the edges so far

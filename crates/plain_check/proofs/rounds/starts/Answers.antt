@@ -2,7 +2,7 @@ use Rattle.std.proofs.Common.{◌≡◌, ◌∷◌, [], length, length-append, a
 use Rattle.std.proofs.lemmas.List.Elements.{All-push}
 use Rattle.std.specs.Prelude.{All}
 use Rattle.plain_check.specs.declared.rounds.State.{State}
-use Rattle.plain_check.specs.private.States.{unreached}
+use Rattle.plain_check.specs.States.{unreached}
 use Rattle.plain_check.proofs.rounds.starts.Goals as goal
 
 pub loop-preserved : goal.loop-preserved

@@ -1,6 +1,6 @@
 use Rattle.std.proofs.Common.{◌≡◌, length}
 use Rattle.std.specs.Prelude.{All}
-use Rattle.plain_check.specs.private.States.{unreached}
+use Rattle.plain_check.specs.States.{unreached}
 use Rattle.plain_check.proofs.rounds.starts.Given as goal
 
 -- no vertex so far is reached

@@ -2,7 +2,7 @@ use Rattle.std.proofs.Common.{◌≡◌, ◌<◌, ◌≤◌, ◌+◌, ℕ, List,
 use Rattle.std.specs.Prelude.{OnOk, Result, length}
 use Rattle.std.proofs.lemmas.List.{length-map}
 use Rattle.std.specs.List.{AllZip}
-use Rattle.dd_nodes.specs.Diagram.{Function}
+use Rattle.ste_base.specs.Functions.{Function}
 use Rattle.dd_nodes.specs.Stores.{Store, Means}
 use Rattle.dd_nodes.proofs.Spending.{zero_means}
 use Rattle.dd_nodes.proofs.Stores.{Keeps-trans}
@@ -11,7 +11,7 @@ use Rattle.net_core.specs.Work.{ArePossibleEach}
 use Rattle.net_core.proofs.Ordered.{settled_by_order}
 use Rattle.dual_rail.specs.declared.rails.Rails.{Rails}
 use Rattle.dual_rail.specs.Rail.{AreRails, Built}
-use Rattle.dual_rail.proofs.Works.{Built-good, Built-lost, Built-wider, Rails-keep, So-start, first, last, more, pass}
+use Rattle.dual_rail.proofs.Works.{Built-good, Built-wider, Rails-keep, So-start, first, last, lost, more, pass}
 use Rattle.ste_model.specs.declared.task.Assertion.{Assertion}
 use Rattle.ste_model.specs.declared.task.Quint.{Quint}
 use Rattle.ste_model.specs.Asked.{depth}
@@ -32,14 +32,14 @@ use Rattle.ste_engine.proofs.Family.{family_at}
 use Rattle.ste_engine.proofs.FirstPlaces.{first_place, told_or_new}
 use Rattle.ste_engine.proofs.Kept.{kept_refs}
 use Rattle.ste_engine.proofs.Lines.{IsNextLine, Line-keeps, ant_within, con_within, next_line}
-use Rattle.ste_engine.proofs.Asked.{Asks-keep}
+use Rattle.ste_engine.proofs.Asked.{TimedCuts-keep}
 use Rattle.engine_parts.proofs.FirstSets.{firsts_are}
 use Rattle.ste_engine.proofs.Times.{IsTurnedAt, ReachedAt, ant_in, con_in, empty_sum, last_in, reached_next, strong_sum, time_call, time_turn, turned_refs, weak_sum}
 use Rattle.ste_model.specs.declared.task.Weakening.{Weakening}
 use Rattle.ste_model.specs.Asked.{weakened_at}
 use Rattle.sym_step.specs.Step.{ids_of}
 use Rattle.ste_engine.specs.private.Times.{IsTimeline}
-use Rattle.ste_engine.specs.private.Weakened.{HasWeakened, weak_asks}
+use Rattle.ste_engine.specs.private.Weakened.{HasWeakened, weak_timed_cuts}
 use Rattle.ste_engine.proofs.WeakLines.{nets_inside}
 use Rattle.ste_engine.proofs.engine.results.Goals as goal
 
@@ -91,8 +91,8 @@ returns-in_err-con-clause-built g c = λ table whole.
     let b : Built (quints_work task.con) ConLine t1 t2 (Err fault) = subst (λ (xs : List Quint). Built (quints_work xs) (λ t line. IsLine t xs n 0 line) t1 t2 (Err fault)) c.as_slice-2.ensures c.in_err-con.ensures in
     pass work ConLine (AreResults net.raw task table) s t1 t2 fault c.from_residual-in_err-con.result g1 g2 (first work AntLine s t1 (Ok c.in_ok-ant.ant) (Built-wider work (quints_work task.ant) AntLine s t1 (Ok c.in_ok-ant.ant) (ant_in net.raw task table) a)) (Built-wider work (quints_work task.con) ConLine t1 t2 (Err fault) (con_in net.raw task table) b) c.from_residual-in_err-con.ensures.1
 
-pub returns-in-Err-clause-built : goal.returns-in-Err-clause-built
-returns-in-Err-clause-built g c = λ table whole.
+pub returns-in_err-weak-clause-built : goal.returns-in_err-weak-clause-built
+returns-in_err-weak-clause-built g c = λ table whole.
     let s : Store = g.N.Nodes.store c.args.nodes.now in
     let gs = g.met.N.Nodes.diagram c.args.nodes.now in
     let net = c.args.net.now in
@@ -108,7 +108,7 @@ returns-in-Err-clause-built g c = λ table whole.
     let b : Built (quints_work task.con) ConLine t1 t2 (Ok c.in_ok-con.con) = subst (λ (xs : List Quint). Built (quints_work xs) (λ t line. IsLine t xs n 0 line) t1 t2 (Ok c.in_ok-con.con)) c.as_slice-2.ensures c.in_ok-con.ensures in
     let work : List Function = task_work net.raw task table in
     let so = more work ConLine s t1 t2 (Ok c.in_ok-con.con) g1 g2 (first work AntLine s t1 (Ok c.in_ok-ant.ant) (Built-wider work (quints_work task.ant) AntLine s t1 (Ok c.in_ok-ant.ant) (ant_in net.raw task table) a)) (Built-wider work (quints_work task.con) ConLine t1 t2 (Ok c.in_ok-con.con) (con_in net.raw task table) b) in
-    Built-lost work (AreResults net.raw task table) s t2 so
+    lost work (AreResults net.raw task table) s t2 c.from_residual-in_err-weak.result so c.from_residual-in_err-weak.ensures.1
 
 pub loop-t-init : goal.loop-t-init
 loop-t-init g c =
@@ -129,7 +129,7 @@ loop-t-init g c =
     record {
       ant = Line-keeps t1 t2 task.ant n 0 c.in_ok-ant.ant g1 g2 b.spends.keeps a.ok;
       con = b.ok;
-      weak = subst (λ (ws : List Weakening). IsTimeline (weak_asks n 0 ws) n 0 c.in-Ok.weak.line) c.as_slice-3.ensures c.in-Ok.ensures;
+      weak = subst (λ (ws : List Weakening). IsTimeline (weak_timed_cuts n 0 ws) n 0 c.in_ok-weak.weak.line) c.as_slice-3.ensures c.in_ok-weak.ensures;
       frame = frame_keeps s t2 net.raw c.args.frame.now net.in_range gs g2 (Keeps-trans s t1 t2 a.spends.keeps b.spends.keeps) c.requires.frame;
       firsts = c.requires.firsts;
       reached = λ table whole.
@@ -143,23 +143,23 @@ loop-t-init g c =
           };
     }
 
-pub returns-in-Err-advance-clause-built : goal.returns-in-Err-advance-clause-built
-returns-in-Err-advance-clause-built g c = λ table whole.
+pub returns-in_err-advance-clause-built : goal.returns-in_err-advance-clause-built
+returns-in_err-advance-clause-built g c = λ table whole.
     let s : Store = g.N.Nodes.store c.args.nodes.now in
     let t : Store = g.N.Nodes.store c.loop-t.nodes in
-    Built-lost (task_work c.args.net.now.raw c.args.task.now table) (AreResults c.args.net.now.raw c.args.task.now table) s t (c.loop-t.invariant.reached table whole).so
+    lost (task_work c.args.net.now.raw c.args.task.now table) (AreResults c.args.net.now.raw c.args.task.now table) s t c.from_residual-in_err-advance.result (c.loop-t.invariant.reached table whole).so c.from_residual-in_err-advance.ensures.1
 
-pub returns-in-Err-advance-2-clause-built : goal.returns-in-Err-advance-2-clause-built
-returns-in-Err-advance-2-clause-built g c = λ table whole.
+pub returns-in_err-advance-2-clause-built : goal.returns-in_err-advance-2-clause-built
+returns-in_err-advance-2-clause-built g c = λ table whole.
     let s : Store = g.N.Nodes.store c.args.nodes.now in
     let t : Store = g.N.Nodes.store c.loop-t.nodes in
-    Built-lost (task_work c.args.net.now.raw c.args.task.now table) (AreResults c.args.net.now.raw c.args.task.now table) s t (c.loop-t.invariant.reached table whole).so
+    lost (task_work c.args.net.now.raw c.args.task.now table) (AreResults c.args.net.now.raw c.args.task.now table) s t c.from_residual-in_err-advance-2.result (c.loop-t.invariant.reached table whole).so c.from_residual-in_err-advance-2.ensures.1
 
-pub returns-in-Err-advance-3-clause-built : goal.returns-in-Err-advance-3-clause-built
-returns-in-Err-advance-3-clause-built g c = λ table whole.
+pub returns-in_err-advance-3-clause-built : goal.returns-in_err-advance-3-clause-built
+returns-in_err-advance-3-clause-built g c = λ table whole.
     let s : Store = g.N.Nodes.store c.args.nodes.now in
     let t : Store = g.N.Nodes.store c.loop-t.nodes in
-    Built-lost (task_work c.args.net.now.raw c.args.task.now table) (AreResults c.args.net.now.raw c.args.task.now table) s t (c.loop-t.invariant.reached table whole).so
+    lost (task_work c.args.net.now.raw c.args.task.now table) (AreResults c.args.net.now.raw c.args.task.now table) s t c.from_residual-in_err-advance-3.result (c.loop-t.invariant.reached table whole).so c.from_residual-in_err-advance-3.ensures.1
 
 pub advance-requires-in-loop-t-2 : goal.advance-requires-in-loop-t-2
 advance-requires-in-loop-t-2 g c = let long = c.loop-t.invariant.weak.starts.long in omega (arith, long, c.loop-t-test.true)
@@ -176,9 +176,9 @@ loop-t-preserved g c =
     let p = c.loop-t.invariant in
     let k = c.loop-t.t in
     let below : k < depth task = subst (λ m. k < m) c.depth-depth.ensures c.loop-t-test.true in
-    let ant : IsNextLine t net.raw task.ant n k c.advance.new.self c.cuts.result.now = next_line t net.raw task.ant n k c.loop-t.ant c.advance.new.self c.advance.new.self.cuts.items c.cuts.result.now p.ant c.loop-t-test.true c.requires.ant c.cuts.ensures c.in-Ok-advance.ensures in
-    let con : IsNextLine t net.raw task.con n k c.advance-in-loop-t.new.self c.cuts-in-loop-t.result.now = next_line t net.raw task.con n k c.loop-t.con c.advance-in-loop-t.new.self c.advance-in-loop-t.new.self.cuts.items c.cuts-in-loop-t.result.now p.con c.loop-t-test.true c.requires.con c.cuts-in-loop-t.ensures c.in-Ok-advance-2.ensures in
-    let weak : HasWeakened task.weak n k c.advance-in-loop-t-2.new.self = c.in-Ok-advance-3.ensures task.weak n p.weak c.loop-t-test.true in
+    let ant : IsNextLine t net.raw task.ant n k c.advance.new.self c.cuts.result.now = next_line t net.raw task.ant n k c.loop-t.ant c.advance.new.self c.advance.new.self.cuts.items c.cuts.result.now p.ant c.loop-t-test.true c.requires.ant c.cuts.ensures c.in_ok-advance.ensures in
+    let con : IsNextLine t net.raw task.con n k c.advance-in-loop-t.new.self c.cuts-in-loop-t.result.now = next_line t net.raw task.con n k c.loop-t.con c.advance-in-loop-t.new.self c.advance-in-loop-t.new.self.cuts.items c.cuts-in-loop-t.result.now p.con c.loop-t-test.true c.requires.con c.cuts-in-loop-t.ensures c.in_ok-advance-2.ensures in
+    let weak : HasWeakened task.weak n k c.advance-in-loop-t-2.new.self = c.in_ok-advance-3.ensures task.weak n p.weak c.loop-t-test.true in
     let weak_is : weakened_at task.weak k ≡ ids_of c.nets.result.now = weak.given ∙ ap ids_of (sym c.nets.ensures) in
     let u : Store = g.N.Nodes.store c.turn.new.nodes in
     let gu = g.met.N.Nodes.diagram c.turn.new.nodes in
@@ -196,7 +196,7 @@ loop-t-preserved g c =
           let q = p.reached w.0 w.1 in
           let tv = q.so.keeps.vars in
           let uv = keeps.vars ∙ tv in
-          let last : IsNextLine t net.raw task.con n k c.advance-in-loop-t.new.self c.cuts-in-loop-t-2.result.now = next_line t net.raw task.con n k c.loop-t.con c.advance-in-loop-t.new.self c.advance-in-loop-t.new.self.cuts.items c.cuts-in-loop-t-2.result.now p.con c.loop-t-test.true c.requires.con c.cuts-in-loop-t-2.ensures c.in-Ok-advance-2.ensures in
+          let last : IsNextLine t net.raw task.con n k c.advance-in-loop-t.new.self c.cuts-in-loop-t-2.result.now = next_line t net.raw task.con n k c.loop-t.con c.advance-in-loop-t.new.self c.advance-in-loop-t.new.self.cuts.items c.cuts-in-loop-t-2.result.now p.con c.loop-t-test.true c.requires.con c.cuts-in-loop-t-2.ensures c.in_ok-advance-2.ensures in
           let have = c.in_ok-reached.ensures.have (latches_at net.raw task w.0 k) (weakened_at task.weak k) (symbolic_cuts_at task.ant k) (w.0 k) q.next weak_is ant.by (subst (λ v. ArePossibleEach v net.raw (latches_at net.raw task w.0 k) (symbolic_asked_at task k) (w.0 k)) (sym tv) (family_at net.raw s.vars task w.0 k w.1 below)) in
           let zip = Demands-keep t u (symbolic_cuts_at task.con k) c.cuts-in-loop-t-2.result.now gt gu keeps last.by in
           let nets : List Rails = nets_of c.turn.new.frame in
@@ -225,9 +225,9 @@ returns-in_err-reached-clause-built g c = λ table whole.
     let p = c.loop-t.invariant in
     let k = c.loop-t.t in
     let below : k < depth task = subst (λ m. k < m) c.depth-depth.ensures c.loop-t-test.true in
-    let ant : IsNextLine t net.raw task.ant n k c.advance.new.self c.cuts.result.now = next_line t net.raw task.ant n k c.loop-t.ant c.advance.new.self c.advance.new.self.cuts.items c.cuts.result.now p.ant c.loop-t-test.true c.requires.ant c.cuts.ensures c.in-Ok-advance.ensures in
-    let con : IsNextLine t net.raw task.con n k c.advance-in-loop-t.new.self c.cuts-in-loop-t.result.now = next_line t net.raw task.con n k c.loop-t.con c.advance-in-loop-t.new.self c.advance-in-loop-t.new.self.cuts.items c.cuts-in-loop-t.result.now p.con c.loop-t-test.true c.requires.con c.cuts-in-loop-t.ensures c.in-Ok-advance-2.ensures in
-    let weak : HasWeakened task.weak n k c.advance-in-loop-t-2.new.self = c.in-Ok-advance-3.ensures task.weak n p.weak c.loop-t-test.true in
+    let ant : IsNextLine t net.raw task.ant n k c.advance.new.self c.cuts.result.now = next_line t net.raw task.ant n k c.loop-t.ant c.advance.new.self c.advance.new.self.cuts.items c.cuts.result.now p.ant c.loop-t-test.true c.requires.ant c.cuts.ensures c.in_ok-advance.ensures in
+    let con : IsNextLine t net.raw task.con n k c.advance-in-loop-t.new.self c.cuts-in-loop-t.result.now = next_line t net.raw task.con n k c.loop-t.con c.advance-in-loop-t.new.self c.advance-in-loop-t.new.self.cuts.items c.cuts-in-loop-t.result.now p.con c.loop-t-test.true c.requires.con c.cuts-in-loop-t.ensures c.in_ok-advance-2.ensures in
+    let weak : HasWeakened task.weak n k c.advance-in-loop-t-2.new.self = c.in_ok-advance-3.ensures task.weak n p.weak c.loop-t-test.true in
     let weak_is : weakened_at task.weak k ≡ ids_of c.nets.result.now = weak.given ∙ ap ids_of (sym c.nets.ensures) in
     let u : Store = g.N.Nodes.store c.turn.new.nodes in
     let gu = g.met.N.Nodes.diagram c.turn.new.nodes in
@@ -249,7 +249,7 @@ turn-requires-clause-ant g c =
     let p = c.loop-t.invariant in
     let k = c.loop-t.t in
     let below : k < depth task = subst (λ m. k < m) c.depth-depth.ensures c.loop-t-test.true in
-    let ant : IsNextLine t net.raw task.ant n k c.advance.new.self c.cuts.result.now = next_line t net.raw task.ant n k c.loop-t.ant c.advance.new.self c.advance.new.self.cuts.items c.cuts.result.now p.ant c.loop-t-test.true c.requires.ant c.cuts.ensures c.in-Ok-advance.ensures in
+    let ant : IsNextLine t net.raw task.ant n k c.advance.new.self c.cuts.result.now = next_line t net.raw task.ant n k c.loop-t.ant c.advance.new.self c.advance.new.self.cuts.items c.cuts.result.now p.ant c.loop-t-test.true c.requires.ant c.cuts.ensures c.in_ok-advance.ensures in
     ant.of
 
 pub turn-requires-clause-weak : goal.turn-requires-clause-weak
@@ -257,7 +257,7 @@ turn-requires-clause-weak g c =
     let task : Assertion = c.args.task.now in
     let n = c.depth-depth.result in
     let k = c.loop-t.t in
-    let weak : HasWeakened task.weak n k c.advance-in-loop-t-2.new.self = c.in-Ok-advance-3.ensures task.weak n c.loop-t.invariant.weak c.loop-t-test.true in
+    let weak : HasWeakened task.weak n k c.advance-in-loop-t-2.new.self = c.in_ok-advance-3.ensures task.weak n c.loop-t.invariant.weak c.loop-t-test.true in
     nets_inside c.args.net.now.raw.nets k task.weak c.nets.result.now c.requires.weak (weak.given ∙ ap ids_of (sym c.nets.ensures))
 
 pub turn-requires-clause-con : goal.turn-requires-clause-con
@@ -272,7 +272,7 @@ turn-requires-clause-con g c =
     let p = c.loop-t.invariant in
     let k = c.loop-t.t in
     let below : k < depth task = subst (λ m. k < m) c.depth-depth.ensures c.loop-t-test.true in
-    let con : IsNextLine t net.raw task.con n k c.advance-in-loop-t.new.self c.cuts-in-loop-t.result.now = next_line t net.raw task.con n k c.loop-t.con c.advance-in-loop-t.new.self c.advance-in-loop-t.new.self.cuts.items c.cuts-in-loop-t.result.now p.con c.loop-t-test.true c.requires.con c.cuts-in-loop-t.ensures c.in-Ok-advance-2.ensures in
+    let con : IsNextLine t net.raw task.con n k c.advance-in-loop-t.new.self c.cuts-in-loop-t.result.now = next_line t net.raw task.con n k c.loop-t.con c.advance-in-loop-t.new.self c.advance-in-loop-t.new.self.cuts.items c.cuts-in-loop-t.result.now p.con c.loop-t-test.true c.requires.con c.cuts-in-loop-t.ensures c.in_ok-advance-2.ensures in
     con.of
 
 pub turn-requires-clause-before : goal.turn-requires-clause-before
@@ -299,7 +299,7 @@ with_time-requires g c =
     let t : Store = g.N.Nodes.store c.loop-t.nodes in
     let p = c.loop-t.invariant in
     let k = c.loop-t.t in
-    let con : IsNextLine t net.raw task.con n k c.advance-in-loop-t.new.self c.cuts-in-loop-t-2.result.now = next_line t net.raw task.con n k c.loop-t.con c.advance-in-loop-t.new.self c.advance-in-loop-t.new.self.cuts.items c.cuts-in-loop-t-2.result.now p.con c.loop-t-test.true c.requires.con c.cuts-in-loop-t-2.ensures c.in-Ok-advance-2.ensures in
+    let con : IsNextLine t net.raw task.con n k c.advance-in-loop-t.new.self c.cuts-in-loop-t-2.result.now = next_line t net.raw task.con n k c.loop-t.con c.advance-in-loop-t.new.self c.advance-in-loop-t.new.self.cuts.items c.cuts-in-loop-t-2.result.now p.con c.loop-t-test.true c.requires.con c.cuts-in-loop-t-2.ensures c.in_ok-advance-2.ensures in
     let frame : Frame = c.turn.new.frame in
     let nets : length (nets_of frame) ≡ net.raw.nets = length-map frame.board.nets.items bare ∙ c.in_ok-reached.ensures.frame.long in
     λ i d l. let inside = (con.of i d l).node in omega (arith, nets, inside)
@@ -355,7 +355,7 @@ returns-clause-built g c = λ table whole.
       strong = h.strong;
       weak = h.weak;
       contradictory = h.contradictory;
-      kept = kept_refs net.raw task table u p.ant.asks p.con.asks r.strong r.weak r.contradictory (Asks-keep t u 0 task.ant p.ant.asks gt gu keeps p.ant.fit) (Asks-keep t u 0 task.con p.con.asks gt gu keeps p.con.fit)
+      kept = kept_refs net.raw task table u p.ant.timed_cuts p.con.timed_cuts r.strong r.weak r.contradictory (TimedCuts-keep t u 0 task.ant p.ant.timed_cuts gt gu keeps p.ant.fit) (TimedCuts-keep t u 0 task.con p.con.timed_cuts gt gu keeps p.con.fit)
           (λ j id lt inside. let x = q.nets j id lt inside in (x.0, Rails-keep t u (table j id) x.0 gt gu keeps x.1)) h.strong h.weak h.contradictory;
     }) made)
 

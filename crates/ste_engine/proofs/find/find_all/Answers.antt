@@ -1,6 +1,6 @@
 use Rattle.std.proofs.Common.{◌≡◌, ◌<◌, List, length, ◌+◌, subst, sym, arith, take, get_or, Ok, Err}
 use Rattle.std.proofs.lemmas.List.{get_or_default, take_all}
-use Rattle.dd_nodes.specs.Diagram.{Function}
+use Rattle.ste_base.specs.Functions.{Function}
 use Rattle.dd_nodes.specs.Stores.{Store, IsRef, function}
 use Rattle.dd_nodes.proofs.Walks.{IsFrom-grows}
 use Rattle.dd_nodes.proofs.Stores.{Keeps-trans}

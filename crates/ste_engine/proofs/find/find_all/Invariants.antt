@@ -1,6 +1,6 @@
 use Rattle.std.proofs.Common.{List, take, ℕ, ◌<◌, length}
 use Rattle.std.specs.List.{AllZip}
-use Rattle.dd_nodes.specs.Diagram.{Function}
+use Rattle.ste_base.specs.Functions.{Function}
 use Rattle.dd_nodes.specs.Stores.{Keeps}
 use Rattle.net_core.specs.Work.{SymbolicSet, SymbolicCut}
 use Rattle.dual_rail.specs.Rail.{AreRails}

@@ -1,6 +1,6 @@
 use Rattle.std.proofs.Common.{◌≤◌, ◌-◌, ◌++◌, length, take, drop, ◌∙◌, ap, inl, inr}
 use Rattle.std.specs.Prelude.{◌⊎◌}
-use Rattle.ste_engine.specs.private.Asks.{merge as merge_of}
+use Rattle.ste_engine.specs.private.TimedCuts.{merge as merge_of}
 use Rattle.ste_engine.proofs.Merged.{merged}
 use Rattle.ste_engine.proofs.merge.merge.Goals.{then-loop-i-test+else-j-ys, else-loop-i-test}
 use Rattle.ste_engine.proofs.merge.merge.Goals as goal
@@ -13,4 +13,4 @@ returns c =
     ] in
     let p = c.loop-i.invariant in
     c.in_ok-extend_from_slice-2.ensures.items ∙ ap (λ zs. zs ++ take (length c.args.ys.now - c.loop-i.j) (drop c.loop-i.j c.args.ys.now)) c.in_ok-extend_from_slice.ensures.items
-    ∙ merged c.args.xs.now c.args.ys.now (merge_of c.args.xs.now c.args.ys.now) c.loop-i.asks.items c.loop-i.i c.loop-i.j p.first p.second over p.is
+    ∙ merged c.args.xs.now c.args.ys.now (merge_of c.args.xs.now c.args.ys.now) c.loop-i.timed_cuts.items c.loop-i.i c.loop-i.j p.first p.second over p.is

@@ -17,7 +17,7 @@ use Rattle.sym_step.specs.Frame.{next_of, nets_of, step_of}
 use Rattle.sym_step.proofs.Cutting.{Demands-keep}
 use Rattle.engine_parts.specs.declared.failing.Failure.{Failure}
 use Rattle.engine_parts.specs.Failing.{fixed_quint}
-use Rattle.ste_engine.specs.private.Places.{fixed_asks, fixed_task}
+use Rattle.ste_engine.specs.private.Places.{fixed_timed_cuts, fixed_task}
 use Rattle.ste_engine.specs.private.Times.{IsTimeline}
 use Rattle.engine_parts.proofs.FirstFails.{IsTold, first_is}
 use Rattle.ste_engine.proofs.FixedTasks.{constant_table, fixed_are, fixed_inside}
@@ -28,7 +28,7 @@ use Rattle.engine_parts.proofs.FirstSets.{firsts_are}
 use Rattle.ste_model.specs.declared.task.Weakening.{Weakening}
 use Rattle.ste_model.specs.Asked.{weakened_at}
 use Rattle.sym_step.specs.Step.{ids_of}
-use Rattle.ste_engine.specs.private.Weakened.{HasWeakened, weak_asks}
+use Rattle.ste_engine.specs.private.Weakened.{HasWeakened, weak_timed_cuts}
 use Rattle.ste_engine.proofs.WeakLines.{nets_inside}
 use Rattle.ste_engine.proofs.place.failing_place.Goals as goal
 
@@ -52,9 +52,9 @@ loop-t-init g c =
     let gs = g.met.N.Nodes.diagram c.args.nodes.now in
     let n = c.depth-depth.result in
     record {
-      ant = record { asks = fixed_asks bits 0 task.ant; fit = fixed_are bits s 0 task.ant gs; is = subst (λ (xs : List Quint). IsTimeline (fixed_asks bits 0 xs) n 0 c.in_ok-ant.ant) c.as_slice.ensures c.in_ok-ant.ensures };
-      con = record { asks = fixed_asks bits 0 task.con; fit = fixed_are bits s 0 task.con gs; is = subst (λ (xs : List Quint). IsTimeline (fixed_asks bits 0 xs) n 0 c.in_ok-con.con) c.as_slice-2.ensures c.in_ok-con.ensures };
-      weak = subst (λ (ws : List Weakening). IsTimeline (weak_asks n 0 ws) n 0 c.in_ok-weak.weak.line) c.as_slice-3.ensures c.in_ok-weak.ensures;
+      ant = record { timed_cuts = fixed_timed_cuts bits 0 task.ant; fit = fixed_are bits s 0 task.ant gs; is = subst (λ (xs : List Quint). IsTimeline (fixed_timed_cuts bits 0 xs) n 0 c.in_ok-ant.ant) c.as_slice.ensures c.in_ok-ant.ensures };
+      con = record { timed_cuts = fixed_timed_cuts bits 0 task.con; fit = fixed_are bits s 0 task.con gs; is = subst (λ (xs : List Quint). IsTimeline (fixed_timed_cuts bits 0 xs) n 0 c.in_ok-con.con) c.as_slice-2.ensures c.in_ok-con.ensures };
+      weak = subst (λ (ws : List Weakening). IsTimeline (weak_timed_cuts n 0 ws) n 0 c.in_ok-weak.weak.line) c.as_slice-3.ensures c.in_ok-weak.ensures;
       reached = λ table is. place_begins net task bits f table s (next_of net c.in_ok-frame.frame) gs
           (subst (λ (xs : List Rails). AllZip (AreRails s) (latches_at net (fixed_task bits task) (constant_table table) 0) xs) (sym c.in_ok-frame.ensures.next) (firsts_are s task.reset net.latches gs));
       frame = c.in_ok-frame.ensures.frame s gs;

@@ -16,9 +16,9 @@ returns-in_ok-first-in-Some-clause-frame c = λ s d last.
     let net = c.args.net.now.raw in
     let sets : List Rails = map (first_rails c.args.reset) net.latches in
     let is = c.in_ok-first-in-Some.ensures in
-    c.restarted.ensures.frame s net (subst (λ (o : Option Frame). IfSome o (IsFrame s net)) c.in-Some.is last)
+    c.before_first_time.ensures.frame s net (subst (λ (o : Option Frame). IfSome o (IsFrame s net)) c.in-Some.is last)
     (ap (λ (xs : List Rails). length xs) is ∙ length-map net.latches (first_rails c.args.reset))
     (subst (λ (xs : List Rails). All (AreRefs s) xs) (sym is) (zip_refs s (map (λ latch. constant_set (first_set c.args.reset latch)) net.latches) sets (firsts_are s c.args.reset net.latches d)))
 
 pub returns-in_ok-first-in-Some-clause-next : goal.returns-in_ok-first-in-Some-clause-next
-returns-in_ok-first-in-Some-clause-next c = c.restarted.ensures.next c.args.net.now.raw ∙ c.in_ok-first-in-Some.ensures
+returns-in_ok-first-in-Some-clause-next c = c.before_first_time.ensures.next c.args.net.now.raw ∙ c.in_ok-first-in-Some.ensures

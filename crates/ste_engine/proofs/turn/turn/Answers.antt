@@ -2,7 +2,7 @@ use Rattle.std.proofs.Common.{◌≡◌, ◌<◌, ℕ, List, length, map, ◌∙
 use Rattle.std.specs.List.{AllZip}
 use Rattle.std.proofs.lemmas.List.{length-map}
 use Rattle.dd_nodes.specs.declared.node.Ref.{Ref}
-use Rattle.dd_nodes.specs.Diagram.{Function}
+use Rattle.ste_base.specs.Functions.{Function}
 use Rattle.net_core.specs.declared.raw.RawNet.{RawNet}
 use Rattle.dd_nodes.specs.Stores.{Store, function}
 use Rattle.dd_nodes.proofs.Spending.{own}
@@ -176,7 +176,7 @@ returns-clause-frame g c =
     frame_keeps t v net.raw frame net.in_range gt gv (Keeps-trans t u v stu d.spends.keeps) c.in_ok-empty.ensures.frame
 
 pub returns-clause-have : goal.returns-clause-have
-returns-clause-have g c = λ ls weakened ds wanted_sets zip weak asks family id inside.
+returns-clause-have g c = λ ls weakened ds wanted_sets zip weak timed_cuts family id inside.
     let s : Store = g.N.Nodes.store c.args.nodes.now in
     let t : Store = g.N.Nodes.store c.renew.new.nodes in
     let u : Store = g.N.Nodes.store c.either.new.nodes in
@@ -202,5 +202,5 @@ returns-clause-have g c = λ ls weakened ds wanted_sets zip weak asks family id 
       weak = own u before.found.weak (IsFrom-grows s.held u.held 0 _ ksu.grows c.requires.before.found.weak);
     } in
     let d = c.in_ok-found.ensures sets asked f h have wanted begun in
-    let a = c.in_ok-empty.ensures.built ls (asked_by weakened ds) wanted_sets zip asks weak family in
+    let a = c.in_ok-empty.ensures.built ls (asked_by weakened ds) wanted_sets zip timed_cuts weak family in
     Rails-keep t v (wanted_sets id) (rails_at nets id) gt gv (Keeps-trans t u v stu d.spends.keeps) (a.ok.nets id inside)

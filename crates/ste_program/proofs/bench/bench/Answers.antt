@@ -2,7 +2,7 @@ use Rattle.std.proofs.Common.{◌∙◌, ℕ, Bool, List, ap, subst, sym}
 use Rattle.net_gen.specs.Pipeline.{pipeline_net, pipeline_tasks}
 use Rattle.std.specs.Prelude.{codes, ◌++◌}
 use Rattle.ste_program.specs.Info.{count_line}
-use Rattle.ste_program.specs.Order.{IsFirst, check_stages}
+use Rattle.ste_program.specs.Order.{IsFirstRefusal, check_stages}
 use Rattle.ste_program.specs.private.Prepared.{IsCheckOver}
 use Rattle.ste_program.specs.private.Texts.{OrMemory}
 use Rattle.ste_program.proofs.Handed.{handed_on}
@@ -12,8 +12,8 @@ pub returns-in_err-made : goal.returns-in_err-made
 returns-in_err-made g c =
     let fault = c.in_err-made.field-0.0 in
     handed_on _ _ _ c.from_residual-in_err-made.ensures.1
-    (subst (λ (net : List ℕ). OrMemory (IsFirst (check_stages c.args.asked.now.steps net (pipeline_tasks c.args.stages))) fault) c.in_ok-net.ensures.net
-    (subst (λ (tasks : List ℕ). OrMemory (IsFirst (check_stages c.args.asked.now.steps c.in_ok-net.net.items tasks)) fault) c.in_ok-net.ensures.tasks c.in_err-made.ensures))
+    (subst (λ (net : List ℕ). OrMemory (IsFirstRefusal (check_stages c.args.asked.now.steps net (pipeline_tasks c.args.stages))) fault) c.in_ok-net.ensures.net
+    (subst (λ (tasks : List ℕ). OrMemory (IsFirstRefusal (check_stages c.args.asked.now.steps c.in_ok-net.net.items tasks)) fault) c.in_ok-net.ensures.tasks c.in_err-made.ensures))
 
 pub returns : goal.returns
 returns g c =

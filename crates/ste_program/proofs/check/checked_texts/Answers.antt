@@ -1,7 +1,7 @@
 use Rattle.std.proofs.Common.{◌≡◌, ◌≤◌, ℕ, Option, ap, arith, inl, refl, subst, sym}
 use Rattle.command_line.specs.Command.{Command}
 use Rattle.ste_program.specs.Check.{task_steps}
-use Rattle.ste_program.specs.Order.{IsFirst, check_stages}
+use Rattle.ste_program.specs.Order.{IsFirstRefusal, check_stages}
 use Rattle.ste_program.specs.private.Prepared.{IsPrepared}
 use Rattle.ste_program.specs.private.Texts.{OrMemory}
 use Rattle.ste_program.proofs.Handed.{handed_on}
@@ -31,7 +31,7 @@ returns-in_err-prepared g c =
     let fault = c.in_err-prepared.field-0.0 in
     let steps_is : c.asked.inside.steps ≡ c.args.asked.now.steps = ap (λ (asked : Command). asked.steps) c.asked.view_is in
     handed_on _ _ _ c.from_residual.ensures.1
-    (subst (λ (steps : Option ℕ). OrMemory (IsFirst (check_stages steps c.args.net_text.items c.args.task_text.items)) fault) steps_is c.in_err-prepared.ensures)
+    (subst (λ (steps : Option ℕ). OrMemory (IsFirstRefusal (check_stages steps c.args.net_text.items c.args.task_text.items)) fault) steps_is c.in_err-prepared.ensures)
 
 pub returns-in_err-report_on : goal.returns-in_err-report_on
 returns-in_err-report_on g c = handed_on _ _ _ c.from_residual-in_err-report_on.ensures.1 (inl refl)

@@ -1,4 +1,4 @@
-use Rattle.ste_program.proofs.Ends.{all_passed, ended_faulted, ended_not_failed, ended_not_passed, ended_refused, ended_wanting, made_holds, made_later, made_named, not_all_passed, report_broke, why_holds, why_later, why_named}
+use Rattle.ste_program.proofs.Ends.{all_passed, ended_faulted, ended_not_failed, ended_not_passed, ended_refused, ended_out_of_memory, made_holds, made_later, made_named, not_all_passed, report_broke, why_holds, why_later, why_named}
 use Rattle.ste_program.proofs.run.answer.Goals as goal
 
 pub returns-in-Ok-clause-holds : goal.returns-in-Ok-clause-holds
@@ -39,7 +39,7 @@ pub returns-in-Err-clause-faulted : goal.returns-in-Err-clause-faulted
 returns-in-Err-clause-faulted g c = λ e. ended_faulted _ _ _ _ _ _ c.in-Err.refusal c.refuse.result c.in-Err.ensures c.refuse.ensures e
 
 pub returns-in-Err-clause-no_memory : goal.returns-in-Err-clause-no_memory
-returns-in-Err-clause-no_memory g c = λ e. ended_wanting _ _ _ _ _ _ c.in-Err.refusal c.refuse.result c.in-Err.ensures c.refuse.ensures e
+returns-in-Err-clause-no_memory g c = λ e. ended_out_of_memory _ _ _ _ _ _ c.in-Err.refusal c.refuse.result c.in-Err.ensures c.refuse.ensures e
 
 pub returns-in-Err-clause-passed : goal.returns-in-Err-clause-passed
 returns-in-Err-clause-passed g c = λ e. absurd (ended_not_passed _ _ _ _ _ c.in-Err.refusal c.refuse.result c.in-Err.ensures c.refuse.ensures e)

@@ -1,5 +1,5 @@
 use Rattle.ste_program.proofs.Broken.{passes_hold, runs_break}
-use Rattle.ste_program.proofs.Ends.{bounded_of, decided_of, sinks_later, told_wanting}
+use Rattle.ste_program.proofs.Ends.{bounded_of, decided_of, sinks_later, out_of_memory_written}
 use Rattle.ste_program.proofs.run.run.Goals as goal
 
 pub answer-requires-clause-bounded : goal.answer-requires-clause-bounded
@@ -29,4 +29,4 @@ pub returns-in-Err-clause-runs_break : goal.returns-in-Err-clause-runs_break
 returns-in-Err-clause-runs_break g c = runs_break _ _
 
 pub returns-in-Err-clause-no_memory : goal.returns-in-Err-clause-no_memory
-returns-in-Err-clause-no_memory g c = λ e. told_wanting _ _ _ c.tell.result c.tell.ensures e
+returns-in-Err-clause-no_memory g c = λ e. out_of_memory_written _ _ _ c.write_message.result c.write_message.ensures e

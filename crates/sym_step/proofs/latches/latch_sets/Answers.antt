@@ -15,6 +15,6 @@ returns-in-Some-clause-sets c =
     let asked : List NodeId = nodes_of c.args.demands.now.weak c.args.demands.now.cuts in
     let told : List Rails = c.in-Some.told in
     let is = c.as_slice.ensures ∙ ap (λ (o : Option (List Rails)). first_or o (map (input_rails (nets_of c.args.frame.now)) net.latches)) c.in-Some.ensures.value in
-    IfOk-weaker c.told_sets.result (λ sets. AreLatchSets net (next_of net c.args.frame.now) c.args.demands.now.weak asked c.args.frame.now.board.nets.items sets.items) _ (λ sets h was. h)
-    (subst (λ (xs : List NetRails). IfOk c.told_sets.result (λ sets. AreLatchSets net (next_of net c.args.frame.now) c.args.demands.now.weak asked xs sets.items)) c.deref.ensures.value
-    (subst (λ (next : List Rails). IfOk c.told_sets.result (λ sets. AreLatchSets net next c.args.demands.now.weak asked c.deref.result.now sets.items)) is c.told_sets.ensures))
+    IfOk-weaker c.given_sets.result (λ sets. AreLatchSets net (next_of net c.args.frame.now) c.args.demands.now.weak asked c.args.frame.now.board.nets.items sets.items) _ (λ sets h was. h)
+    (subst (λ (xs : List NetRails). IfOk c.given_sets.result (λ sets. AreLatchSets net (next_of net c.args.frame.now) c.args.demands.now.weak asked xs sets.items)) c.deref.ensures.value
+    (subst (λ (next : List Rails). IfOk c.given_sets.result (λ sets. AreLatchSets net next c.args.demands.now.weak asked c.deref.result.now sets.items)) is c.given_sets.ensures))

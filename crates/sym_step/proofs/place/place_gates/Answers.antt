@@ -2,7 +2,7 @@ use Rattle.std.specs.Global.{Vec}
 use Rattle.std.proofs.Common.{◌≡◌, ◌+◌, ◌<◌, ◌≤◌, List, length, map, All, ℕ, ◌++◌, refl, sym, ◌∙◌, ap, subst, arith, get_or, Ok, Err, Result, false}
 use Rattle.sym_step.specs.private.Parts.{asks, placed_set, placed_work}
 use Rattle.std.specs.List.{AllZip}
-use Rattle.dd_nodes.specs.Diagram.{Function}
+use Rattle.ste_base.specs.Functions.{Function}
 use Rattle.dd_nodes.specs.Stores.{Store, IsRef, function}
 use Rattle.dd_nodes.proofs.Walks.{IsFrom-grows}
 use Rattle.dd_ops.specs.declared.fault.OpFault.{OpFault}
@@ -15,7 +15,7 @@ use Rattle.sym_step.specs.declared.cut.Cut.{Cut}
 use Rattle.sym_step.specs.Step.{IsCutBy}
 use Rattle.net_core.specs.declared.raw.Gate.{Gate}
 use Rattle.net_core.specs.declared.raw.RawNet.{RawNet}
-use Rattle.net_core.specs.Work.{time_work, uncut}
+use Rattle.net_core.specs.Work.{time_work, set_before_cuts}
 use Rattle.sym_step.specs.Step.{ids_of}
 use Rattle.sym_step.specs.private.Demands.{nodes_of}
 use Rattle.net_core.specs.Flat.{IsSettledOrder}
@@ -42,7 +42,7 @@ Says net weak cuts gate t u result nets =
     (bs : List SymbolicCut) (b ws : ℕ → SymbolicSet) → AllZip (IsCutBy t) bs cuts → All (λ input. AreNetRails t (ws input.0) (net_at nets input.0)) gate.inputs → b gate.output.0 ≡ placed_set weak net ws gate
     → Built (some_bit (after_cuts bs b gate.output.0) ∷ (placed_work weak net ws gate ++ cuts_work bs b)) Whatever t u result
 
--- the place at hand, and its gate
+-- the current place, and its gate
 record Here (net : RawNet) (order : List ℕ) (n number : ℕ) (gate : Gate) : Type 0 where
   pub within : n < length order
   pub at : number ≡ get_or order n 0
@@ -148,7 +148,7 @@ loop-place-preserved g c =
       so = λ ls ds sets long family zip have.
           let f = inv.so ls ds sets long family zip have in
           let b = place_turn net.raw order net.in_range net.one_driver c.requires.order ls c.args.demands.now.weak ds sets long s t u cuts nets n number gate (Ok c.in_ok-renew.field-0) gs gt gu family zip f.0 f.1 h.within h.at h.is p.built in
-          let made : AreNetRails u (after_cuts ds (uncut net.raw (ids_of c.args.demands.now.weak) ls sets) out) r = p.have ds (uncut net.raw (ids_of c.args.demands.now.weak) ls sets) sets (Demands-keep s t ds cuts gs gt inv.keeps zip)
+          let made : AreNetRails u (after_cuts ds (set_before_cuts net.raw (ids_of c.args.demands.now.weak) ls sets) out) r = p.have ds (set_before_cuts net.raw (ids_of c.args.demands.now.weak) ls sets) sets (Demands-keep s t ds cuts gs gt inv.keeps zip)
           (ready net.raw order net.in_range net.one_driver c.requires.order ls c.args.demands.now.weak ds sets long t nets n number gate f.1 h.within h.at h.is)
           (before_is net.raw order net.in_range net.one_driver c.requires.order ls c.args.demands.now.weak ds sets long number gate h.known h.is) in
           let more : HaveGates net.raw order sets u (n + 1) new = subst (HaveGates net.raw order sets u (n + 1)) (sym p.nets)

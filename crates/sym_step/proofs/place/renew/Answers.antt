@@ -1,5 +1,5 @@
 use Rattle.std.proofs.Common.{◌≡◌, ◌<◌, ◌∷◌, ◌++◌, ℕ, List, All, length, get_or-set_same, sym, ◌∙◌, ap, subst, Ok}
-use Rattle.dd_nodes.specs.Diagram.{Function}
+use Rattle.ste_base.specs.Functions.{Function}
 use Rattle.dd_nodes.specs.Stores.{Store}
 use Rattle.net_core.specs.declared.raw.Gate.{Gate}
 use Rattle.net_core.specs.Work.{SymbolicSet, after_cuts, cuts_work, output_set, some_bit}

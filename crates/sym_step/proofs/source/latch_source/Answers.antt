@@ -1,5 +1,5 @@
 use Rattle.std.proofs.Common.{◌≡◌, sym, subst, ap, ◌∷◌, List, eqb-true, ◌∙◌}
-use Rattle.dd_nodes.specs.Diagram.{Function}
+use Rattle.ste_base.specs.Functions.{Function}
 use Rattle.dd_nodes.specs.Stores.{Store}
 use Rattle.net_core.specs.Work.{SymbolicSet, after_cuts, cuts_work, some_bit}
 use Rattle.dual_rail.proofs.Works.{So-start, Built-made}

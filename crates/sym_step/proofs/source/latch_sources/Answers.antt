@@ -2,7 +2,7 @@ use Rattle.std.proofs.Common.{◌<◌, List, map, length, All, ℕ, ◌∙◌, a
 use Rattle.sym_step.specs.private.Parts.{asks}
 use Rattle.sym_step.specs.private.Frames.{StayRight}
 use Rattle.gate_sets.specs.NetSets.{AreNetRails, AreNetRefs, HasNetSet, net_at}
-use Rattle.dd_nodes.specs.Diagram.{Function}
+use Rattle.ste_base.specs.Functions.{Function}
 use Rattle.dd_nodes.specs.Stores.{Store, IsRef, function}
 use Rattle.dd_nodes.proofs.Walks.{IsFrom-grows}
 use Rattle.net_core.specs.Work.{SymbolicSet, after_cuts, cuts_work}
@@ -10,7 +10,7 @@ use Rattle.dual_rail.specs.Rail.{Built, Whatever}
 use Rattle.dual_rail.proofs.Works.{Built-made, So-start, set_where, more, pass}
 use Rattle.dd_nodes.proofs.Stores.{Keeps-refl, Keeps-trans}
 use Rattle.sym_step.specs.declared.cut.Cut.{Cut}
-use Rattle.net_core.specs.Work.{uncut, time_work}
+use Rattle.net_core.specs.Work.{set_before_cuts, time_work}
 use Rattle.sym_step.specs.declared.latches.LatchSet.{LatchSet}
 use Rattle.sym_step.specs.private.Latches.{HaveLatchSets}
 use Rattle.sym_step.specs.Step.{ids_of}
@@ -86,7 +86,7 @@ loop-latch-preserved g c =
       so = λ ls ds sets given family asked.
           let q = inv.so ls ds sets given family asked in
           let work : List Function = time_work net.raw ls (asks c.args.demands.now.weak ds) sets in
-          let before : ℕ → SymbolicSet = uncut net.raw (ids_of c.args.demands.now.weak) ls sets in
+          let before : ℕ → SymbolicSet = set_before_cuts net.raw (ids_of c.args.demands.now.weak) ls sets in
           let w : SymbolicSet = after_cuts ds before id in
           let held : AreRails t (before id) latch.rails = Rails-keep s t (before id) latch.rails gs gt kst (given.rails n no_set within) in
           let covers = with_some net.raw net.settled net.in_range net.one_driver net.in_order ls c.args.demands.now.weak ds sets given.long t.vars id (cuts_work ds before) (subst (λ v. ArePossibleEach v net.raw ls (asks c.args.demands.now.weak ds) sets) (sym kst.vars) family) out (cuts_within net.raw c.args.demands.now.weak ls ds sets) in
@@ -122,7 +122,7 @@ returns-in_err-r-clause-built g c = λ ls ds sets given family asked.
     let fault = c.in_err-r.field-0.0 in
     let q = inv.so ls ds sets given family asked in
     let work : List Function = time_work net.raw ls (asks c.args.demands.now.weak ds) sets in
-    let before : ℕ → SymbolicSet = uncut net.raw (ids_of c.args.demands.now.weak) ls sets in
+    let before : ℕ → SymbolicSet = set_before_cuts net.raw (ids_of c.args.demands.now.weak) ls sets in
     let w : SymbolicSet = after_cuts ds before id in
     let held : AreRails t (before id) latch.rails = Rails-keep s t (before id) latch.rails gs gt kst (given.rails n no_set within) in
     let covers = with_some net.raw net.settled net.in_range net.one_driver net.in_order ls c.args.demands.now.weak ds sets given.long t.vars id (cuts_work ds before) (subst (λ v. ArePossibleEach v net.raw ls (asks c.args.demands.now.weak ds) sets) (sym kst.vars) family) out (cuts_within net.raw c.args.demands.now.weak ls ds sets) in

@@ -1,11 +1,11 @@
 use Rattle.std.proofs.Common.{List, ℕ, sym, ◌∙◌, subst}
-use Rattle.dd_nodes.specs.Diagram.{Function}
+use Rattle.ste_base.specs.Functions.{Function}
 use Rattle.dd_nodes.specs.Stores.{Store}
 use Rattle.net_core.specs.Work.{SymbolicSet, after_cuts, cuts_work}
 use Rattle.dual_rail.specs.Rail.{AreRails}
 use Rattle.dual_rail.proofs.Works.{So-start, Built-made}
 use Rattle.net_core.specs.declared.source.Source.TheVariants.{Input, Free, Latch as OfLatch}
-use Rattle.net_core.specs.Work.{uncut, everything}
+use Rattle.net_core.specs.Work.{set_before_cuts, everything}
 use Rattle.dual_rail.proofs.Works.{Built-good}
 use Rattle.net_core.specs.Possible.{is_weakened}
 use Rattle.sym_step.specs.Step.{ids_of}
@@ -31,8 +31,8 @@ pub returns-in-Gate : goal.returns-in-Gate
 returns-in-Gate g c = λ ls ds sets zip.
     let s : Store = g.N.Nodes.store c.args.nodes.now in
     let net = c.args.net.now.raw in
-    let w : SymbolicSet = after_cuts ds (uncut net (ids_of c.args.demands.now.weak) ls sets) c.args.id in
-    let work : List Function = some_bit w ∷ cuts_work ds (uncut net (ids_of c.args.demands.now.weak) ls sets) in
+    let w : SymbolicSet = after_cuts ds (set_before_cuts net (ids_of c.args.demands.now.weak) ls sets) c.args.id in
+    let work : List Function = some_bit w ∷ cuts_work ds (set_before_cuts net (ids_of c.args.demands.now.weak) ls sets) in
     Built-made work (IsOpened net w s c.args.now c.args.id) s s c.args.now (So-start work s)
     (c.requires.now, ⊎_elim (λ is. absurd (driven net c.args.id (OfGate c.in-Gate.field-0) (λ e. cc) (λ e. cc) (sym c.in-Gate.ensures) is)) (λ h. h))
 
@@ -40,8 +40,8 @@ pub returns-in-Latch : goal.returns-in-Latch
 returns-in-Latch g c = λ ls ds sets zip.
     let s : Store = g.N.Nodes.store c.args.nodes.now in
     let net = c.args.net.now.raw in
-    let w : SymbolicSet = after_cuts ds (uncut net (ids_of c.args.demands.now.weak) ls sets) c.args.id in
-    let work : List Function = some_bit w ∷ cuts_work ds (uncut net (ids_of c.args.demands.now.weak) ls sets) in
+    let w : SymbolicSet = after_cuts ds (set_before_cuts net (ids_of c.args.demands.now.weak) ls sets) c.args.id in
+    let work : List Function = some_bit w ∷ cuts_work ds (set_before_cuts net (ids_of c.args.demands.now.weak) ls sets) in
     Built-made work (IsOpened net w s c.args.now c.args.id) s s c.args.now (So-start work s)
     (c.requires.now, ⊎_elim (λ is. absurd (driven net c.args.id (OfLatch c.in-Latch.field-0) (λ e. cc) (λ e. cc) (sym c.in-Latch.ensures) is)) (λ h. h))
 
@@ -50,7 +50,7 @@ returns-in-Input g c = λ ls ds sets zip.
     let s : Store = g.N.Nodes.store c.args.nodes.now in
     let t : Store = g.N.Nodes.store c.cut_net.new.nodes in
     let net = c.args.net.now.raw in
-    let before : ℕ → SymbolicSet = uncut net (ids_of c.args.demands.now.weak) ls sets in
+    let before : ℕ → SymbolicSet = set_before_cuts net (ids_of c.args.demands.now.weak) ls sets in
     let have : AreRails s (before c.args.id) c.free.result = subst (λ (w : SymbolicSet). AreRails s w c.free.result) (sym (before_by net (ids_of c.args.demands.now.weak) ls sets c.args.id Input c.in-Input.ensures ∙ unless_both (is_weakened (ids_of c.args.demands.now.weak) c.args.id))) (subst (AreRails s everything) (sym c.free.ensures) (unknown_set s (g.met.N.Nodes.diagram c.args.nodes.now))) in
     Built-good (some_bit (after_cuts ds before c.args.id) ∷ cuts_work ds before) (HasNetSet (after_cuts ds before c.args.id)) (IsOpened net (after_cuts ds before c.args.id) s c.args.now c.args.id) s t c.cut_net.result (λ a h. (refs_of_net t _ a h, λ is. h)) (c.cut_net.ensures ds before zip have)
 
@@ -59,6 +59,6 @@ returns-in-Free g c = λ ls ds sets zip.
     let s : Store = g.N.Nodes.store c.args.nodes.now in
     let t : Store = g.N.Nodes.store c.cut_net-in-Free.new.nodes in
     let net = c.args.net.now.raw in
-    let before : ℕ → SymbolicSet = uncut net (ids_of c.args.demands.now.weak) ls sets in
+    let before : ℕ → SymbolicSet = set_before_cuts net (ids_of c.args.demands.now.weak) ls sets in
     let have : AreRails s (before c.args.id) c.free-in-Free.result = subst (λ (w : SymbolicSet). AreRails s w c.free-in-Free.result) (sym (before_by net (ids_of c.args.demands.now.weak) ls sets c.args.id Free c.in-Free.ensures ∙ unless_both (is_weakened (ids_of c.args.demands.now.weak) c.args.id))) (subst (AreRails s everything) (sym c.free-in-Free.ensures) (unknown_set s (g.met.N.Nodes.diagram c.args.nodes.now))) in
     Built-good (some_bit (after_cuts ds before c.args.id) ∷ cuts_work ds before) (HasNetSet (after_cuts ds before c.args.id)) (IsOpened net (after_cuts ds before c.args.id) s c.args.now c.args.id) s t c.cut_net-in-Free.result (λ a h. (refs_of_net t _ a h, λ is. h)) (c.cut_net-in-Free.ensures ds before zip have)

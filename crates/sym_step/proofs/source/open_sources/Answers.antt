@@ -6,7 +6,7 @@ use Rattle.ste_base.specs.declared.id.NodeId.{NodeId}
 use Rattle.std.specs.Prelude.{◌⊎◌}
 use Rattle.std.proofs.Common.{[], inl, inr}
 use Rattle.gate_sets.specs.NetSets.{AreNetRails, AreNetRefs, net_at, own_where}
-use Rattle.dd_nodes.specs.Diagram.{Function}
+use Rattle.ste_base.specs.Functions.{Function}
 use Rattle.dd_nodes.specs.Stores.{Store, IsRef, function}
 use Rattle.dd_nodes.proofs.Walks.{IsFrom-grows}
 use Rattle.net_core.specs.Work.{SymbolicSet, after_cuts, cuts_work}
@@ -14,7 +14,7 @@ use Rattle.dual_rail.specs.Rail.{Built, Whatever}
 use Rattle.dual_rail.proofs.Works.{Built-made, So-start, more, pass}
 use Rattle.dd_nodes.proofs.Stores.{Keeps-refl, Keeps-trans}
 use Rattle.sym_step.specs.declared.cut.Cut.{Cut}
-use Rattle.net_core.specs.Work.{uncut, time_work}
+use Rattle.net_core.specs.Work.{set_before_cuts, time_work}
 use Rattle.std.proofs.lemmas.List.{get_or_default}
 use Rattle.std.proofs.Common.{◌≡◌, get_or}
 use Rattle.sym_step.specs.Step.{ids_of}
@@ -69,7 +69,7 @@ loop-node-preserved g c =
       so = λ ls ds sets long family asked.
           let q = inv.so ls ds sets long family asked in
           let work : List Function = time_work net.raw ls (asks c.args.demands.now.weak ds) sets in
-          let before : ℕ → SymbolicSet = uncut net.raw (ids_of c.args.demands.now.weak) ls sets in
+          let before : ℕ → SymbolicSet = set_before_cuts net.raw (ids_of c.args.demands.now.weak) ls sets in
           let w : SymbolicSet = after_cuts ds before id in
           let good : Store → NetRails → Type 0 = IsOpened net.raw w t now id in
           let covers = with_some net.raw net.settled net.in_range net.one_driver net.in_order ls c.args.demands.now.weak ds sets long t.vars id (cuts_work ds before) (subst (λ v. ArePossibleEach v net.raw ls (asks c.args.demands.now.weak ds) sets) (sym kst.vars) family) out (cuts_within net.raw c.args.demands.now.weak ls ds sets) in
@@ -108,7 +108,7 @@ returns-in_err-r-clause-built g c = λ ls ds sets long family asked.
     let fault = c.in_err-r.field-0.0 in
     let q = inv.so ls ds sets long family asked in
     let work : List Function = time_work net.raw ls (asks c.args.demands.now.weak ds) sets in
-    let before : ℕ → SymbolicSet = uncut net.raw (ids_of c.args.demands.now.weak) ls sets in
+    let before : ℕ → SymbolicSet = set_before_cuts net.raw (ids_of c.args.demands.now.weak) ls sets in
     let w : SymbolicSet = after_cuts ds before id in
     let good : Store → NetRails → Type 0 = IsOpened net.raw w t now id in
     let covers = with_some net.raw net.settled net.in_range net.one_driver net.in_order ls c.args.demands.now.weak ds sets long t.vars id (cuts_work ds before) (subst (λ v. ArePossibleEach v net.raw ls (asks c.args.demands.now.weak ds) sets) (sym kst.vars) family) out (cuts_within net.raw c.args.demands.now.weak ls ds sets) in

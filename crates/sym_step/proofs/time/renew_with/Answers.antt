@@ -3,7 +3,7 @@ use Rattle.std.proofs.Common.{◌≡◌, ◌+◌, ◌<◌, ℕ, List, arith, All
 use Rattle.std.proofs.lemmas.List.{length-map}
 use Rattle.std.proofs.lemmas.Bool.{false≢true}
 use Rattle.dd_nodes.specs.declared.node.Ref.{Ref}
-use Rattle.dd_nodes.specs.Diagram.{Function}
+use Rattle.ste_base.specs.Functions.{Function}
 use Rattle.dd_nodes.specs.Stores.{Store}
 use Rattle.dual_rail.specs.declared.rails.Rails.{Rails}
 use Rattle.net_core.specs.Work.{SymbolicAsked, SymbolicSet, time_work}

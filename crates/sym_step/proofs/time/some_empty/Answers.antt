@@ -1,5 +1,5 @@
 use Rattle.std.proofs.Common.{false, ◌≡◌, ◌<◌, List, length, map, ◌+◌, ◌++◌, subst, arith, take, get_or, Ok, Err}
-use Rattle.dd_nodes.specs.Diagram.{Function}
+use Rattle.ste_base.specs.Functions.{Function}
 use Rattle.dd_nodes.specs.Stores.{Store, Means, function}
 use Rattle.net_core.specs.Work.{SymbolicSet}
 use Rattle.dual_rail.proofs.Works.{So-start, Built-made, first, pass}

@@ -1,8 +1,8 @@
 use Rattle.std.proofs.Common.{ℕ, List, Option, ◌++◌, map, refl, sym, ap, subst, Ok, Err}
 use Rattle.std.specs.List.{AllZip}
-use Rattle.dd_nodes.specs.Diagram.{Function}
+use Rattle.ste_base.specs.Functions.{Function}
 use Rattle.dd_nodes.specs.Stores.{Store}
-use Rattle.net_core.specs.Work.{SymbolicSet, first_sets, no_bit, some_bit, sum, sums, time_work}
+use Rattle.net_core.specs.Work.{SymbolicSet, sets_below, no_bit, some_bit, sum, sums, time_work}
 use Rattle.dual_rail.specs.Rail.{Built, HasFunction, Whatever}
 use Rattle.dual_rail.proofs.Works.{So-start, Built-made, Built-wider, first, more, pass}
 use Rattle.dd_nodes.specs.declared.node.Ref.{Ref}
@@ -50,7 +50,7 @@ returns-then-frame-clause-built g c = λ ls asked sets zip zipc weak family.
     let p = c.in_ok-renew_frame.ensures in
     let have : HaveNets net.raw sets t nets = p.have ls asked sets zip zipc weak family in
     let so1 = first work Whatever s t (Ok c.in_ok-renew_frame.field-0) (p.built ls asked sets zip zipc weak family) in
-    let all : List SymbolicSet = first_sets sets net.raw.nets in
+    let all : List SymbolicSet = sets_below sets net.raw.nets in
     let full : AreFull nets = subst AreFull c.deref.ensures.value (c.knows_full-frame.ensures c.if-frame.true) in
     let zero : Ref = record { 0 = 0 } in
     Built-made work (Good net.raw sets frame) s t zero so1
@@ -76,7 +76,7 @@ returns-in_err-contradictory-clause-built g c = λ ls asked sets zip zipc weak f
     let so1 = first work Whatever s t (Ok c.in_ok-renew_frame.field-0) (p.built ls asked sets zip zipc weak family) in
     let u : Store = g.N.Nodes.store c.some_empty.new.nodes in
     let gu = g.met.N.Nodes.diagram c.some_empty.new.nodes in
-    let all : List SymbolicSet = first_sets sets net.raw.nets in
+    let all : List SymbolicSet = sets_below sets net.raw.nets in
     let part : List Function = map some_bit all ++ (map no_bit all ++ sums (map no_bit all)) in
     let empty : Function = sum (map no_bit all) in
     let zipn : AllZip (AreNetRails t) all c.as_slice.result.now = subst (λ (xs : List NetRails). AllZip (AreNetRails t) all xs) (sym c.as_slice.ensures.value) (sets_zip net.raw sets t nets p.frame.long have) in
@@ -98,7 +98,7 @@ returns-clause-built g c = λ ls asked sets zip zipc weak family.
     let so1 = first work Whatever s t (Ok c.in_ok-renew_frame.field-0) (p.built ls asked sets zip zipc weak family) in
     let u : Store = g.N.Nodes.store c.some_empty.new.nodes in
     let gu = g.met.N.Nodes.diagram c.some_empty.new.nodes in
-    let all : List SymbolicSet = first_sets sets net.raw.nets in
+    let all : List SymbolicSet = sets_below sets net.raw.nets in
     let part : List Function = map some_bit all ++ (map no_bit all ++ sums (map no_bit all)) in
     let empty : Function = sum (map no_bit all) in
     let zipn : AllZip (AreNetRails t) all c.as_slice.result.now = subst (λ (xs : List NetRails). AllZip (AreNetRails t) all xs) (sym c.as_slice.ensures.value) (sets_zip net.raw sets t nets p.frame.long have) in

@@ -2,7 +2,7 @@ use Rattle.std.proofs.Common.{Option, ap, arith, refl, sym, subst}
 use Rattle.std.specs.Prelude.{IfSome}
 use Rattle.dd_nodes.specs.Stores.{Keeps, Store, gets}
 use Rattle.dd_growing.specs.Growing.{grown_store}
-use Rattle.dd_growing.specs.private.GrowingLaws.{growing_diagram, within_of}
+use Rattle.dd_growing.specs.GrowingLaws.{growing_diagram, within_of}
 use Rattle.sym_step.specs.declared.frame.Frame.{Frame}
 use Rattle.sym_step.specs.Frame.{IsFrame}
 use Rattle.work_pool.proofs.Frames.{last_keeps}
@@ -25,7 +25,7 @@ returns-clause-last c =
     let new = c.check-report.new.nodes in
     let t : Store = grown_store new.nodes.items new.base new.limit new.vars in
     let net = c.args.net.now.raw in
-    c.passed_on.ensures t net (growing_diagram new.vars new.nodes.items new.slots.items new.ordered new.indexed)
+    c.frame_to_carry.ensures t net (growing_diagram new.vars new.nodes.items new.slots.items new.ordered new.indexed)
     (subst (λ (o : Option Frame). IfSome o (IsFrame t net)) (sym c.take.ensures.value) c.check-report.ensures.last)
 
 pub returns-clause-within : goal.returns-clause-within

@@ -7,7 +7,7 @@ use Rattle.work_pool.specs.Pool.{AreMadeWithin}
 use Rattle.work_pool.specs.Told.{IsToldOf}
 use Rattle.work_pool.proofs.alone.run_alone.Given as goal
 
--- what is told and made so far, and a frame of the store where there is one
+-- what is reported and made so far, and a frame of the store where there is one
 abbrev pub invariant-loop-number : goal.invariant-loop-number
 invariant-loop-number g l = record {
   vars : l.nodes.vars ≡ length l.tasks.vars;

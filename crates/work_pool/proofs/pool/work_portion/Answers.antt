@@ -11,26 +11,26 @@ loop-i-preserved g c =
     let one = c.work_at.ensures in
     let first = c.args.jobs.now in
     let jobs = c.loop-i.jobs in
-    let next = c.hand_on.new.jobs in
+    let next = c.carry_to_next.new.jobs in
     let i = c.loop-i.i in
     let r = c.index-jobs-i.result in
     let new = c.work_at.new.job in
     let lt = c.loop-i-test.true in
     let at = c.index-jobs-i.is in
     record {
-      long = long_next (λ j. g.N.Nodes.store j.nodes) (λ j. j.place) (λ j. j.outcome) c.args.net.now.raw c.args.cubes c.args.tasks.now c.args.numbers.now first jobs next i r new was.long lt at was.same was.done was.rest one.place one.done c.hand_on.ensures.hands;
-      same = same_next (λ j. g.N.Nodes.store j.nodes) (λ j. j.place) (λ j. j.outcome) c.args.net.now.raw c.args.cubes c.args.tasks.now c.args.numbers.now first jobs next i r new was.long lt at was.same was.done was.rest one.place one.done c.hand_on.ensures.hands;
-      done = done_next (λ j. g.N.Nodes.store j.nodes) (λ j. j.place) (λ j. j.outcome) c.args.net.now.raw c.args.cubes c.args.tasks.now c.args.numbers.now first jobs next i r new was.long lt at was.same was.done was.rest one.place one.done c.hand_on.ensures.hands;
+      long = long_next (λ j. g.N.Nodes.store j.nodes) (λ j. j.place) (λ j. j.outcome) c.args.net.now.raw c.args.cubes c.args.tasks.now c.args.numbers.now first jobs next i r new was.long lt at was.same was.done was.rest one.place one.done c.carry_to_next.ensures.hands;
+      same = same_next (λ j. g.N.Nodes.store j.nodes) (λ j. j.place) (λ j. j.outcome) c.args.net.now.raw c.args.cubes c.args.tasks.now c.args.numbers.now first jobs next i r new was.long lt at was.same was.done was.rest one.place one.done c.carry_to_next.ensures.hands;
+      done = done_next (λ j. g.N.Nodes.store j.nodes) (λ j. j.place) (λ j. j.outcome) c.args.net.now.raw c.args.cubes c.args.tasks.now c.args.numbers.now first jobs next i r new was.long lt at was.same was.done was.rest one.place one.done c.carry_to_next.ensures.hands;
       frame = λ j more.
           let long = was.long in
           let e = length-set jobs i new in
-          c.hand_on.ensures.last c.args.net.now.raw j c.args.net.now.in_range (omega (arith, more, long, e))
+          c.carry_to_next.ensures.last c.args.net.now.raw j c.args.net.now.in_range (omega (arith, more, long, e))
           (subst (λ (job : _). IfSome c.work_at.new.last (IsFrame (g.N.Nodes.store job.nodes) c.args.net.now.raw)) (sym (get_or-set_same jobs i new j (omega (arith, lt, long)))) one.last);
-      rest = rest_next (λ j. g.N.Nodes.store j.nodes) (λ j. j.place) (λ j. j.outcome) c.args.net.now.raw c.args.cubes c.args.tasks.now c.args.numbers.now first jobs next i r new was.long lt at was.same was.done was.rest one.place one.done c.hand_on.ensures.hands;
+      rest = rest_next (λ j. g.N.Nodes.store j.nodes) (λ j. j.place) (λ j. j.outcome) c.args.net.now.raw c.args.cubes c.args.tasks.now c.args.numbers.now first jobs next i r new was.long lt at was.same was.done was.rest one.place one.done c.carry_to_next.ensures.hands;
     }
 
-pub hand_on-requires-clause-table : goal.hand_on-requires-clause-table
-hand_on-requires-clause-table g c =
+pub carry_to_next-requires-clause-table : goal.carry_to_next-requires-clause-table
+carry_to_next-requires-clause-table g c =
     one_table (λ j. g.N.Nodes.store j.nodes) (λ j. j.place) (λ j. j.outcome) c.args.jobs.now c.loop-i.jobs c.loop-i.i c.index-jobs-i.result c.work_at.new.job c.loop-i.invariant.long c.loop-i-test.true c.loop-i.invariant.rest c.requires.jobs.table c.work_at.ensures.table
 
 pub returns : goal.returns

@@ -5,7 +5,7 @@ use Rattle.dd_nodes.specs.declared.node.Ref.{Ref}
 use Rattle.dd_nodes.specs.declared.node.Node.{Node}
 use Rattle.dd_nodes.specs.Plain.{plain_held}
 use Rattle.dd_nodes.specs.Stores.{node_of}
-use Rattle.dd_growing.specs.private.Slots.{IsOnWalk, mark_of, slot_of}
+use Rattle.dd_growing.specs.private.Slots.{IsOnWalk, hash_of, slot_of}
 use Rattle.dd_growing.proofs.GrowingSteps.{IsRefused-full, IsRefused-room, Pushes-keeps, Pushes-made, Pushes-stands, absent_of}
 use Rattle.dd_growing.proofs.nodes.GrowingNodesNodes.mk.Goals as goal
 
@@ -21,8 +21,8 @@ returns-then-len-self-clause-out c =
     let full : length s.nodes.items - s.base ≡ s.limit = omega (arith, c.len.ensures, c.if-len-self.true) in (
       λ told. IsRefused-full s.nodes.items s.base s.limit s.vars c.args.var c.args.lo c.args.hi (apart c.args.lo c.args.hi _ c.eq.ensures c.if-eq.false) full
           (absent_of s.nodes.items s.slots.items node s.indexed
-          (subst (λ (xs : List Node). (r : Ref) → IsOnWalk s.slots.items node (slot_of (mark_of node) r) → plain_held xs r ≡ Some node → ⊥) c.deref.ensures.value
-          (subst (λ (ys : List ℕ). (r : Ref) → IsOnWalk ys node (slot_of (mark_of node) r) → plain_held c.deref.result.now r ≡ Some node → ⊥) c.deref-2.ensures.value c.in_default.ensures.none))),
+          (subst (λ (xs : List Node). (r : Ref) → IsOnWalk s.slots.items node (slot_of (hash_of node) r) → plain_held xs r ≡ Some node → ⊥) c.deref.ensures.value
+          (subst (λ (ys : List ℕ). (r : Ref) → IsOnWalk ys node (slot_of (hash_of node) r) → plain_held c.deref.result.now r ≡ Some node → ⊥) c.deref-2.ensures.value c.in_default.ensures.none))),
       λ refused. refl,
     )
 

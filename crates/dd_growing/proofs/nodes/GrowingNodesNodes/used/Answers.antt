@@ -1,5 +1,5 @@
 use Rattle.std.proofs.Common.{◌-◌, length, arith}
-use Rattle.dd_growing.specs.private.GrowingLaws.{length-refs_from}
+use Rattle.dd_growing.specs.GrowingLaws.{length-refs_from}
 use Rattle.dd_growing.proofs.nodes.GrowingNodesNodes.used.Goals as goal
 
 pub overflow_cast-result : goal.overflow_cast-result

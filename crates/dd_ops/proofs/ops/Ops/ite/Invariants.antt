@@ -1,4 +1,4 @@
 use Rattle.dd_ops.proofs.ops.Ops.ite.Given as goal
 
-abbrev pub ghosts-chosen : goal.ghosts-chosen
-ghosts-chosen g a = record { name = a.blank.name; parts = a.blank.parts }
+abbrev pub ghosts-choice : goal.ghosts-choice
+ghosts-choice g a = record { name = a.blank.name; parts = a.blank.parts }

@@ -1,4 +1,4 @@
 use Rattle.dd_ops.proofs.ops.Ops.xor.Given as goal
 
-abbrev pub ghosts-uncounted : goal.ghosts-uncounted
-ghosts-uncounted g a = record { name = a.blank.name; parts = a.blank.parts }
+abbrev pub ghosts-apply_uncounted : goal.ghosts-apply_uncounted
+ghosts-apply_uncounted g a = record { name = a.blank.name; parts = a.blank.parts }

@@ -1,6 +1,6 @@
 use Rattle.std.proofs.Common.{◌≡◌, map, subst}
 use Rattle.gate_sets.specs.declared.rows.CoverRows.{CoverRows}
-use Rattle.gate_sets.specs.private.Tables.{HaveTables}
+use Rattle.gate_sets.specs.private.TruthTables.{HaveTables}
 use Rattle.net_core.specs.declared.net.Net.{Net}
 use Rattle.gate_sets.specs.Lists.{rows_of}
 use Rattle.gate_sets.proofs.Placed.{rows_are}

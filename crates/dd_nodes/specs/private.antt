@@ -1,2 +1,0 @@
--- Definitions that serve private functions.
-pub mod PlainLaws

@@ -1,5 +1,0 @@
-use Rattle.ste_model.proofs.GraphVerdicts.{graph_findings_are_told}
-use Rattle.ste_model.proofs.graph_laws.graph_findings_are_told.Goals as goal
-
-pub returns : goal.returns
-returns c = graph_findings_are_told
