@@ -12,3 +12,9 @@ pub mod ExactTimes
 pub mod Reading
 pub mod Asked
 pub mod Resulting
+pub mod Breaches
+pub mod ChoiceLists
+pub mod WithChoices
+pub mod LeastCounters
+pub mod WiderCubes
+pub mod WholeReports

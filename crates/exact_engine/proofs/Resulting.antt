@@ -66,7 +66,7 @@ module _ (net : RawNet) (vars : ℕ) (task : Assertion) (bit : ℕ → ℕ → F
   work = exact_work net vars task wide
 
   -- they are the bits of the runs too
-  wide_exact : AreExactBits net vars task wide
+  pub wide_exact : AreExactBits net vars task wide
   wide_exact = record {
     is_run = λ bits l. subst (λ (xs : List Bool). IsTaskRun net task.reset (depth task) (λ t id. bit t id xs)) (sym (whole bits l)) (exact.is_run bits l);
     chosen = λ bits l. ap (λ (xs : List Bool). bits_at (choices net task) (λ t id. bit t id xs)) (whole bits l) ∙ exact.chosen bits l;
@@ -81,7 +81,7 @@ module _ (net : RawNet) (vars : ℕ) (task : Assertion) (bit : ℕ → ℕ → F
   met_first : IsOfFirst (vars + w) (met_where task wide)
   met_first = All-contains (IsOfFirst (vars + w)) work (met_where task wide) all_first (tail_in net vars task wide (met_where task wide) (0, omega arith, refl))
 
-  counter_first : IsOfFirst (vars + w) (counter_where task wide)
+  pub counter_first : IsOfFirst (vars + w) (counter_where task wide)
   counter_first = All-contains (IsOfFirst (vars + w)) work (counter_where task wide) all_first (tail_in net vars task wide (counter_where task wide) (1, omega arith, refl))
 
   -- some choices over all further variables, or over the choices alone

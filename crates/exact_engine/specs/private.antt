@@ -8,3 +8,6 @@ pub mod Asking
 pub mod Times
 pub mod Choosing
 pub mod Finishing
+pub mod Breaching
+pub mod Running
+pub mod Reporting

@@ -20,7 +20,7 @@ use std::alloc::Global;
 use ste_base::NodeId;
 
 /// The variable of the next choice behind a net: one more where the net is a choice.
-fn behind(next: u32, passes: bool, limit: u32) -> u32
+pub fn behind(next: u32, passes: bool, limit: u32) -> u32
     requires { IsTrue passes → next < limit }
     ensures { result ≡ (if passes then next + 1 else next) }
 {

@@ -12,14 +12,14 @@ use bool_expr::Expr;
 use dd_nodes::{Nodes, PlainNodes, Ref};
 use dd_ops::OpFault;
 use dd_query::eval;
-use exact_engine::{ExactResults, choices, exact_results};
+use exact_engine::{ExactResults, check_exact, choices, exact_results};
 use flat_net::flatten;
 use net_core::{Net, order};
 use net_names::NetNames;
 use std::alloc::{AllocError, Global};
 use std::test::Fail;
 use ste_base::{Items, Name, Time, VarId};
-use ste_model::{Assertion, Quint};
+use ste_model::{Assertion, CubeList, Quint, Report, Run, Verdict};
 
 /// An expression over two variables.
 #[derive(Clone, Copy, Drop)]
@@ -392,5 +392,344 @@ fn worked_examples_have_their_exact_results(rt: HostRuntime) -> Result<(), Fail>
         assert_eq!(&rt; choices(&ready.net, &task), *count);
         assert!(&rt; has_results(rt.alloc(), &ready, &task, *need, *strong, *contradictory)?);
     }
+    Ok(())
+}
+
+/// The literals of cubes, by the numbers of their variables.
+type Cubes = &'static [&'static [(u32, bool)]];
+
+/// A task, and what its exact report has to say: the strong and the contradictory assignments, and
+/// whether one of these lists has more; the least assignment, the failing place, and the run, a row
+/// for each of these nets.
+struct Expected {
+    text: &'static str,
+    reset: bool,
+    ant: &'static [Asked],
+    con: &'static [Asked],
+    max: u32,
+    verdict: Verdict,
+    strong: Cubes,
+    contradictory: Cubes,
+    more: bool,
+    least: Option<&'static [bool]>,
+    fails: Option<(&'static str, Time)>,
+    run: Option<&'static [(&'static str, &'static [bool])]>,
+}
+
+const MUX: &str = ".model mux\n.inputs s a b\n.outputs y\n.names s a b y\n01- 1\n1-1 1\n.end\n";
+
+const AND_LATCH: &str = ".model al\n.inputs a\n.outputs y\n.latch a b\n.names a b y\n11 1\n.end\n";
+
+/// The second latch is the one whose output has the lesser number.
+const TWO_LATCHES: &str =
+    ".model two\n.inputs d\n.outputs r y\n.latch d q\n.latch q r\n.names r q y\n01 1\n10 1\n.end\n";
+
+/// The exact reports of worked examples, which were found by hand.
+const REPORTS: &[Expected] = &[
+    // True, and not shown by sets of single nets.
+    Expected {
+        text: BOTH_SIGNS,
+        reset: false,
+        ant: &[],
+        con: &[("y", Value::One, Value::Zero, 0, 1)],
+        max: 8,
+        verdict: Verdict::Pass,
+        strong: &[],
+        contradictory: &[],
+        more: false,
+        least: None,
+        fails: None,
+        run: None,
+    },
+    // By sets weak: the input that breaks it is 1.
+    Expected {
+        text: INVERTER,
+        reset: false,
+        ant: &[],
+        con: &[("y", Value::One, Value::NotP, 0, 1)],
+        max: 8,
+        verdict: Verdict::Strong,
+        strong: &[&[]],
+        contradictory: &[],
+        more: false,
+        least: Some(&[false, false]),
+        fails: Some(("y", 0)),
+        run: Some(&[("a", &[true]), ("y", &[false])]),
+    },
+    // Nothing can be as it is given, and so it passes.
+    Expected {
+        text: INVERTER,
+        reset: false,
+        ant: &[
+            ("a", Value::One, Value::Zero, 0, 1),
+            ("a", Value::One, Value::One, 0, 1),
+        ],
+        con: &[("y", Value::One, Value::P, 0, 1)],
+        max: 8,
+        verdict: Verdict::Pass,
+        strong: &[],
+        contradictory: &[&[]],
+        more: false,
+        least: None,
+        fails: None,
+        run: None,
+    },
+    // Strong under some assignments and contradictory under others, with room for one cube.
+    Expected {
+        text: INVERTER,
+        reset: false,
+        ant: &[
+            ("a", Value::One, Value::P, 0, 1),
+            ("a", Value::One, Value::Q, 0, 1),
+        ],
+        con: &[("y", Value::P, Value::One, 0, 1)],
+        max: 1,
+        verdict: Verdict::Strong,
+        strong: &[&[(0, true), (1, true)]],
+        contradictory: &[&[(0, false), (1, true)]],
+        more: true,
+        least: Some(&[true, true]),
+        fails: Some(("y", 0)),
+        run: Some(&[("a", &[true]), ("y", &[false])]),
+    },
+    // Two inputs are left open, and one of them decides.
+    Expected {
+        text: MUX,
+        reset: false,
+        ant: &[("s", Value::One, Value::P, 0, 1)],
+        con: &[("y", Value::One, Value::Q, 0, 1)],
+        max: 8,
+        verdict: Verdict::Strong,
+        strong: &[&[]],
+        contradictory: &[],
+        more: false,
+        least: Some(&[false, false]),
+        fails: Some(("y", 0)),
+        run: Some(&[
+            ("s", &[false]),
+            ("a", &[true]),
+            ("b", &[false]),
+            ("y", &[true]),
+        ]),
+    },
+    // A latch that begins with 1, and what its input is then.
+    Expected {
+        text: LATCH,
+        reset: true,
+        ant: &[],
+        con: &[("q", Value::One, Value::One, 0, 3)],
+        max: 8,
+        verdict: Verdict::Strong,
+        strong: &[&[]],
+        contradictory: &[],
+        more: false,
+        least: Some(&[false, false]),
+        fails: Some(("q", 1)),
+        run: Some(&[("d", &[false, false, false]), ("q", &[true, false, false])]),
+    },
+    // By sets the first consequent is strong, at time 1, and the second one weak, at time 0; in the
+    // least run the second one is broken first.
+    Expected {
+        text: AND_LATCH,
+        reset: false,
+        ant: &[("a", Value::One, Value::One, 0, 1)],
+        con: &[
+            ("b", Value::One, Value::Zero, 1, 2),
+            ("y", Value::One, Value::One, 0, 1),
+        ],
+        max: 8,
+        verdict: Verdict::Strong,
+        strong: &[&[]],
+        contradictory: &[],
+        more: false,
+        least: Some(&[false, false]),
+        fails: Some(("y", 0)),
+        run: Some(&[
+            ("a", &[true, false]),
+            ("b", &[false, true]),
+            ("y", &[false, false]),
+        ]),
+    },
+    // First values stand by net, and not by latch.
+    Expected {
+        text: TWO_LATCHES,
+        reset: false,
+        ant: &[],
+        con: &[
+            ("y", Value::One, Value::Zero, 0, 1),
+            ("r", Value::One, Value::Zero, 1, 2),
+        ],
+        max: 8,
+        verdict: Verdict::Strong,
+        strong: &[&[]],
+        contradictory: &[],
+        more: false,
+        least: Some(&[false, false]),
+        fails: Some(("y", 0)),
+        run: Some(&[
+            ("d", &[false, false]),
+            ("r", &[false, true]),
+            ("q", &[true, false]),
+            ("y", &[true, true]),
+        ]),
+    },
+];
+
+/// Whether a cube has these literals.
+fn is_cube(cube: &[(VarId, bool)], literals: &[(u32, bool)]) -> bool {
+    cube.len() == literals.len()
+        && cube
+            .iter()
+            .zip(literals)
+            .all(|(one, other)| one.0.0 == other.0 && one.1 == other.1)
+}
+
+/// Whether a list has these cubes.
+fn has_cubes(list: &CubeList, cubes: Cubes) -> bool {
+    list.cubes.len() == cubes.len()
+        && list
+            .cubes
+            .as_slice()
+            .iter()
+            .zip(cubes)
+            .all(|(cube, literals)| is_cube(cube.as_slice(), literals))
+}
+
+/// Whether a report has the lists that it should have.
+fn has_lists(report: &Report, expected: &Expected) -> bool {
+    let guards = &report.guards;
+    has_cubes(&guards.strong, expected.strong)
+        && has_cubes(&guards.weak, &[])
+        && has_cubes(&guards.contradictory, expected.contradictory)
+        && guards.contradictory.more == expected.more
+}
+
+/// Whether it has the least assignment.
+fn has_least(report: &Report, expected: &Expected) -> bool {
+    match (&report.least, expected.least) {
+        (None, None) => true,
+        (Some(bits), Some(least)) => bits.as_slice() == least,
+        _ => false,
+    }
+}
+
+/// Whether it has the failing place.
+fn has_place(report: &Report, names: &NetNames, expected: &Expected) -> bool {
+    match (report.fails, expected.fails) {
+        (None, None) => true,
+        (Some((node, t)), Some((name, time))) => {
+            names.resolve(name.as_bytes()) == Some(node) && t == time
+        }
+        _ => false,
+    }
+}
+
+/// Whether a run has this row at the net of a name.
+fn has_row(run: &Run, names: &NetNames, name: &str, bits: &[bool]) -> bool {
+    let Some(node) = names.resolve(name.as_bytes()) else {
+        return false;
+    };
+    match run.rows.as_slice().get(node.0 as usize) {
+        Some(row) => row.as_slice() == bits,
+        None => false,
+    }
+}
+
+/// Whether it has the run.
+fn has_run(report: &Report, names: &NetNames, expected: &Expected) -> bool {
+    match (&report.run, expected.run) {
+        (None, None) => true,
+        (Some(run), Some(rows)) => {
+            rows.iter()
+                .all(|(name, bits)| has_row(run, names, name, bits))
+        }
+        _ => false,
+    }
+}
+
+/// Whether a report has all that it should have.
+fn has_all(report: &Report, names: &NetNames, expected: &Expected) -> bool {
+    report.verdict == expected.verdict
+        && has_lists(report, expected)
+        && has_least(report, expected)
+        && has_place(report, names, expected)
+        && has_run(report, names, expected)
+}
+
+/// The report of a task with so many steps.
+fn report_with(
+    alloc: Global,
+    ready: &Ready,
+    task: &Assertion,
+    steps: u32,
+    max: u32,
+) -> Result<Report, Fail>
+    requires steps { steps ≤ 1000 }
+    requires ant { All (λ quint. quint.node.0 < ready.now.net.raw.nets) task.now.ant }
+    requires con { All (λ quint. quint.node.0 < ready.now.net.raw.nets) task.now.con }
+    requires ant_reads { ReadBelow 2 task.now.ant }
+    requires con_reads { ReadBelow 2 task.now.con }
+{
+    if choices(&ready.net, task) > 6 {
+        return Err("too many choices".into());
+    }
+    if max == 0 {
+        return Err("no cubes".into());
+    }
+    let mut nodes = PlainNodes::new(alloc, 8, steps)?;
+    Ok(check_exact(alloc, &mut nodes, &ready.net, task, 2, max)?)
+}
+
+/// Whether the report of a worked example has all that it should have.
+fn is_reported(alloc: Global, ready: &Ready, expected: &Expected) -> Result<bool, Fail> {
+    let task = task_of(alloc, ready, expected.reset, expected.ant, expected.con)?;
+    let report = report_with(alloc, ready, &task, 1000, expected.max)?;
+    Ok(has_all(&report, &ready.names, expected))
+}
+
+/// The same for the net of its text.
+fn is_reported_by_text(alloc: Global, text: &[u8], expected: &Expected) -> Result<bool, Fail>
+    requires { length text.now ≤ 20000 }
+{
+    let ready = net_of(alloc, text)?;
+    is_reported(alloc, &ready, expected)
+}
+
+#[test]
+fn worked_examples_have_their_exact_reports(rt: HostRuntime) -> Result<(), Fail> {
+    for (number, expected) in REPORTS.iter().enumerate() {
+        let bytes = expected.text.as_bytes();
+        assert!(&rt; bytes.len() <= 20000);
+        assert!(&rt;
+            is_reported_by_text(rt.alloc(), bytes, expected)?,
+            "{number}"
+        );
+    }
+    Ok(())
+}
+
+/// Whether a report of no steps has nothing but its name and the verdict.
+fn is_blank(report: &Report) -> bool {
+    report.verdict == Verdict::Budget
+        && report.name.bytes() == b"t".as_slice()
+        && has_cubes(&report.guards.strong, &[])
+        && has_cubes(&report.guards.contradictory, &[])
+        && report.least.is_none()
+        && report.fails.is_none()
+        && report.run.is_none()
+}
+
+/// Whether an inverter's check has a blank report without steps.
+fn is_blank_without_steps(alloc: Global) -> Result<bool, Fail> {
+    let ready = net_of(alloc, INVERTER.as_bytes())?;
+    let claim = &[("y", Value::One, Value::NotP, 0, 1)];
+    let task = task_of(alloc, &ready, false, &[], claim)?;
+    let report = report_with(alloc, &ready, &task, 0, 8)?;
+    Ok(is_blank(&report))
+}
+
+#[test]
+fn a_budget_report_is_blank(rt: HostRuntime) -> Result<(), Fail> {
+    assert!(&rt; is_blank_without_steps(rt.alloc())?);
     Ok(())
 }
