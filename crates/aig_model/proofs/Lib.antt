@@ -6,3 +6,4 @@ pub mod Runs
 pub mod Sizes
 pub mod Sounds
 pub mod ModelCovers
+pub mod NetLiterals

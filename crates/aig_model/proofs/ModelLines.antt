@@ -91,8 +91,8 @@ output_in aig item h = let r = map_in (λ (at : AigOutput × List ℕ). output_i
 and_in : (aig : Aig) (item : Item) → In (map (and_item aig) aig.ands) item → IsItem aig item
 and_in aig item h = let r = map_in (and_item aig) aig.ands item h in and r.0 r.1 r.2
 
-latch_in : (aig : Aig) (item : Item) → In (map (latch_item aig) aig.latches) item → IsItem aig item
-latch_in aig item h = let r = map_in (latch_item aig) aig.latches item h in latch r.0 r.1 r.2
+aig_latch_in : (aig : Aig) (item : Item) → In (map (latch_item aig) aig.latches) item → IsItem aig item
+aig_latch_in aig item h = let r = map_in (latch_item aig) aig.latches item h in latch r.0 r.1 r.2
 
 either : {A B : Type 0} (C : Type 0) → A ⊎ B → (A → C) → (B → C) → C
 either C (inl a) f g = f a
@@ -116,7 +116,7 @@ item_is aig item (inr (inl e)) = outputs (ap (λ (i : Item). signal_words i.what
     (λ (i : Item). gate_of i.what) (sym e)) (ap
     (λ (i : Item). latch_of i.what) (sym e)) (ap use_of (sym e))
 item_is aig item (inr (inr h)) = either (IsItem aig item) (append_cases (map (latch_item aig)
-    aig.latches) (gate_items aig) item h) (latch_in aig item) (gate_in aig item)
+    aig.latches) (gate_items aig) item h) (aig_latch_in aig item) (gate_in aig item)
 
 -- what a gate of the model is
 pub data IsGate (aig : Aig) (gate : GateLine) : Type 0 where
@@ -183,21 +183,21 @@ is_zero_gate aig e = in_gates aig (zero_item aig) (zero_gate aig) (in_append_rig
     (in_append_right (map (opposite_item aig) (opposites aig)) _ (zero_item aig) (zero_there aig
     (mentions_zero aig) e)))) refl
 
-latch_with : (aig : Aig) (line : LatchLine) (item : Item) → IsItem aig item →
+aig_latch_with : (aig : Aig) (line : LatchLine) (item : Item) → IsItem aig item →
     latch_of item.what ≡ Some line → (l : AigLatch) × In aig.latches l × (latch_line aig l ≡ line)
-latch_with aig line item (inputs s g l u) e = absurd (cc (l, e))
-latch_with aig line item (outputs s g l u) e = absurd (cc (l, e))
-latch_with aig line item (latch l h i) e = (l, h, cc (ap (λ (j : Item). latch_of j.what) i ∙ e))
-latch_with aig line item (and a h i) e = absurd (cc (ap (λ (j : Item). latch_of j.what) i ∙ e))
-latch_with aig line item (output at h i) e = absurd (cc (ap (λ (j : Item). latch_of j.what) i ∙ e))
-latch_with aig line item (opposite v h i) e = absurd (cc (ap (λ (j : Item). latch_of j.what) i ∙ e))
-latch_with aig line item (zero_of h i) e = absurd (cc (ap (λ (j : Item). latch_of j.what) i ∙ e))
+aig_latch_with aig line item (inputs s g l u) e = absurd (cc (l, e))
+aig_latch_with aig line item (outputs s g l u) e = absurd (cc (l, e))
+aig_latch_with aig line item (latch l h i) e = (l, h, cc (ap (λ (j : Item). latch_of j.what) i ∙ e))
+aig_latch_with aig line item (and a h i) e = absurd (cc (ap (λ (j : Item). latch_of j.what) i ∙ e))
+aig_latch_with aig line item (output at h i) e = absurd (cc (ap (λ (j : Item). latch_of j.what) i ∙ e))
+aig_latch_with aig line item (opposite v h i) e = absurd (cc (ap (λ (j : Item). latch_of j.what) i ∙ e))
+aig_latch_with aig line item (zero_of h i) e = absurd (cc (ap (λ (j : Item). latch_of j.what) i ∙ e))
 
 -- each latch of the model is that of a latch line, and the other way round
 pub latch_is : (aig : Aig) (line : LatchLine) → In (latch_lines (model_of aig)) line →
     (l : AigLatch) × In aig.latches l × (latch_line aig l ≡ line)
 latch_is aig line h = let r = filter_map_in (λ (i : Item). latch_of i.what) (model_of aig).items
-    line h in latch_with aig line r.0 (item_is aig r.0 r.1) r.2
+    line h in aig_latch_with aig line r.0 (item_is aig r.0 r.1) r.2
 
 pub is_latch : (aig : Aig) (l : AigLatch) → In aig.latches l →
     In (latch_lines (model_of aig)) (latch_line aig l)

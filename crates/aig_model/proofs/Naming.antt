@@ -16,7 +16,7 @@ use Rattle.aig_model.specs.declared.aig.Aig.{Aig}
 use Rattle.aig_model.specs.declared.aig.AigLatch.{AigLatch}
 use Rattle.aig_model.specs.declared.aig.AigOutput.{AigOutput}
 use Rattle.aig_model.specs.declared.aig.Symbol.{Symbol}
-use Rattle.aig_model.specs.Names.{Label, is_own, labels, labels_from, names, names_behind, output_names, own_opposite, own_output, own_outputs, own_variable, usable_symbol, source_names, variable_name}
+use Rattle.aig_model.specs.Names.{Label, is_own, labels, labels_from, names, label_names, output_names, own_opposite, own_output, own_outputs, own_variable, usable_symbol, source_names, variable_name}
 use Rattle.aig_model.specs.Sound.{sources}
 
 -- what is known of a name and the own name: they are the same, or it is a symbol that was
@@ -59,7 +59,7 @@ served_fresh taken (Some name) own = step (is_own name) (list_any (bytes_eq name
 
 -- the names of things with the names of their own
 abbrev pub owned : List (List ℕ) → List Label → List (List ℕ × List ℕ)
-owned taken labels = zip (map (λ (label : Label). label.own) labels) (names_behind taken labels)
+owned taken labels = zip (map (λ (label : Label). label.own) labels) (label_names taken labels)
 
 fresh_before : (taken more : List (List ℕ)) (own name : List ℕ) → IsFresh (taken ++ more) own name →
     IsFresh taken own name
@@ -202,7 +202,7 @@ are_own aig = from_owns (labels aig) (λ name h. owns_own aig name (subst
     (λ ys. In ys name) (owns_are aig) h))
 
 names_long : (taken : List (List ℕ)) (labels : List Label) →
-    length (names_behind taken labels) ≡ length labels
+    length (label_names taken labels) ≡ length labels
 names_long taken [] = refl
 names_long taken (label ∷ labels) = ap suc (names_long (taken ++ option_to_list (usable_symbol taken
     label.symbol)) labels)

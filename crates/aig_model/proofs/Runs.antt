@@ -270,7 +270,7 @@ module _ (aig : Aig) (sound : IsSoundAig aig) (n : ℕ) (bit : ℕ → ℕ →
   )
 
 -- what a signal of the model is
-data IsSignal (aig : Aig) (signal : List ℕ) : Type 0 where
+pub data IsSignal (aig : Aig) (signal : List ℕ) : Type 0 where
   of_variable : (v : ℕ) → In (variables aig) v → variable_name aig v ≡ signal → IsSignal aig signal
   of_opposite : (v : ℕ) → In (opposites aig) v → own_opposite v ≡ signal → IsSignal aig signal
   of_output : (at : AigOutput × List ℕ) → In (named_outputs aig) at → at.1 ≡ signal →
@@ -352,7 +352,7 @@ item_word aig item signal (line.opposite v i e) h = inverter_word aig v signal i
 item_word aig item signal (line.zero_of m e) h = variable_word aig 0 signal (zero_in aig m) (subst
     (λ (x : Item). In (signal_words x.what) signal) (sym e) h)
 
-signal_is : (aig : Aig) (signal : List ℕ) → In (signals (model_of aig)) signal → IsSignal aig signal
+pub signal_is : (aig : Aig) (signal : List ℕ) → In (signals (model_of aig)) signal → IsSignal aig signal
 signal_is aig signal h = elim (set_in (flat_map
     (λ (item : Item). signal_words item.what) (model_of aig).items) [] signal h) as
     (λ _. IsSignal aig signal) [

@@ -203,6 +203,10 @@ module _ (aig : Aig) (sound : IsSoundAig aig) where
       two.literal ∙ ap (literal_of aig) (one_thing two.thing one.thing two.small one.small own)
       ∙ sym one.literal
 
+  pub one_named : (at other : List ℕ × ℕ) → In (things aig) at → In (things aig) other →
+      other.0 ≡ at.0 → other.1 ≡ at.1
+  one_named at other h g e = one_literal at other (thing_is at h) (thing_is other g) e
+
   thing_bit : (bit : ℕ → Bool) (at : List ℕ × ℕ) → In (things aig) at →
       bit_named bit (things aig) at.0 ≡ literal_bit bit at.1
   thing_bit bit at h = named_first bit (things aig) at h

@@ -9,8 +9,8 @@ use Rattle.aig_model.specs.declared.line.Header.{Header}
 use Rattle.aig_model.specs.declared.line.Header.TheVariants as header
 use Rattle.aig_model.specs.declared.line.Said.{Said}
 use Rattle.aig_model.specs.declared.line.Said.TheVariants as said
-use Rattle.aig_model.specs.Answer.{entries_of, entries_with}
-use Rattle.aig_model.specs.Faults.{first_words, later_lines}
+use Rattle.aig_model.specs.Answer.{text_entries, entries_with}
+use Rattle.aig_model.specs.Faults.{first_words, aig_later_lines}
 use Rattle.aig_model.specs.Lines.{header_of, said_at}
 use Rattle.aig_model.specs.Spelled.{entries_from, entry_onto}
 
@@ -56,15 +56,15 @@ with_few (header.Good head) lines = entries_few head 0 lines
 with_few (header.LeftOut word) lines = omega arith
 with_few header.Bad lines = omega arith
 
-later_few : (lines : List (List ℕ)) → length (later_lines lines) ≤ length lines
+later_few : (lines : List (List ℕ)) → length (aig_later_lines lines) ≤ length lines
 later_few [] = omega arith
 later_few (line ∷ lines) = omega arith
 
 -- no more lines say something than there are bytes
-pub entries_fit : (text : List ℕ) → length (entries_of text) ≤ length text
+pub entries_fit : (text : List ℕ) → length (text_entries text) ≤ length text
 entries_fit text =
     let lines = pieces is_line_feed text in
-    let one = with_few (header_of (first_words lines)) (later_lines lines) in
+    let one = with_few (header_of (first_words lines)) (aig_later_lines lines) in
     let two = later_few lines in
     let three = lines_few text in
     omega arith

@@ -24,14 +24,14 @@ use Rattle.aig_model.specs.declared.line.Literals.{Literals}
 use Rattle.aig_model.specs.declared.line.Literals.TheVariants.{One, Other, Three, Two}
 use Rattle.aig_model.specs.declared.line.Said.{Said}
 use Rattle.aig_model.specs.declared.line.Said.TheVariants as said
-use Rattle.aig_model.specs.Answer.{entries_of, entries_with}
+use Rattle.aig_model.specs.Answer.{text_entries, entries_with}
 use Rattle.aig_model.specs.ReadIsSound.{ReadIsSound}
-use Rattle.aig_model.specs.Faults.{defines, fault_of, fault_with, first_bad, first_faulty, first_words, is_formed, is_new, later_lines, may_stand, missing_line, or_else}
-use Rattle.aig_model.specs.Lines.{and_of, count_of, head_of, header_of, header_with, init_of, input_of, is_above_zero, is_count, latch_of, latch_with, literal_to, literals_of, literals_with, output_of, said_at, symbol_of, symbol_with, tail_of}
+use Rattle.aig_model.specs.Faults.{defines, text_fault, fault_with, first_bad, first_faulty, first_words, is_formed, is_new, aig_later_lines, aig_may_stand, missing_line, or_else}
+use Rattle.aig_model.specs.Lines.{and_of, count_of, head_of, header_of, header_with, aig_init_of, input_of, is_above_zero, is_count, aig_latch_of, aig_latch_with, literal_to, literals_of, literals_with, output_of, said_at, symbol_of, symbol_with, tail_of}
 use Rattle.aig_model.specs.Literals.{is_odd, variable_of}
 use Rattle.aig_model.specs.Sound.{IsSoundAig, and_literals, defined_variables, mentioned_literals, sources, variables}
-use Rattle.aig_model.specs.Spelled.{aig_of, and_in, entries_from, entry_onto, input_in, latch_in, output_in}
-use Rattle.aig_model.specs.Words.{greatest, is_definable, is_number, number_to}
+use Rattle.aig_model.specs.Spelled.{aig_of, and_in, entries_from, entry_onto, input_in, aig_latch_in, output_in}
+use Rattle.aig_model.specs.Words.{greatest_number, is_definable, is_aig_number, number_to}
 use Rattle.aig_model.proofs.Sizes.{entries_fit, fewer}
 
 -- a variable that may be defined, and one that may be mentioned
@@ -65,7 +65,7 @@ le_true a b e = grind arith
 
 literal_small : (most : ℕ) (word : List ℕ) → IfSome (literal_to most word)
     (λ n. n ≤ most + most + 1)
-literal_small most word = number_small (is_number word) (nat_le (number_of word) (most + most + 1))
+literal_small most word = number_small (is_aig_number word) (nat_le (number_of word) (most + most + 1))
     (number_of word) (most + most + 1) (le_true (number_of word) (most + most + 1))
 
 one_small : (most : ℕ) (a : Option ℕ) → IfSome a (λ n. n ≤ most + most + 1) →
@@ -137,7 +137,7 @@ input_within most (Three a b c) h = tt
 input_within most Other h = tt
 
 latch_by : (most first next : ℕ) (value : Option Init) → first ≤ most + most + 1 →
-    next ≤ most + most + 1 → IsWithin most (latch_with first next value)
+    next ≤ most + most + 1 → IsWithin most (aig_latch_with first next value)
 latch_by most first next None h g = tt
 latch_by most first next (Some value) h g = by (is_definable first) refl
   where
@@ -147,10 +147,10 @@ latch_by most first next (Some value) h g = by (is_definable first) refl
     by false e = tt
 
 latch_within : (most : ℕ) (literals : Literals) → AreWithin most literals →
-    IsWithin most (latch_of literals)
+    IsWithin most (aig_latch_of literals)
 latch_within most (One a) h = tt
 latch_within most (Two a b) h = latch_by most a b (Some init.Zero) h.0 h.1
-latch_within most (Three a b c) h = latch_by most a b (init_of a c) h.0 h.1
+latch_within most (Three a b c) h = latch_by most a b (aig_init_of a c) h.0 h.1
 latch_within most Other h = tt
 
 output_within : (most : ℕ) (literals : Literals) → AreWithin most literals →
@@ -196,7 +196,7 @@ said_within head n line =
     let small = literals_small head.most (words_of line) in
     either_within head.most (nat_lt n head.inputs) (input_of literals) _ (input_within head.most
     literals small)
-    (either_within head.most (nat_lt n (head.inputs + head.latches)) (latch_of literals) _
+    (either_within head.most (nat_lt n (head.inputs + head.latches)) (aig_latch_of literals) _
     (latch_within head.most literals small)
     (either_within head.most (nat_lt n (head.inputs + head.latches + head.outputs)) (output_of
     literals) _ (output_within head.most literals small)
@@ -250,7 +250,7 @@ input_from most v said.End h e = absurd (cc e)
 input_from most v said.Wrong h e = absurd (cc e)
 
 latch_from : (most line : ℕ) (l : AigLatch) (s : Said) → IsWithin most s →
-    latch_in line s ≡ Some l → IsDefined most l.var × (variable_of l.next ≤ most)
+    aig_latch_in line s ≡ Some l → IsDefined most l.var × (variable_of l.next ≤ most)
 latch_from most line l (said.Input var) h e = absurd (cc e)
 latch_from most line l (said.Latch var next value) h e = subst
     (λ (x : AigLatch). IsDefined most x.var × (variable_of x.next ≤ most)) (some_same e) h
@@ -295,7 +295,7 @@ and_from most line a said.Wrong h e = absurd (cc e)
 module _ (most : ℕ) (entries : List Entry) (all : AllWithin most entries) where
   a_latch : (l : AigLatch) → In (aig_of entries).latches l →
       IsDefined most l.var × (variable_of l.next ≤ most)
-  a_latch l h = let r = filter_map_in (λ (e : Entry). latch_in e.line e.said) entries l h in
+  a_latch l h = let r = filter_map_in (λ (e : Entry). aig_latch_in e.line e.said) entries l h in
       latch_from most r.0.line l r.0.said (all r.0 r.1) r.2
 
   an_and : (a : AigAnd) → In (aig_of entries).ands a →
@@ -417,7 +417,7 @@ not_true false e = refl
 
 -- a line in front of lines whose definitions are new
 line_new : (before : List ℕ) (line : ℕ) (s : Said) (entries : List Entry) →
-    may_stand before s ≡ true → AreNew (before ++ option_to_list (defines s)) (defined_variables (aig_of
+    aig_may_stand before s ≡ true → AreNew (before ++ option_to_list (defines s)) (defined_variables (aig_of
     entries)) → AreNew before (defined_variables (aig_of ((record { line = line; said = s }) ∷ entries)))
 line_new before line (said.Input var) entries e rest = new_inserted before [] (defined_variables (aig_of
     entries)) var (not_true (list_any (nat_eq var) before) e) rest
@@ -441,10 +441,10 @@ line_new before line said.Wrong entries e rest = absurd (cc e)
 all_new : (before : List ℕ) (entries : List Entry) → first_bad before entries ≡ None →
     AreNew before (defined_variables (aig_of entries))
 all_new before [] e = (tt, λ w h. absurd h)
-all_new before (entry ∷ entries) e = step (may_stand before entry.said) refl (all_new (before ++
+all_new before (entry ∷ entries) e = step (aig_may_stand before entry.said) refl (all_new (before ++
     option_to_list (defines entry.said)) entries) e
   where
-    step : (b : Bool) → may_stand before entry.said ≡ b →
+    step : (b : Bool) → aig_may_stand before entry.said ≡ b →
         (first_bad (before ++ option_to_list (defines entry.said)) entries ≡ None →
         AreNew (before ++ option_to_list (defines entry.said)) (defined_variables (aig_of entries))) →
         (if b then first_bad (before ++ option_to_list (defines entry.said)) entries else Some
@@ -454,8 +454,8 @@ all_new before (entry ∷ entries) e = step (may_stand before entry.said) refl (
 
 -- the numbers of a header are small
 head_small : (most inputs latches outputs ands : Option ℕ) (head : Head) →
-    IfSome most (λ n. n ≤ greatest) → head_of most inputs latches outputs ands ≡ Some head →
-    head.most ≤ greatest
+    IfSome most (λ n. n ≤ greatest_number) → head_of most inputs latches outputs ands ≡ Some head →
+    head.most ≤ greatest_number
 head_small None inputs latches outputs ands head h e = absurd (cc e)
 head_small (Some most) None latches outputs ands head h e = absurd (cc e)
 head_small (Some most) (Some inputs) None outputs ands head h e = absurd (cc e)
@@ -464,13 +464,13 @@ head_small (Some most) (Some inputs) (Some latches) (Some outputs) None head h e
 head_small (Some most) (Some inputs) (Some latches) (Some outputs) (Some ands) head h e = let same :
     most ≡ head.most = cc e in omega arith
 
-count_small : (word : List ℕ) → IfSome (count_of word) (λ n. n ≤ greatest)
-count_small word = number_small (is_number word) (nat_le (number_of word) greatest) (number_of word)
-    greatest (le_true (number_of word) greatest)
+count_small : (word : List ℕ) → IfSome (count_of word) (λ n. n ≤ greatest_number)
+count_small word = number_small (is_aig_number word) (nat_le (number_of word) greatest_number) (number_of word)
+    greatest_number (le_true (number_of word) greatest_number)
 
 with_small : (found : Option Head) (further : Option (List ℕ)) (head : Head) → ((one : Head) →
-    found ≡ Some one → one.most ≤ greatest) → header_with found further ≡ header.Good head →
-    head.most ≤ greatest
+    found ≡ Some one → one.most ≤ greatest_number) → header_with found further ≡ header.Good head →
+    head.most ≤ greatest_number
 with_small None further head h e = absurd (cc e)
 with_small (Some one) None head h e = let same : one.most ≡ head.most = ap
     (λ (x : Head). x.most) (good_same one head e) in let lt = h one refl in omega arith
@@ -480,13 +480,13 @@ with_small (Some one) None head h e = let same : one.most ≡ head.most = ap
 with_small (Some one) (Some word) head h e = absurd (cc e)
 
 either_small : (b : Bool) (head : Head) (good : Header) → (good ≡ header.Good head →
-    head.most ≤ greatest) → (if b then good else header.Bad) ≡ header.Good head →
-    head.most ≤ greatest
+    head.most ≤ greatest_number) → (if b then good else header.Bad) ≡ header.Good head →
+    head.most ≤ greatest_number
 either_small true head good h e = h e
 either_small false head good h e = absurd (cc e)
 
 pub header_small : (words : List (List ℕ)) (head : Head) → header_of words ≡ header.Good head →
-    head.most ≤ greatest
+    head.most ≤ greatest_number
 header_small [] head e = absurd (cc e)
 header_small (a ∷ []) head e = absurd (cc e)
 header_small (a ∷ b ∷ []) head e = absurd (cc e)
@@ -528,5 +528,5 @@ sound_with (header.Good head) words lines h e fits =
 pub read_is_sound : ReadIsSound
 read_is_sound bytes fits none =
     let lines = pieces is_line_feed bytes in
-    sound_with (header_of (first_words lines)) (first_words lines) (later_lines lines) refl none
+    sound_with (header_of (first_words lines)) (first_words lines) (aig_later_lines lines) refl none
     (let few = entries_fit bytes in omega arith)

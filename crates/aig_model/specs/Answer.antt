@@ -9,7 +9,7 @@ use Rattle.aig_model.specs.declared.fault.AigFault.TheVariants as fault
 use Rattle.aig_model.specs.declared.line.Entry.{Entry}
 use Rattle.aig_model.specs.declared.line.Header.{Header}
 use Rattle.aig_model.specs.declared.line.Header.TheVariants as header
-use Rattle.aig_model.specs.Faults.{fault_of, first_words, later_lines}
+use Rattle.aig_model.specs.Faults.{text_fault, first_words, aig_later_lines}
 use Rattle.aig_model.specs.Lines.{header_of}
 use Rattle.aig_model.specs.Netlist.{model_of}
 use Rattle.aig_model.specs.Spelled.{aig_of, entries_from}
@@ -20,19 +20,19 @@ entries_with (header.Good head) lines = entries_from head 0 lines
 entries_with other lines = []
 
 -- what the lines of a text say
-abbrev pub entries_of : List ℕ → List Entry
-entries_of bytes =
-    entries_with (header_of (first_words (pieces is_line_feed bytes))) (later_lines (pieces
+abbrev pub text_entries : List ℕ → List Entry
+text_entries bytes =
+    entries_with (header_of (first_words (pieces is_line_feed bytes))) (aig_later_lines (pieces
     is_line_feed bytes))
 
 -- what a text says
 abbrev pub spelled_aig : List ℕ → Aig
-spelled_aig bytes = aig_of (entries_of bytes)
+spelled_aig bytes = aig_of (text_entries bytes)
 
 -- the answer on a text: the one model that it is read as, or the fault of its first faulty line, or
 -- out of memory
 abbrev pub IsAigAnswer : List ℕ → Result Models AigFault → Type 0
-IsAigAnswer bytes (Ok models) = (fault_of bytes ≡ None) × (models.models ≡ model_of (spelled_aig
+IsAigAnswer bytes (Ok models) = (text_fault bytes ≡ None) × (models.models ≡ model_of (spelled_aig
     bytes) ∷ [])
 IsAigAnswer bytes (Err fault.OutOfMemory) = Unit {0}
-IsAigAnswer bytes (Err other) = fault_of bytes ≡ Some other
+IsAigAnswer bytes (Err other) = text_fault bytes ≡ Some other

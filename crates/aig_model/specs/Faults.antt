@@ -31,14 +31,14 @@ is_formed said.Wrong = false
 is_formed other = true
 
 -- the line may stand behind lines that define these variables
-abbrev pub may_stand : List ℕ → Said → Bool
-may_stand defined said = is_formed said && is_new defined (defines said)
+abbrev pub aig_may_stand : List ℕ → Said → Bool
+aig_may_stand defined said = is_formed said && is_new defined (defines said)
 
 -- the number of the first line that may not stand, behind lines that define these variables
 abbrev pub first_bad : List ℕ → List Entry → Option ℕ
 first_bad defined [] = None
 first_bad defined (entry ∷ entries) =
-    if may_stand defined entry.said
+    if aig_may_stand defined entry.said
     then first_bad (defined ++ option_to_list (defines entry.said)) entries
     else Some entry.line
 
@@ -68,9 +68,9 @@ first_words [] = []
 first_words (line ∷ lines) = words_of line
 
 -- the lines behind the first
-abbrev pub later_lines : List (List ℕ) → List (List ℕ)
-later_lines [] = []
-later_lines (line ∷ lines) = lines
+abbrev pub aig_later_lines : List (List ℕ) → List (List ℕ)
+aig_later_lines [] = []
+aig_later_lines (line ∷ lines) = lines
 
 -- the fault of a text with this header and these later lines
 abbrev pub fault_with : Header → List (List ℕ) → Option AigFault
@@ -80,7 +80,7 @@ fault_with (header.Good head) lines = option_map fault.BadLine (first_faulty hea
     0 lines))
 
 -- the fault of a text: of its first faulty line
-abbrev pub fault_of : List ℕ → Option AigFault
-fault_of bytes =
-    fault_with (header_of (first_words (pieces is_line_feed bytes))) (later_lines (pieces
+abbrev pub text_fault : List ℕ → Option AigFault
+text_fault bytes =
+    fault_with (header_of (first_words (pieces is_line_feed bytes))) (aig_later_lines (pieces
     is_line_feed bytes))

@@ -9,3 +9,4 @@ pub mod Faults
 pub mod Answer
 pub mod Corresponds
 pub mod ReadIsSound
+pub mod NetLiterals

@@ -18,15 +18,15 @@ use Rattle.aig_model.specs.declared.line.Literals.TheVariants.{One, Other, Three
 use Rattle.aig_model.specs.declared.line.Said.{Said}
 use Rattle.aig_model.specs.declared.line.Said.TheVariants as said
 use Rattle.aig_model.specs.Literals.{variable_of}
-use Rattle.aig_model.specs.Words.{greatest, is_definable, is_number, number_below, number_to}
+use Rattle.aig_model.specs.Words.{greatest_number, is_definable, is_aig_number, aig_number_below, number_to}
 
 -- a number of the header
 abbrev pub count_of : List ℕ → Option ℕ
-count_of word = number_to greatest word
+count_of word = number_to greatest_number word
 
 -- the word is a number of the header
 abbrev pub is_count : List ℕ → Bool
-is_count word = is_number word && nat_le (number_of word) greatest
+is_count word = is_aig_number word && nat_le (number_of word) greatest_number
 
 -- the number is not 0: some digit of it is not
 abbrev pub is_above_zero : List ℕ → Bool
@@ -83,25 +83,25 @@ input_of literals = said.Wrong
 
 -- the initial value of a latch with this first literal that its third literal says: 0, 1, or free
 -- where it is the first one
-abbrev pub init_of : ℕ → ℕ → Option Init
-init_of first third =
+abbrev pub aig_init_of : ℕ → ℕ → Option Init
+aig_init_of first third =
     if nat_eq third 0 then Some init.Zero
     else if nat_eq third 1 then Some init.One
     else if nat_eq third first then Some init.Free
     else None
 
 -- a latch, where there is its initial value
-abbrev pub latch_with : ℕ → ℕ → Option Init → Said
-latch_with first next None = said.Wrong
-latch_with first next (Some init) =
+abbrev pub aig_latch_with : ℕ → ℕ → Option Init → Said
+aig_latch_with first next None = said.Wrong
+aig_latch_with first next (Some init) =
     if is_definable first then said.Latch (variable_of first) next init else said.Wrong
 
 -- a latch line: two literals, or three, of which the first may be defined; without a third the
 -- initial value is 0
-abbrev pub latch_of : Literals → Said
-latch_of (Two first next) = latch_with first next (Some init.Zero)
-latch_of (Three first next third) = latch_with first next (init_of first third)
-latch_of literals = said.Wrong
+abbrev pub aig_latch_of : Literals → Said
+aig_latch_of (Two first next) = aig_latch_with first next (Some init.Zero)
+aig_latch_of (Three first next third) = aig_latch_with first next (aig_init_of first third)
+aig_latch_of literals = said.Wrong
 
 -- an output line: one literal
 abbrev pub output_of : Literals → Said
@@ -129,7 +129,7 @@ symbol_with kind (Some number) name =
 -- of the line
 abbrev pub symbol_of : Kind → ℕ → List ℕ → Said
 symbol_of kind count text =
-    symbol_with kind (number_below count (before is_space text))
+    symbol_with kind (aig_number_below count (before is_space text))
     (drop (suc (length (before is_space text))) text)
 
 -- a line behind those of literals, without the blanks at its end: a symbol, or `c`, which ends what
@@ -149,7 +149,7 @@ abbrev pub said_at : Head → ℕ → List ℕ → Said
 said_at head n line =
     if nat_lt n head.inputs then input_of (literals_of head.most (words_of line))
     else if nat_lt n (head.inputs + head.latches)
-    then latch_of (literals_of head.most (words_of line))
+    then aig_latch_of (literals_of head.most (words_of line))
     else if nat_lt n (head.inputs + head.latches + head.outputs)
     then output_of (literals_of head.most (words_of line))
     else if nat_lt n (head.inputs + head.latches + head.outputs + head.ands)

@@ -61,15 +61,15 @@ usable_symbol taken (Some name) = if is_own name || list_any (bytes_eq name) tak
 
 -- the names of labelled things, in turn: a symbol that serves, and else the own name; these
 -- symbols are taken
-abbrev pub names_behind : List (List ℕ) → List Label → List (List ℕ)
-names_behind taken [] = []
-names_behind taken (label ∷ labels) =
+abbrev pub label_names : List (List ℕ) → List Label → List (List ℕ)
+label_names taken [] = []
+label_names taken (label ∷ labels) =
     unwrap_or (usable_symbol taken label.symbol) label.own
-    ∷ names_behind (taken ++ option_to_list (usable_symbol taken label.symbol)) labels
+    ∷ label_names (taken ++ option_to_list (usable_symbol taken label.symbol)) labels
 
 -- the names of the inputs, latches and outputs, in this order
 abbrev pub names : Aig → List (List ℕ)
-names aig = names_behind [] (labels aig)
+names aig = label_names [] (labels aig)
 
 -- the names of the inputs and latches
 abbrev pub source_names : Aig → List (List ℕ)

@@ -2,11 +2,11 @@
 -- model.
 use Rattle.std.specs.Prelude.{◌≡◌, ◌≤◌, ℕ, List, None, length}
 use Rattle.aig_model.specs.Answer.{spelled_aig}
-use Rattle.aig_model.specs.Faults.{fault_of}
+use Rattle.aig_model.specs.Faults.{text_fault}
 use Rattle.aig_model.specs.Sound.{IsSoundAig}
 
 -- Law: a text without a fault defines no variable twice, nor 0, and all its variables, and the
 -- number of its outputs, are below 2^31.
 abbrev pub ReadIsSound : Type 0
-ReadIsSound = (bytes : List ℕ) → length bytes ≤ 67108864 → fault_of bytes ≡ None →
+ReadIsSound = (bytes : List ℕ) → length bytes ≤ 67108864 → text_fault bytes ≡ None →
     IsSoundAig (spelled_aig bytes)

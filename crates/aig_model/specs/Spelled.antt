@@ -32,15 +32,15 @@ input_in (said.Input var) = Some var
 input_in other = None
 
 -- the latch of a line of this number
-abbrev pub latch_in : ℕ → Said → Option AigLatch
-latch_in line (said.Latch var next init) = Some (record {
+abbrev pub aig_latch_in : ℕ → Said → Option AigLatch
+aig_latch_in line (said.Latch var next init) = Some (record {
   line = line;
   var = var;
   next = next;
   init
       = init;
 })
-latch_in line other = None
+aig_latch_in line other = None
 
 -- the output of a line of this number
 abbrev pub output_in : ℕ → Said → Option AigOutput
@@ -69,7 +69,7 @@ symbol_in kind other = None
 abbrev pub aig_of : List Entry → Aig
 aig_of entries = record {
   inputs = filter_map (λ (entry : Entry). input_in entry.said) entries;
-  latches = filter_map (λ (entry : Entry). latch_in entry.line entry.said) entries;
+  latches = filter_map (λ (entry : Entry). aig_latch_in entry.line entry.said) entries;
   outputs = filter_map (λ (entry : Entry). output_in entry.line entry.said) entries;
   ands = filter_map (λ (entry : Entry). and_in entry.line entry.said) entries;
   input_symbols = filter_map (λ (entry : Entry). symbol_in kind.Input entry.said) entries;

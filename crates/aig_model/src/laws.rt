@@ -1,6 +1,7 @@
 //! The laws of ASCII AIGER texts: each is the contract of a function that does nothing.
 
 ghost use Rattle.aig_model.specs.Corresponds.{LiteralsCorrespond};
+ghost use Rattle.aig_model.specs.NetLiterals.{NetsHaveLiterals};
 ghost use Rattle.aig_model.specs.ReadIsSound.{ReadIsSound};
 
 /// Law: literal runs, and the runs of the model that a text is read as, correspond one to one on
@@ -8,6 +9,12 @@ ghost use Rattle.aig_model.specs.ReadIsSound.{ReadIsSound};
 /// alike.
 pub fn literals_correspond()
     ensures { LiteralsCorrespond }
+{}
+
+/// Law: where a run of the model has the bits of a literal run, each net of the model has the bit of
+/// its literal.
+pub fn nets_have_literals()
+    ensures { NetsHaveLiterals }
 {}
 
 /// Law: what a text of at most 67,108,864 bytes says that has no fault is sound: no variable is

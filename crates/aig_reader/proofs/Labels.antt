@@ -6,14 +6,14 @@ use Rattle.aig_model.specs.declared.aig.Aig.{Aig}
 use Rattle.aig_model.specs.declared.aig.AigLatch.{AigLatch}
 use Rattle.aig_model.specs.declared.aig.AigOutput.{AigOutput}
 use Rattle.aig_model.specs.declared.aig.Symbol.{Symbol}
-use Rattle.aig_model.specs.Names.{Label, first_symbol, labels, labels_from, names, names_behind, own_output, own_outputs, own_variable, usable_symbol}
+use Rattle.aig_model.specs.Names.{Label, first_symbol, labels, labels_from, names, label_names, own_output, own_outputs, own_variable, usable_symbol}
 use Rattle.aig_model.proofs.Naming.{map_twice, outputs_long}
 use Rattle.aig_reader.specs.private.Labelled.{taken_behind}
 
 -- what is left gives the names and the taken symbols that all give
 pub record AreNamed (found held : List (List ℕ)) (left : List Label) (found_at held_at : List (List
     ℕ)) (all : List Label) : Type 0 where
-  pub names : found ++ names_behind held left ≡ found_at ++ names_behind held_at all
+  pub names : found ++ label_names held left ≡ found_at ++ label_names held_at all
   pub taken : taken_behind held left ≡ taken_behind held_at all
 
 pub named_begin : (names taken : List (List ℕ)) (all : List Label) →
@@ -49,15 +49,15 @@ named_turn symbols n i owns own name symbol names taken grown more names_at take
     let keys : more ≡ taken ++ option_to_list (usable_symbol taken (first_symbol n symbols)) = t ∙ ap
     (λ o. taken ++ option_to_list (usable_symbol taken o)) s in
     record {
-      names = (λ k. (g ∙ ap (λ x. names ++ x ∷ []) same) k ++ names_behind (keys k) rest)
+      names = (λ k. (g ∙ ap (λ x. names ++ x ∷ []) same) k ++ label_names (keys k) rest)
           ∙ append_assoc names (unwrap_or (usable_symbol taken (first_symbol n symbols)) own ∷ [])
-          (names_behind (taken ++ option_to_list (usable_symbol taken (first_symbol n symbols))) rest)
-          ∙ sym (ap (λ left. names ++ names_behind taken left) cut) ∙ inv.names;
+          (label_names (taken ++ option_to_list (usable_symbol taken (first_symbol n symbols))) rest)
+          ∙ sym (ap (λ left. names ++ label_names taken left) cut) ∙ inv.names;
       taken = ap (λ x. taken_behind x rest) keys ∙ sym (ap (taken_behind taken) cut) ∙ inv.taken;
     }
 
 names_append : (taken : List (List ℕ)) (first second : List Label) →
-    names_behind taken (first ++ second) ≡ names_behind taken first ++ names_behind (taken_behind
+    label_names taken (first ++ second) ≡ label_names taken first ++ label_names (taken_behind
     taken first) second
 names_append taken [] second = refl
 names_append taken (label ∷ first) second = ap
@@ -66,18 +66,18 @@ names_append taken (label ∷ first) second = ap
 
 -- three kinds of things, one after another
 pub three_kinds : (first second third : List Label) (one two three taken_one taken_two : List (List
-    ℕ)) → one ≡ names_behind [] first → taken_one ≡ taken_behind [] first →
-    two ≡ one ++ names_behind taken_one second → taken_two ≡ taken_behind taken_one second →
-    three ≡ two ++ names_behind taken_two third →
-    three ≡ names_behind [] (first ++ (second ++ third))
+    ℕ)) → one ≡ label_names [] first → taken_one ≡ taken_behind [] first →
+    two ≡ one ++ label_names taken_one second → taken_two ≡ taken_behind taken_one second →
+    three ≡ two ++ label_names taken_two third →
+    three ≡ label_names [] (first ++ (second ++ third))
 three_kinds first second third one two three taken_one taken_two e t f u g =
     let rest = names_append (taken_behind [] first) second third in
     g
-    ∙ (λ i. f i ++ names_behind (u i) third)
-    ∙ (λ i. (e i ++ names_behind (t i) second) ++ names_behind (taken_behind (t i) second) third)
-    ∙ append_assoc (names_behind [] first) (names_behind (taken_behind [] first) second)
-    (names_behind (taken_behind (taken_behind [] first) second) third)
-    ∙ sym (ap (λ xs. names_behind [] first ++ xs) rest)
+    ∙ (λ i. f i ++ label_names (u i) third)
+    ∙ (λ i. (e i ++ label_names (t i) second) ++ label_names (taken_behind (t i) second) third)
+    ∙ append_assoc (label_names [] first) (label_names (taken_behind [] first) second)
+    (label_names (taken_behind (taken_behind [] first) second) third)
+    ∙ sym (ap (λ xs. label_names [] first ++ xs) rest)
     ∙ sym (names_append [] first (second ++ third))
 
 -- the outputs' names of their own
@@ -106,16 +106,16 @@ append_none (x ∷ xs) = ap (λ ys. x ∷ ys) (append_none xs)
 -- nothing is left to name
 pub named_end : (found held found_at held_at : List (List ℕ)) (left all : List Label) → left ≡ [] →
     AreNamed found held left found_at held_at all →
-    (found ≡ found_at ++ names_behind held_at all) × (held ≡ taken_behind held_at all)
+    (found ≡ found_at ++ label_names held_at all) × (held ≡ taken_behind held_at all)
 named_end found held found_at held_at left all none inv = (
-  sym (append_none found) ∙ sym (ap (λ xs. found ++ names_behind held xs) none) ∙ inv.names,
+  sym (append_none found) ∙ sym (ap (λ xs. found ++ label_names held xs) none) ∙ inv.names,
   sym (ap (taken_behind held) none) ∙ inv.taken,
 )
 
 -- the names of what a text says, by the calls for each kind
 pub record Made (start held one held_one : List (List ℕ)) (symbols : List Symbol) (own : List (List
     ℕ)) : Type 0 where
-  pub names : one ≡ start ++ names_behind held (labels_from symbols 0 own)
+  pub names : one ≡ start ++ label_names held (labels_from symbols 0 own)
   pub taken : held_one ≡ taken_behind held (labels_from symbols 0 own)
 
 pub names_made : (aig : Aig) (start held one held_one two held_two three held_three : List (List ℕ))
@@ -135,11 +135,11 @@ names_made aig start held one held_one two held_two three held_three own_inputs 
     aig.latch_symbols 0 (map (λ (l : AigLatch). own_variable l.var) aig.latches)) (labels_from
     aig.output_symbols 0 (own_outputs 0 aig.outputs))
     one two three held_one held_two
-    (first.names ∙ (λ i. s i ++ names_behind (h i) (labels_from (si i) 0 (oi i))))
+    (first.names ∙ (λ i. s i ++ label_names (h i) (labels_from (si i) 0 (oi i))))
     (first.taken ∙ (λ i. taken_behind (h i) (labels_from (si i) 0 (oi i))))
-    (second.names ∙ (λ i. one ++ names_behind held_one (labels_from (sl i) 0 (latches i))))
+    (second.names ∙ (λ i. one ++ label_names held_one (labels_from (sl i) 0 (latches i))))
     (second.taken ∙ (λ i. taken_behind held_one (labels_from (sl i) 0 (latches i))))
-    (third.names ∙ (λ i. two ++ names_behind held_two (labels_from (so i) 0 (oo i))))
+    (third.names ∙ (λ i. two ++ label_names held_two (labels_from (so i) 0 (oo i))))
 
 -- no thing is left
 pub labels_done : (symbols : List Symbol) (n i : ℕ) (owns : List (List ℕ)) → length owns ≤ i →

@@ -15,10 +15,10 @@ use Rattle.aig_model.specs.declared.line.Header.{Header}
 use Rattle.aig_model.specs.declared.line.Header.TheVariants.{Bad, Good}
 use Rattle.aig_model.specs.declared.line.Said.{Said}
 use Rattle.aig_model.specs.declared.line.Said.TheVariants as said
-use Rattle.aig_model.specs.Answer.{entries_of, entries_with}
-use Rattle.aig_model.specs.Faults.{defines, fault_of, fault_with, first_bad, first_faulty, first_words, later_lines, lines_asked, may_stand, missing_line, or_else}
+use Rattle.aig_model.specs.Answer.{text_entries, entries_with}
+use Rattle.aig_model.specs.Faults.{defines, text_fault, fault_with, first_bad, first_faulty, first_words, aig_later_lines, lines_asked, aig_may_stand, missing_line, or_else}
 use Rattle.aig_model.specs.Lines.{count_of, head_of, header_of, header_with, is_above_zero, is_count, said_at}
-use Rattle.aig_model.specs.Words.{greatest, is_number}
+use Rattle.aig_model.specs.Words.{greatest_number, is_aig_number}
 use Rattle.aig_model.specs.Spelled.{aig_of, entries_from, entry_onto}
 use Rattle.aig_reader.specs.private.Drafts.{AreLines, IsFinished, IsText, is_end, no_aig, said_added}
 
@@ -145,12 +145,12 @@ entries_cut head count line rest behind s r is go =
     after n = omega arith
 
 stands : (defined : List ℕ) (s : Said) (line : ℕ) (entries : List Entry) →
-    may_stand defined s ≡ true → first_bad defined ((record { line = line; said = s }) ∷ entries) ≡
+    aig_may_stand defined s ≡ true → first_bad defined ((record { line = line; said = s }) ∷ entries) ≡
     first_bad (defined ++ option_to_list (defines s)) entries
 stands defined s line entries e = rw e refl
 
 falls : (defined : List ℕ) (s : Said) (line : ℕ) (entries : List Entry) →
-    may_stand defined s ≡ false → first_bad defined ((record { line = line; said = s }) ∷ entries) ≡
+    aig_may_stand defined s ≡ false → first_bad defined ((record { line = line; said = s }) ∷ entries) ≡
     Some line
 falls defined s line entries e = rw e refl
 
@@ -175,7 +175,7 @@ next_entries head count rest line behind at s next go =
 pub turn : (head : Head) (aig grows : Aig) (defined more : List ℕ) (count : ℕ) (rest line behind
     text : List ℕ) (at : Option ℕ) (s : Said) (end good : Bool) →
     IsNext head count rest line behind at s → end ≡ is_end s → end ≡ false →
-    good ≡ may_stand defined s → good ≡ true → more ≡ defined ++ option_to_list (defines s) →
+    good ≡ aig_may_stand defined s → good ≡ true → more ≡ defined ++ option_to_list (defines s) →
     grows ≡ said_added aig (count + 2) s → Decide head aig defined count (pieces is_line_feed rest)
     (pieces is_line_feed text) → Decide head grows more (count + 1) (pieces is_line_feed behind)
     (pieces is_line_feed text)
@@ -193,7 +193,7 @@ turn head aig grows defined more count rest line behind text at s end good next 
 -- a line that may not stand
 pub bad_line : (head : Head) (aig : Aig) (defined : List ℕ) (count : ℕ) (rest line behind text :
     List ℕ) (at : Option ℕ) (s : Said) (end good : Bool) → IsNext head count rest line behind at s →
-    end ≡ is_end s → end ≡ false → good ≡ may_stand defined s → good ≡ false →
+    end ≡ is_end s → end ≡ false → good ≡ aig_may_stand defined s → good ≡ false →
     Decide head aig defined count (pieces is_line_feed rest) (pieces is_line_feed text) →
     first_faulty head (entries_from head 0 (pieces is_line_feed text)) ≡ Some (count + 2)
 bad_line head aig defined count rest line behind text at s end good next e go f g inv =
@@ -294,7 +294,7 @@ no_longer text behind at e h =
 header_same : (bytes line rest : List ℕ) (at : Option ℕ) (head : Header) →
     at ≡ position is_line_feed bytes → line ≡ take (unwrap_or at (length bytes)) bytes →
     rest ≡ drop (suc (unwrap_or at (length bytes))) bytes → head ≡ header_of (words_of line) →
-    (header_of (first_words (pieces is_line_feed bytes)) ≡ head) × (later_lines (pieces is_line_feed
+    (header_of (first_words (pieces is_line_feed bytes)) ≡ head) × (aig_later_lines (pieces is_line_feed
     bytes) ≡ pieces is_line_feed rest)
 header_same [] line rest at head a l r h =
     let none : unwrap_or at 0 ≡ 0 = ap (λ o. unwrap_or o 0) a in (
@@ -305,20 +305,20 @@ header_same [] line rest at head a l r h =
     )
 header_same (byte ∷ bytes) line rest at head a l r h =
     let cut = line_cut (byte ∷ bytes) line rest at (omega arith) a l r in
-    (ap (λ lines. header_of (first_words lines)) cut ∙ sym h, ap later_lines cut)
+    (ap (λ lines. header_of (first_words lines)) cut ∙ sym h, ap aig_later_lines cut)
 
-pub text_fault : (bytes line rest : List ℕ) (at : Option ℕ) (head : Header) →
+pub fault_by_lines : (bytes line rest : List ℕ) (at : Option ℕ) (head : Header) →
     at ≡ position is_line_feed bytes → line ≡ take (unwrap_or at (length bytes)) bytes →
     rest ≡ drop (suc (unwrap_or at (length bytes))) bytes → head ≡ header_of (words_of line) →
-    fault_of bytes ≡ fault_with head (pieces is_line_feed rest)
-text_fault bytes line rest at head a l r h = let same = header_same bytes line rest at head a l r h
+    text_fault bytes ≡ fault_with head (pieces is_line_feed rest)
+fault_by_lines bytes line rest at head a l r h = let same = header_same bytes line rest at head a l r h
     in (λ i. fault_with (same.0 i) (same.1 i))
 
-text_entries : (bytes line rest : List ℕ) (at : Option ℕ) (head : Header) →
+entries_by_lines : (bytes line rest : List ℕ) (at : Option ℕ) (head : Header) →
     at ≡ position is_line_feed bytes → line ≡ take (unwrap_or at (length bytes)) bytes →
     rest ≡ drop (suc (unwrap_or at (length bytes))) bytes → head ≡ header_of (words_of line) →
-    entries_of bytes ≡ entries_with head (pieces is_line_feed rest)
-text_entries bytes line rest at head a l r h = let same = header_same bytes line rest at head a l r
+    text_entries bytes ≡ entries_with head (pieces is_line_feed rest)
+entries_by_lines bytes line rest at head a l r h = let same = header_same bytes line rest at head a l r
     h in (λ i. entries_with (same.0 i) (same.1 i))
 
 -- and by what the lines behind it are answered with
@@ -327,20 +327,20 @@ pub text_read : (bytes line rest : List ℕ) (at : Option ℕ) (head : Head) (re
     rest ≡ drop (suc (unwrap_or at (length bytes))) bytes → Good head ≡ header_of (words_of line) →
     AreLines head (pieces is_line_feed rest) result → IsText bytes result
 text_read bytes line rest at head (Ok aig) a l r h read = (
-  text_fault bytes line rest at (Good head)
+  fault_by_lines bytes line rest at (Good head)
       a l r h ∙ ap (option_map BadLine) read.0,
   read.1
-      ∙ ap aig_of (sym (text_entries bytes line rest at (Good head) a l r h)),
+      ∙ ap aig_of (sym (entries_by_lines bytes line rest at (Good head) a l r h)),
 )
-text_read bytes line rest at head (Err (BadLine n)) a l r h read = text_fault bytes line rest at
+text_read bytes line rest at head (Err (BadLine n)) a l r h read = fault_by_lines bytes line rest at
     (Good head) a l r h ∙ ap (option_map BadLine) read
 text_read bytes line rest at head (Err (LeftOut n word)) a l r h read = absurd read
 text_read bytes line rest at head (Err OutOfMemory) a l r h read = tt
 
 -- the numbers of a header are small
 head_small : (most inputs latches outputs ands : Option ℕ) (head : Head) →
-    IfSome most (λ n. n ≤ greatest) → head_of most inputs latches outputs ands ≡ Some head →
-    head.most ≤ greatest
+    IfSome most (λ n. n ≤ greatest_number) → head_of most inputs latches outputs ands ≡ Some head →
+    head.most ≤ greatest_number
 head_small None inputs latches outputs ands head h e = absurd (cc e)
 head_small (Some most) None latches outputs ands head h e = absurd (cc e)
 head_small (Some most) (Some inputs) None outputs ands head h e = absurd (cc e)
@@ -355,13 +355,13 @@ number_small true true n max h = h refl
 number_small true false n max h = tt
 number_small false small n max h = tt
 
-count_small : (word : List ℕ) → IfSome (count_of word) (λ n. n ≤ greatest)
-count_small word = number_small (is_number word) (nat_le (number_of word) greatest) (number_of word)
-    greatest (λ e. grind (arith, e))
+count_small : (word : List ℕ) → IfSome (count_of word) (λ n. n ≤ greatest_number)
+count_small word = number_small (is_aig_number word) (nat_le (number_of word) greatest_number) (number_of word)
+    greatest_number (λ e. grind (arith, e))
 
 with_small : (found : Option Head) (further : Option (List ℕ)) (head : Head) → ((one : Head) →
-    found ≡ Some one → one.most ≤ greatest) → header_with found further ≡ Good head →
-    head.most ≤ greatest
+    found ≡ Some one → one.most ≤ greatest_number) → header_with found further ≡ Good head →
+    head.most ≤ greatest_number
 with_small None further head h e = absurd (cc e)
 with_small (Some one) None head h e = let same : one.most ≡ head.most = ap
     (λ (x : Head). x.most) (good_same one head e) in let lt = h one refl in omega arith
@@ -371,12 +371,12 @@ with_small (Some one) None head h e = let same : one.most ≡ head.most = ap
 with_small (Some one) (Some word) head h e = absurd (cc e)
 
 either_small : (b : Bool) (head : Head) (good : Header) → (good ≡ Good head →
-    head.most ≤ greatest) → (if b then good else Bad) ≡ Good head → head.most ≤ greatest
+    head.most ≤ greatest_number) → (if b then good else Bad) ≡ Good head → head.most ≤ greatest_number
 either_small true head good h e = h e
 either_small false head good h e = absurd (cc e)
 
 pub header_small : (words : List (List ℕ)) (head : Head) → header_of words ≡ Good head →
-    head.most ≤ greatest
+    head.most ≤ greatest_number
 header_small [] head e = absurd (cc e)
 header_small (a ∷ []) head e = absurd (cc e)
 header_small (a ∷ b ∷ []) head e = absurd (cc e)

@@ -8,7 +8,7 @@ use Rattle.blif_lines.proofs.Scanning.{first_piece, front, place}
 use Rattle.aig_model.specs.declared.aig.Kind.{Kind}
 use Rattle.aig_model.specs.declared.line.Said.{Said}
 use Rattle.aig_model.specs.Lines.{is_space, symbol_of, symbol_with}
-use Rattle.aig_model.specs.Words.{number_below}
+use Rattle.aig_model.specs.Words.{aig_number_below}
 
 -- a byte that is no blank
 abbrev pub is_other : ℕ → Bool
@@ -81,7 +81,7 @@ none_found text rest start s r none =
 pub symbol_cut : {E : Type 0} (kind : Kind) (count : ℕ) (text digits name : List ℕ) (at number :
     Option ℕ) (result : Result Said E) → at ≡ position is_space text →
     digits ≡ take (unwrap_or at (length text)) text →
-    name ≡ drop (suc (unwrap_or at (length text))) text → number ≡ number_below count digits →
+    name ≡ drop (suc (unwrap_or at (length text))) text → number ≡ aig_number_below count digits →
     IfOk result (λ said. said ≡ symbol_with kind number name) →
     IfOk result (λ said. said ≡ symbol_of kind count text)
 symbol_cut kind count text digits name at number result a d n m h =
@@ -92,5 +92,5 @@ symbol_cut kind count text digits name at number result a d n m h =
     let more : name ≡ drop (suc (length (before is_space text))) text = n ∙ ap
     (λ k. drop (suc k) text) to in
     let same : symbol_with kind number name ≡ symbol_of kind count text = (λ i. symbol_with kind ((m
-    ∙ ap (number_below count) one) i) (more i)) in
+    ∙ ap (aig_number_below count) one) i) (more i)) in
     subst (λ x. IfOk result (λ said. said ≡ x)) same h

@@ -2,11 +2,11 @@
 
 ghost use Rattle.std.specs.Prelude.{◌≡◌, ◌≤◌, ◌<◌, ◌^◌, IfOk};
 ghost use Rattle.blif_lines.specs.Lines.{words_of};
-ghost use Rattle.aig_model.specs.Lines.{and_of, init_of, input_of, latch_of, latch_with, literals_of, output_of, said_at, symbol_of, symbol_with, tail_of};
-ghost use Rattle.aig_model.specs.Words.{greatest};
+ghost use Rattle.aig_model.specs.Lines.{and_of, aig_init_of, input_of, aig_latch_of, aig_latch_with, literals_of, output_of, said_at, symbol_of, symbol_with, tail_of};
+ghost use Rattle.aig_model.specs.Words.{greatest_number};
 
 use crate::scan::{cut, space, trimmed_text, word};
-use crate::words::{is_definable, literal, number_below, variable_of};
+use crate::words::{aig_number_below, is_definable, literal, variable_of};
 use aig_model::{Head, Kind, Literals, Said, Symbol};
 use net_core::Init;
 use std::alloc::{AllocError, Global};
@@ -14,7 +14,7 @@ use ste_base::Name;
 
 /// The literals of a line, where there are one to three.
 fn literals(most: u32, line: &[u8]) -> Literals
-    requires { most ≤ greatest }
+    requires { most ≤ greatest_number }
     ensures { result ≡ literals_of most (words_of line.now) }
 {
     let Some((first, behind_first)) = word(line) else {
@@ -58,8 +58,8 @@ fn input_of(literals: Literals) -> Said
 }
 
 /// The initial value that the third literal of a latch says.
-fn init_of(first: u32, third: u32) -> Option<Init>
-    ensures { result ≡ init_of first third }
+fn aig_init_of(first: u32, third: u32) -> Option<Init>
+    ensures { result ≡ aig_init_of first third }
 {
     if third == 0 {
         Some(Init::Zero)
@@ -73,8 +73,8 @@ fn init_of(first: u32, third: u32) -> Option<Init>
 }
 
 /// A latch, where there is its initial value.
-fn latch_with(first: u32, next: u32, init: Option<Init>) -> Said
-    ensures { result ≡ latch_with first next init }
+fn aig_latch_with(first: u32, next: u32, init: Option<Init>) -> Said
+    ensures { result ≡ aig_latch_with first next init }
 {
     match init {
         None => Said::Wrong,
@@ -89,12 +89,16 @@ fn latch_with(first: u32, next: u32, init: Option<Init>) -> Said
 }
 
 /// What a latch line says.
-fn latch_of(literals: Literals) -> Said
-    ensures { result ≡ latch_of literals }
+fn aig_latch_of(literals: Literals) -> Said
+    ensures { result ≡ aig_latch_of literals }
 {
     match literals {
-        Literals::Two(first, next) => latch_with(first, next, Some(Init::Zero)),
-        Literals::Three(first, next, third) => latch_with(first, next, init_of(first, third)),
+        Literals::Two(first, next) => aig_latch_with(first, next, Some(Init::Zero)),
+        Literals::Three(first, next, third) => aig_latch_with(
+            first,
+            next,
+            aig_init_of(first, third),
+        ),
         _ => Said::Wrong,
     }
 }
@@ -149,7 +153,7 @@ fn symbol_of(alloc: Global, kind: Kind, count: u32, text: &[u8]) -> Result<Said,
     ensures { IfOk result (λ said. said ≡ symbol_of kind count text.now) }
 {
     let (digits, name) = cut(text, space(text));
-    symbol_with(alloc, kind, number_below(count, digits), name)
+    symbol_with(alloc, kind, aig_number_below(count, digits), name)
 }
 
 /// What a line behind those of literals says, without the blanks at its end.
@@ -174,7 +178,7 @@ fn tail_of(alloc: Global, head: &Head, line: &[u8]) -> Result<Said, AllocError>
 
 /// What the n-th line behind the header says, from 0.
 pub fn said_at(alloc: Global, head: &Head, n: u32, line: &[u8]) -> Result<Said, AllocError>
-    requires most { head.now.most ≤ greatest }
+    requires most { head.now.most ≤ greatest_number }
     ensures { IfOk result (λ said. said ≡ said_at head.now n line.now) }
 {
     let place = u64::from(n);
@@ -184,7 +188,7 @@ pub fn said_at(alloc: Global, head: &Head, n: u32, line: &[u8]) -> Result<Said, 
     if place < latches {
         Ok(input_of(literals(head.most, line)))
     } else if place < outputs {
-        Ok(latch_of(literals(head.most, line)))
+        Ok(aig_latch_of(literals(head.most, line)))
     } else if place < ands {
         Ok(output_of(literals(head.most, line)))
     } else if place < ands + u64::from(head.ands) {

@@ -2,7 +2,7 @@
 
 ghost use Rattle.std.specs.Prelude.{◌≡◌, ◌<◌, ◌^◌, ◌++◌, ◌∷◌, [], IfOk, OnOk, bytes_eq, drop, false, length, map, nat_eq, not, option_and_then, option_copied, option_map, option_to_list, slice_get, true, unwrap_or};
 ghost use Rattle.std.specs.List.{list_any, position};
-ghost use Rattle.aig_model.specs.Names.{first_symbol, is_own, labels_from, literal_name, names, names_behind, output_names, own_opposite, own_output, own_outputs, own_variable, usable_symbol, variable_name};
+ghost use Rattle.aig_model.specs.Names.{first_symbol, is_own, labels_from, literal_name, names, label_names, output_names, own_opposite, own_output, own_outputs, own_variable, usable_symbol, variable_name};
 ghost use Rattle.aig_model.specs.Sound.{sources};
 ghost use Rattle.aig_reader.specs.private.Labelled.{IsFew, taken_behind};
 
@@ -136,7 +136,7 @@ fn add_names(
 ) -> Result<(), AllocError>
     requires { length owns.now < 2 ^ 32 }
     ensures names { OnOk result (names.new
-        ≡ names.old ++ names_behind taken.old.keys (labels_from symbols.now 0 owns.now)) }
+        ≡ names.old ++ label_names taken.old.keys (labels_from symbols.now 0 owns.now)) }
     ensures taken { OnOk result (taken.new.keys
         ≡ taken_behind taken.old.keys (labels_from symbols.now 0 owns.now)) }
 {

@@ -2,8 +2,8 @@
 
 ghost use Rattle.std.specs.Prelude.{◌≡◌, ◌++◌, ◌+◌, ◌≤◌, ◌<◌, ◌^◌, length, IfOk, true, option_to_list};
 ghost use Rattle.blif_lines.specs.Lines.{is_line_feed, pieces};
-ghost use Rattle.aig_model.specs.Faults.{defines, is_formed, is_new, may_stand};
-ghost use Rattle.aig_model.specs.Words.{greatest};
+ghost use Rattle.aig_model.specs.Faults.{defines, is_formed, is_new, aig_may_stand};
+ghost use Rattle.aig_model.specs.Words.{greatest_number};
 ghost use Rattle.aig_reader.specs.private.Drafts.{AreLines, IsFinished, IsText, is_end, no_aig, said_added};
 
 use crate::header::read_header;
@@ -102,7 +102,7 @@ fn define(defined: &mut IndexSet<u32>, var: Option<u32>) -> Result<bool, AllocEr
 /// Whether a line may stand behind lines that define these variables; its own variable is added
 /// then.
 fn stands(defined: &mut IndexSet<u32>, said: &Said) -> Result<bool, AllocError>
-    ensures good { IfOk result (λ good. good ≡ may_stand defined.old.keys said.now) }
+    ensures good { IfOk result (λ good. good ≡ aig_may_stand defined.old.keys said.now) }
     ensures keys { IfOk result (λ good. good ≡ true →
         defined.new.keys ≡ defined.old.keys ++ option_to_list (defines said.now)) }
 {
@@ -130,7 +130,7 @@ fn aig_if_complete(head: &Head, count: u32, aig: Aig) -> Result<Aig, AigFault>
 
 /// Reads the lines behind the header.
 fn read_lines(alloc: Global, head: &Head, text: &[u8]) -> Result<Aig, AigFault>
-    requires most { head.now.most ≤ greatest }
+    requires most { head.now.most ≤ greatest_number }
     requires fits { length text.now ≤ 67108864 }
     ensures { AreLines head.now (pieces is_line_feed text.now) result }
 {

@@ -5,7 +5,7 @@ ghost use Rattle.std.specs.List.{list_all, list_any};
 ghost use Rattle.ste_base.specs.Bytes.{is_digit};
 ghost use Rattle.aig_model.specs.Literals.{is_odd, variable_of};
 ghost use Rattle.aig_model.specs.Lines.{count_of, is_above_zero, is_count, literal_to};
-ghost use Rattle.aig_model.specs.Words.{greatest, is_definable, is_number, number_below};
+ghost use Rattle.aig_model.specs.Words.{greatest_number, is_definable, is_aig_number, aig_number_below};
 
 use ste_base::{is_digit, read_number};
 
@@ -20,17 +20,17 @@ fn are_digits(bytes: &[u8]) -> bool
 }
 
 /// Whether a word is one or more digits.
-fn is_number(word: &[u8]) -> bool
-    ensures { result ≡ is_number word.now }
+fn is_aig_number(word: &[u8]) -> bool
+    ensures { result ≡ is_aig_number word.now }
 {
     !word.is_empty() && are_digits(word)
 }
 
 /// The number that a word is, where it is one below `count`.
-pub fn number_below(count: u32, word: &[u8]) -> Option<u32>
-    ensures { result ≡ number_below count word.now }
+pub fn aig_number_below(count: u32, word: &[u8]) -> Option<u32>
+    ensures { result ≡ aig_number_below count word.now }
 {
-    if !is_number(word) {
+    if !is_aig_number(word) {
         return None;
     }
     match read_number(word, u64::from(count)) {
@@ -43,7 +43,7 @@ pub fn number_below(count: u32, word: &[u8]) -> Option<u32>
 pub fn count_of(word: &[u8]) -> Option<u32>
     ensures { result ≡ count_of word.now }
 {
-    if !is_number(word) {
+    if !is_aig_number(word) {
         return None;
     }
     match read_number(word, GREATEST) {
@@ -56,7 +56,7 @@ pub fn count_of(word: &[u8]) -> Option<u32>
 pub fn is_count(word: &[u8]) -> bool
     ensures { result ≡ is_count word.now }
 {
-    is_number(word) && read_number(word, GREATEST).is_ok()
+    is_aig_number(word) && read_number(word, GREATEST).is_ok()
 }
 
 /// Whether a number is not 0.
@@ -68,10 +68,10 @@ pub fn is_above_zero(word: &[u8]) -> bool
 
 /// The literal that a word is, where variables go up to `most`.
 pub fn literal(most: u32, word: &[u8]) -> Option<u32>
-    requires { most ≤ greatest }
+    requires { most ≤ greatest_number }
     ensures { result ≡ literal_to most word.now }
 {
-    if !is_number(word) {
+    if !is_aig_number(word) {
         return None;
     }
     match read_number(word, u64::from(most) + u64::from(most) + 1) {

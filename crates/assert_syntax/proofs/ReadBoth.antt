@@ -11,7 +11,8 @@ use Rattle.assert_syntax.specs.declared.form.Span.{Span}
 use Rattle.assert_syntax.specs.declared.form.Span.TheVariants as span
 use Rattle.assert_syntax.specs.Parses.{Parse, IsParse, IsSpelled, is_deep}
 use Rattle.assert_syntax.specs.Places.{clause_fault, unknown_fault}
-use Rattle.assert_syntax.specs.private.Drafts.{IsRead, IsClauseRead, both_read}
+use Rattle.assert_syntax.specs.private.Drafts.{both_read}
+use Rattle.assert_syntax.specs.Reads.{IsRead, IsClauseRead}
 
 -- what a text is read as, by what it spells
 read_by : (vars : List (List ℕ)) (text : List ℕ) (answer : Result Expr ExprFault) (o : Option Expression) → ((d : Expression) → Spells d text → IsExprAnswer vars d answer) → HasCause vars text answer → IsSpelled text o → IsRead vars o answer

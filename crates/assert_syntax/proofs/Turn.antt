@@ -16,7 +16,8 @@ use Rattle.assert_syntax.specs.Answer.{task_entry_of, task_entries_of, IsTasksAn
 use Rattle.assert_syntax.specs.Parses.{Parse, IsParse}
 use Rattle.assert_syntax.specs.Places.{Context, context_behind, context_of, fault_or, first_task_fault, form_fault, line_fault, may_stand_at}
 use Rattle.assert_syntax.specs.Spelled.{raw_task_tree, tasks_of, vars_with}
-use Rattle.assert_syntax.specs.private.Drafts.{HasRoom, IsFault, tasks_closed}
+use Rattle.assert_syntax.specs.private.Drafts.{HasRoom, tasks_closed}
+use Rattle.assert_syntax.specs.Reads.{IsFault}
 use Rattle.assert_syntax.specs.private.Steps.{IsStep, IsCounted, finish, open_count}
 use Rattle.assert_syntax.proofs.Faults.{fault_from, same_fault, form_decides, bad_position, room_behind}
 use Rattle.assert_syntax.proofs.Growth.{closed}

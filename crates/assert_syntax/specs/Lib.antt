@@ -4,6 +4,8 @@ pub mod Parses
 pub mod Places
 pub mod Spelled
 pub mod Answer
+pub mod Held
+pub mod Reads
 pub mod Rules
 pub mod Texts
 pub mod Written

@@ -1,4 +1,3 @@
 -- Definitions that serve private functions.
 pub mod Drafts
-pub mod Held
 pub mod Steps

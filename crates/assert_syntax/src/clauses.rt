@@ -3,7 +3,7 @@
 ghost use Rattle.std.specs.Prelude.{◌≡◌, length, take, drop};
 ghost use Rattle.blif_lines.specs.Laws.{text_of_words};
 ghost use Rattle.assert_syntax.specs.Forms.{span_between, span_of, expression_length, clause_with, guarded_form, valued_form, clause_of};
-ghost use Rattle.assert_syntax.specs.private.Held.{guard_held, form_held};
+ghost use Rattle.assert_syntax.specs.Held.{guard_held, form_held};
 
 use crate::form::{Clause, Form, Guard, Moment, Side, Span};
 use crate::words::{expression_end, is, moment_of};

@@ -4,7 +4,7 @@ ghost use Rattle.std.specs.Prelude.{◌≡◌, IfOk, OnOk};
 ghost use Rattle.assert_syntax.specs.Spelled.{from_of, to_of};
 ghost use Rattle.assert_syntax.specs.private.Drafts.{side_added, edge_with, clause_added, edges_closed, edge_added, tasks_closed, quint_of, bind_of};
 ghost use Rattle.assert_syntax.specs.private.Drafts.{mark_added, weak_added};
-ghost use Rattle.assert_syntax.specs.private.Held.{clause_held};
+ghost use Rattle.assert_syntax.specs.Held.{clause_held};
 
 use crate::form::{Clause, Side, Span};
 use crate::tasks::{RawBind, RawEdge, RawMark, RawQuint, RawTask, RawWeak};

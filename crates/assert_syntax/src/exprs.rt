@@ -3,8 +3,9 @@
 ghost use Rattle.std.specs.Prelude.{◌≡◌, ◌<◌, ◌^◌, length};
 ghost use Rattle.blif_lines.specs.Laws.{text_of_words};
 ghost use Rattle.assert_syntax.specs.Parses.{Parse, IsParse};
-ghost use Rattle.assert_syntax.specs.private.Drafts.{IsRead, both_read, IsClauseRead};
-ghost use Rattle.assert_syntax.specs.private.Held.{guard_held, clause_held};
+ghost use Rattle.assert_syntax.specs.private.Drafts.{both_read};
+ghost use Rattle.assert_syntax.specs.Reads.{IsRead, IsClauseRead};
+ghost use Rattle.assert_syntax.specs.Held.{guard_held, clause_held};
 
 use crate::fault::TaskFault;
 use crate::form::{Clause, Guard, Span};
@@ -25,7 +26,7 @@ fn text_read(alloc: Global, text: &[u8], vars: &Variables) -> Result<Expr, ExprF
 /// Reads the expression of some words, whose text has a blank between two of them. One word is read
 /// where it lies.
 #[tactic(auto, using(crate::proofs::ReadBoth::no_memory))]
-fn words_read(alloc: Global, words: &[Name], vars: &Variables) -> Result<Expr, ExprFault>
+pub fn words_read(alloc: Global, words: &[Name], vars: &Variables) -> Result<Expr, ExprFault>
     requires { length vars.now < 2 ^ 32 }
     ensures { (parse : Parse) → IsParse parse →
         IsRead vars.now (parse (text_of_words words.now)) result }

@@ -3,7 +3,7 @@
 ghost use Rattle.std.specs.Prelude.{◌≡◌};
 ghost use Rattle.assert_syntax.specs.Forms.{vars_of, ste_of, gste_of, edge_of, end_of, task_form_of};
 ghost use Rattle.assert_syntax.specs.Forms.{weak_with, weak_of};
-ghost use Rattle.assert_syntax.specs.private.Held.{form_held};
+ghost use Rattle.assert_syntax.specs.Held.{form_held};
 
 use crate::clauses::{clause_of, span_of};
 use crate::form::{Form, Side, Span};

@@ -6,7 +6,8 @@ ghost use Rattle.ste_base.specs.Limits.{most_variables};
 ghost use Rattle.assert_syntax.specs.Forms as form;
 ghost use Rattle.assert_syntax.specs.Places.{context_of, context_behind, first_double, names_fault, graph_fault, vertices_behind};
 ghost use Rattle.assert_syntax.specs.Spelled.{vertex_number};
-ghost use Rattle.assert_syntax.specs.private.Drafts.{context_held, IsFault};
+ghost use Rattle.assert_syntax.specs.private.Drafts.{context_held};
+ghost use Rattle.assert_syntax.specs.Reads.{IsFault};
 
 use crate::fault::TaskFault;
 use crate::position::Position;

@@ -2,9 +2,9 @@
 //! first faulty line. Begin with `read_tasks`.
 #![tactic(auto)]
 
-mod clauses;
+pub mod clauses;
 mod draft;
-mod exprs;
+pub mod exprs;
 pub mod fault;
 pub mod form;
 mod forms;
@@ -13,7 +13,7 @@ pub mod laws;
 pub mod position;
 pub mod read;
 pub mod tasks;
-mod words;
+pub mod words;
 
 pub use fault::TaskFault;
 pub use read::read_tasks;

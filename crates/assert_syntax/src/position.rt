@@ -2,7 +2,7 @@
 
 ghost use Rattle.std.specs.Prelude.{◌≡◌};
 ghost use Rattle.assert_syntax.specs.Places.{is_inside, is_start, holds_edges, span_fits, may_stand_at};
-ghost use Rattle.assert_syntax.specs.private.Held.{form_held};
+ghost use Rattle.assert_syntax.specs.Held.{form_held};
 
 use crate::form::{Form, Span};
 

@@ -7,7 +7,7 @@ ghost use Rattle.assert_syntax.specs.Parses.{Parse, IsParse};
 ghost use Rattle.assert_syntax.specs.Places.{Context, context_of};
 ghost use Rattle.assert_syntax.specs.declared.draft.OpenTask.TheVariants as task;
 ghost use Rattle.assert_syntax.specs.private.Drafts.{context_held, HasRoom};
-ghost use Rattle.assert_syntax.specs.private.Held.{clause_held, form_held};
+ghost use Rattle.assert_syntax.specs.Held.{clause_held, form_held};
 ghost use Rattle.assert_syntax.specs.private.Steps.{IsStep};
 
 use crate::draft::{Draft, OpenTask, clause_added, edge_added, tasks_closed, weak_added};

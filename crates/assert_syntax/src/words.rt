@@ -74,7 +74,7 @@ fn are_digits(bytes: &[u8]) -> bool
 }
 
 /// Whether a word is a number.
-fn is_number(word: &[u8]) -> bool
+pub fn is_number(word: &[u8]) -> bool
     ensures { result ≡ is_number word.now }
 {
     !word.is_empty() && are_digits(word)

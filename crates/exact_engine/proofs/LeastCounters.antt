@@ -1,10 +1,9 @@
 -- Counterexamples by their choices, and the least of them as a list of bits.
-use Rattle.std.proofs.Common.{◌≡◌, ℕ, zero, suc, ◌+◌, ◌-◌, ◌<◌, ◌≤◌, Bool, true, false, List, [], ◌∷◌, ◌++◌, take, drop, length, get_or, arith, refl, sym, ◌∙◌, ap, subst, replicate, Option, None, Some, inl, inr}
-use Rattle.std.specs.Prelude.{All, IsTrue, slice_get}
+use Rattle.std.proofs.Common.{◌≡◌, ℕ, suc, ◌+◌, ◌-◌, ◌<◌, ◌≤◌, Bool, true, false, List, [], ◌∷◌, ◌++◌, take, drop, length, get_or, arith, refl, sym, ◌∙◌, ap, subst, replicate, Option, None, Some, inl, inr}
+use Rattle.std.specs.Prelude.{All, IsTrue}
 use Rattle.std.proofs.Math.Seq.{drop-append_seam, take-add, take-append_seam}
 use Rattle.std.proofs.lemmas.Bool.{and_from, and_parts, both_ways, not-true, not_from_false}
-use Rattle.std.proofs.lemmas.List.{length-append, length-drop, length-map, length-replicate, length-take, take-append-drop, take-append-le}
-use Rattle.std.proofs.lemmas.Option.{slice_get_within}
+use Rattle.std.proofs.lemmas.List.{length-append, length-drop, length-map, length-replicate, length-take, take-append-drop}
 use Rattle.dd_nodes.specs.declared.node.Ref.{Ref}
 use Rattle.dd_nodes.specs.Stores.{Means, Store, function}
 use Rattle.net_core.specs.declared.raw.RawNet.{RawNet}
@@ -33,6 +32,7 @@ use Rattle.exact_model.specs.ExactWork.{AreExactBits, all_broken, counter_where,
 use Rattle.exact_model.specs.Wider.{bits_over_more}
 use Rattle.exact_model.proofs.Breaking.{ant_ends, before, broken_is_not_met, con_ends, is_met, met_is, not_met_is_broken}
 use Rattle.exact_model.proofs.ChoiceRuns.{runs_are_choices}
+use Rattle.exact_model.proofs.FirstBits.{with_more}
 use Rattle.exact_engine.specs.declared.showing.Shown.{Shown}
 use Rattle.exact_engine.specs.private.Reporting.{IsLeastCounter, IsLeastFound, IsShownExactly, TellsCounters}
 use Rattle.exact_engine.specs.private.Running.{IsRunWith}
@@ -46,23 +46,6 @@ behind_one bit one other h = record { place = suc h.place; same = ap (λ bits. b
 behind_same : (front one other : List Bool) → IsBefore one other → IsBefore (front ++ one) (front ++ other)
 behind_same [] one other h = h
 behind_same (bit ∷ front) one other h = behind_one bit (front ++ one) (front ++ other) (behind_same front one other h)
-
-still_there : (xs ys : List Bool) (k : ℕ) (x : Bool) → slice_get xs k ≡ Some x → slice_get (xs ++ ys) k ≡ Some x
-still_there [] ys k x e = absurd (cc e)
-still_there (y ∷ xs) ys zero x e = e
-still_there (y ∷ xs) ys (suc k) x e = still_there xs ys k x e
-
--- what stands behind changes nothing
-with_more : (one other xs ys : List Bool) → IsBefore one other → IsBefore (one ++ xs) (other ++ ys)
-with_more one other xs ys h =
-    let a = slice_get_within one h.place false h.earlier in
-    let b = slice_get_within other h.place true h.later in
-    record {
-      place = h.place;
-      same = take-append-le h.place one xs (omega (arith, a)) ∙ h.same ∙ sym (take-append-le h.place other ys (omega (arith, b)));
-      earlier = still_there one xs h.place false h.earlier;
-      later = still_there other ys h.place true h.later;
-    }
 
 -- ---- a run by its choices
 

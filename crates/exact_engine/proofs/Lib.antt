@@ -16,5 +16,8 @@ pub mod Breaches
 pub mod ChoiceLists
 pub mod WithChoices
 pub mod LeastCounters
-pub mod WiderCubes
 pub mod WholeReports
+pub mod Copied
+pub mod Fronts
+pub mod BySets
+pub mod QuickSets

@@ -39,7 +39,7 @@ module _ (v w : ℕ) (le : v ≤ w) where
       let z : Expr-F Expr = map-Expr Part Expr expr_of y in
       subst (λ (b : Bool). b ≡ true) (sym (fold-roll-Expr Bool (reads_step w) z)) (layer y (sym (fold-roll-Expr Bool (reads_step v) z) ∙ h))
 
-  reads_more : (e : Expr) → IsMore e
+  pub reads_more : (e : Expr) → IsMore e
   reads_more = ind-Expr IsMore (λ x y is. subst (λ (z : Expr-F Expr). IsMore (roll-Expr z)) is (roll_more y))
 
   pub read_more : (quints : List Quint) → ReadBelow v quints → ReadBelow w quints

@@ -50,7 +50,7 @@ some_wider (suc w) m set first =
     ∙ ap (λ (b : Bool). b || some_bits (w + m) (λ rest. set (true ∷ rest))) (some_wider w m (λ rest. set (false ∷ rest)) (λ rest l. first (false ∷ rest) (omega arith)))
     ∙ ap (λ (b : Bool). some_bits w (λ rest. set (false ∷ rest)) || b) (some_wider w m (λ rest. set (true ∷ rest)) (λ rest l. first (true ∷ rest) (omega arith)))
 
-take_take : (n : ℕ) (bits : List Bool) → take n (take n bits) ≡ take n bits
+pub take_take : (n : ℕ) (bits : List Bool) → take n (take n bits) ≡ take n bits
 take_take zero bits = refl
 take_take (suc n) [] = refl
 take_take (suc n) (b ∷ bits) = ap (λ (xs : List Bool). b ∷ xs) (take_take n bits)

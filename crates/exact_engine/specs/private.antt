@@ -11,3 +11,5 @@ pub mod Finishing
 pub mod Breaching
 pub mod Running
 pub mod Reporting
+pub mod Copying
+pub mod BySets

@@ -15,15 +15,15 @@ ghost use Rattle.exact_engine.specs.Check.{IsExactBudget, IsExactlyKept};
 ghost use Rattle.exact_engine.specs.private.Reporting.{DoTell};
 
 use crate::engine::exact_results;
+use crate::reporting::report_with;
 use crate::results::ExactResults;
 use crate::showing::shown_of;
 use dd_nodes::{Nodes, Ref};
 use dd_ops::OpFault;
 use dd_query::least;
-use engine_parts::{Results, budget_report, guards_of};
+use engine_parts::{Results, budget_report};
 use net_core::Net;
 use std::alloc::{AllocError, Global};
-use ste_base::{Items, Name};
 use ste_model::{Assertion, Report};
 
 /// The results as those of a check that finds nothing weak.
@@ -55,19 +55,9 @@ fn report_of<N: Nodes>(
     ensures report { IfOk result (λ report. IsExactReportOf net.now.raw vars max task.now report) }
     ensures store { N.store nodes.new ≡ N.store nodes.old }
 {
-    let guards = guards_of(alloc, nodes, without_weak(r), max)?;
     let found = least(alloc, nodes, r.counter)?;
     let shown = shown_of(alloc, net, task, vars, found)?;
-    let name = Name::from_bytes(alloc, task.name.bytes())?;
-    Ok(Report {
-        name,
-        verdict: shown.verdict,
-        guards,
-        least: shown.least,
-        path: Items::new(alloc),
-        fails: shown.fails,
-        run: shown.run,
-    })
+    report_with(alloc, nodes, net, task, vars, without_weak(r), shown, max)
 }
 
 /// The exact report of an assertion over `vars` variables, by its two-valued runs, with at most
@@ -96,7 +86,6 @@ pub fn check_exact<N: Nodes>(
     requires reads_ant { ReadBelow vars task.now.ant }
     requires reads_con { ReadBelow vars task.now.con }
     requires room { vars + length (choices net.now.raw task.now) ≤ (N.store nodes.old).vars }
-    requires cubes { 1 ≤ cubes }
 
     // The report is the exact one, with at most so many cubes in each list.
     ensures report { IfOk result (λ report. report.verdict ≢ Budget

@@ -17,7 +17,7 @@ use std::alloc::{AllocError, Global};
 use std::collections::HashMap;
 
 /// The function that is `lo` where the variable is 0, and `hi` where it is 1.
-fn split_at<N: Nodes>(nodes: &mut N, var: u32, lo: Ref, hi: Ref) -> Result<Ref, OpFault>
+pub fn split_at<N: Nodes>(nodes: &mut N, var: u32, lo: Ref, hi: Ref) -> Result<Ref, OpFault>
     requires var { var < (N.store nodes.old).vars }
     requires lo { IsFrom (N.store nodes.old).held (var + 1) lo }
     requires hi { IsFrom (N.store nodes.old).held (var + 1) hi }
@@ -28,7 +28,7 @@ fn split_at<N: Nodes>(nodes: &mut N, var: u32, lo: Ref, hi: Ref) -> Result<Ref, 
 }
 
 /// Remembers what was found for a reference.
-fn remember(met: &mut HashMap<Ref, Ref>, r: Ref, found: Ref) -> Result<(), AllocError>
+pub fn remember(met: &mut HashMap<Ref, Ref>, r: Ref, found: Ref) -> Result<(), AllocError>
     ensures { OnOk result ((p : Ref) → get same_ref met.new p
         ≡ cond (same_ref r p) (Some found) (get same_ref met.old p)) }
 {

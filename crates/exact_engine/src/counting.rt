@@ -1,6 +1,6 @@
 //! How many bits of a run an assertion leaves open; begin with `choices`.
 
-ghost use Rattle.std.specs.Prelude.{◌≡◌, ◌<◌, Some, length};
+ghost use Rattle.std.specs.Prelude.{◌≡◌, ◌+◌, ◌^◌, ◌<◌, ◌≤◌, Some, length};
 ghost use Rattle.net_core.specs.Source.{source_of};
 ghost use Rattle.exact_model.specs.Choices.{choices, is_first_choice, is_open, starts_free};
 ghost use Rattle.exact_engine.specs.private.Counts.{first_count, open_count};
@@ -81,7 +81,10 @@ pub fn open_count(net: &Net) -> u32
 /// the bits of the inputs and free nets. It takes no memory, and its time is linear in the number
 /// of nets and quintuples.
 pub fn choices(net: &Net, task: &Assertion) -> u64
-    ensures { result ≡ length (choices net.now.raw task.now) }
+    ensures exact { result ≡ length (choices net.now.raw task.now) }
+
+    // The variables of a file can be counted with them.
+    ensures few { result + 2 ^ 32 ≤ 2 ^ 64 }
 {
     let first = first_count(net, task.reset) as u64;
     let each = open_count(net) as u64;

@@ -1,6 +1,7 @@
 //! What a failure shows: the least assignment, the run and the place; begin with `shown_of`.
 
-ghost use Rattle.std.specs.Prelude.{◌≡◌, ◌≤◌, IfOk, length, take};
+ghost use Rattle.std.specs.Prelude.{◌≡◌, ◌≤◌, IfOk, None, length, take};
+ghost use Rattle.ste_model.specs.declared.verdict.Verdict.TheVariants.{Pass};
 ghost use Rattle.ste_model.specs.Asked.{cuts_at};
 ghost use Rattle.ste_model.specs.Holds.{RunMeets};
 ghost use Rattle.ste_model.specs.Runs.{run_of};
@@ -25,7 +26,7 @@ pub struct Shown {
 }
 
 /// The first bits of a list, so many.
-fn front(alloc: Global, bits: &[bool], count: usize) -> Result<Items<bool>, AllocError>
+pub fn front(alloc: Global, bits: &[bool], count: usize) -> Result<Items<bool>, AllocError>
     requires { count ≤ length bits.now }
     ensures { IfOk result (λ some. some ≡ take count bits.now) }
 {
@@ -34,7 +35,7 @@ fn front(alloc: Global, bits: &[bool], count: usize) -> Result<Items<bool>, Allo
 }
 
 /// The place at which a run breaks the consequent, which it does not meet.
-fn broken_place(run: &Run, bits: &[bool], task: &Assertion) -> (NodeId, Time)
+pub fn broken_place(run: &Run, bits: &[bool], task: &Assertion) -> (NodeId, Time)
     requires { ¬ RunMeets (cuts_at task.now.con bits.now) (run_of run.now) }
     ensures { IsBrokenFirst task.now bits.now (run_of run.now) result }
 {
@@ -66,6 +67,18 @@ fn failure_shown(
     })
 }
 
+/// The verdict where there is no failure, which shows nothing.
+pub fn pass_shown() -> Shown
+    ensures { result ≡ record { verdict = Pass; least = None; fails = None; run = None } }
+{
+    Shown {
+        verdict: Verdict::Pass,
+        least: None,
+        fails: None,
+        run: None,
+    }
+}
+
 /// The verdict with what is shown, from the least assignment and choices, where there are such,
 /// that make a counterexample.
 pub fn shown_of(
@@ -80,11 +93,6 @@ pub fn shown_of(
 {
     match least {
         Some(all) => failure_shown(alloc, net, task, vars, all.as_slice()),
-        None => Ok(Shown {
-            verdict: Verdict::Pass,
-            least: None,
-            fails: None,
-            run: None,
-        }),
+        None => Ok(pass_shown()),
     }
 }

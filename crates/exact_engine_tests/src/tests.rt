@@ -1,18 +1,20 @@
 //! Exact results of worked examples, how many steps they need, and how many choices they leave
 //! open.
 
-ghost use Rattle.std.specs.Prelude.{◌≡◌, ◌≤◌, ◌<◌, ℕ, All, IfOk, IsTrue, length};
+ghost use Rattle.std.specs.Prelude.{◌≡◌, ◌≤◌, ◌<◌, ℕ, All, IfOk, IsTrue, length, map};
 ghost use Rattle.dd_nodes.specs.Stores.{IsRef};
+ghost use Rattle.gate_sets.specs.Lists.{rows_of};
 ghost use Rattle.ste_model.specs.Expressions.{reads};
 ghost use Rattle.ste_model.specs.Need.{ReadBelow};
 
 use blif_lines::logical_lines;
 use blif_syntax::read_models;
 use bool_expr::Expr;
+use dd_growing::GrowingNodes;
 use dd_nodes::{Nodes, PlainNodes, Ref};
 use dd_ops::OpFault;
 use dd_query::eval;
-use exact_engine::{ExactResults, check_exact, choices, exact_results};
+use exact_engine::{ExactResults, check_exact, check_exact_with, choices, exact_results};
 use flat_net::flatten;
 use net_core::{Net, order};
 use net_names::NetNames;
@@ -20,6 +22,7 @@ use std::alloc::{AllocError, Global};
 use std::test::Fail;
 use ste_base::{Items, Name, Time, VarId};
 use ste_model::{Assertion, CubeList, Quint, Report, Run, Verdict};
+use sym_step::GateRows;
 
 /// An expression over two variables.
 #[derive(Clone, Copy, Drop)]
@@ -35,11 +38,13 @@ enum Value {
 /// For a net, guard and value, and the times.
 type Asked = (&'static str, Value, Value, Time, Time);
 
-/// A net with the names of its nets.
+/// A net with its rows and the names of its nets.
 #[derive(Drop)]
 struct Ready {
     net: Net,
+    rows: GateRows,
     names: NetNames,
+    ghost fit: { rows.covers ≡ map rows_of net.raw.covers },
 }
 
 /// The net of a text.
@@ -55,7 +60,10 @@ fn net_of(alloc: Global, text: &[u8]) -> Result<Ready, Fail>
         Err(_) => return Err("no flat net".into()),
     };
     match order(alloc, raw) {
-        Ok(net) => { Ok(Ready { net, names }) }
+        Ok(net) => {
+            let rows = GateRows::of(alloc, &net)?;
+            Ok(Ready { net, rows, names })
+        }
         Err(_) => Err("no order".into()),
     }
 }
@@ -680,11 +688,47 @@ fn report_with(
     Ok(check_exact(alloc, &mut nodes, &ready.net, task, 2, max)?)
 }
 
-/// Whether the report of a worked example has all that it should have.
+/// The report of a task with so many steps, where a check by sets of bits is tried first.
+fn report_tried(
+    alloc: Global,
+    ready: &Ready,
+    task: &Assertion,
+    steps: u32,
+    max: u32,
+) -> Result<Report, Fail>
+    requires steps { steps ≤ 1000 }
+    requires ant { All (λ quint. quint.node.0 < ready.now.net.raw.nets) task.now.ant }
+    requires con { All (λ quint. quint.node.0 < ready.now.net.raw.nets) task.now.con }
+    requires ant_reads { ReadBelow 2 task.now.ant }
+    requires con_reads { ReadBelow 2 task.now.con }
+{
+    if choices(&ready.net, task) > 6 {
+        return Err("too many choices".into());
+    }
+    if max == 0 {
+        return Err("no cubes".into());
+    }
+    let mut nodes = PlainNodes::new(alloc, 8, steps)?;
+    let mut scratch = GrowingNodes::new(alloc, 8, 0)?;
+    Ok(check_exact_with(
+        alloc,
+        &mut nodes,
+        &mut scratch,
+        &ready.net,
+        &ready.rows,
+        task,
+        2,
+        max,
+        &mut None,
+    )?)
+}
+
+/// Whether the reports of a worked example by both calls have all that they should have.
 fn is_reported(alloc: Global, ready: &Ready, expected: &Expected) -> Result<bool, Fail> {
     let task = task_of(alloc, ready, expected.reset, expected.ant, expected.con)?;
     let report = report_with(alloc, ready, &task, 1000, expected.max)?;
-    Ok(has_all(&report, &ready.names, expected))
+    let tried = report_tried(alloc, ready, &task, 1000, expected.max)?;
+    Ok(has_all(&report, &ready.names, expected) && has_all(&tried, &ready.names, expected))
 }
 
 /// The same for the net of its text.
@@ -725,11 +769,65 @@ fn is_blank_without_steps(alloc: Global) -> Result<bool, Fail> {
     let claim = &[("y", Value::One, Value::NotP, 0, 1)];
     let task = task_of(alloc, &ready, false, &[], claim)?;
     let report = report_with(alloc, &ready, &task, 0, 8)?;
-    Ok(is_blank(&report))
+    let tried = report_tried(alloc, &ready, &task, 0, 8)?;
+    Ok(is_blank(&report) && is_blank(&tried))
 }
 
 #[test]
 fn a_budget_report_is_blank(rt: HostRuntime) -> Result<(), Fail> {
     assert!(&rt; is_blank_without_steps(rt.alloc())?);
+    Ok(())
+}
+
+/// Both inputs of a gate are bound to variables at three times.
+const BOUND: &[Asked] = &[
+    ("a", Value::One, Value::P, 0, 3),
+    ("b", Value::One, Value::Q, 0, 3),
+];
+
+/// Whether a check of an and gate whose inputs are bound passes with a few steps where it is tried
+/// by sets of bits first, and runs out of them by need alone.
+fn is_passed_with_a_few_steps(alloc: Global) -> Result<bool, Fail> {
+    let ready = net_of(alloc, AND_GATE.as_bytes())?;
+    let claim = &[("y", Value::One, Value::PAndQ, 0, 3)];
+    let task = task_of(alloc, &ready, false, BOUND, claim)?;
+    let report = report_with(alloc, &ready, &task, 12, 8)?;
+    let tried = report_tried(alloc, &ready, &task, 12, 8)?;
+    Ok(report.verdict == Verdict::Budget && tried.verdict == Verdict::Pass)
+}
+
+#[test]
+fn a_bound_assertion_costs_what_a_plain_check_costs(rt: HostRuntime) -> Result<(), Fail> {
+    assert!(&rt; is_passed_with_a_few_steps(rt.alloc())?);
+    Ok(())
+}
+
+/// Whether a failure that sets of bits decide is found from some number of steps on, which is at
+/// most the exact need of 20 steps, and is more than none.
+fn is_found_within_need(alloc: Global) -> Result<bool, Fail> {
+    let ready = net_of(alloc, INVERTER.as_bytes())?;
+    let given = &[
+        ("a", Value::One, Value::P, 0, 1),
+        ("a", Value::One, Value::Q, 0, 1),
+    ];
+    let claim = &[("y", Value::One, Value::P, 0, 1)];
+    let task = task_of(alloc, &ready, false, given, claim)?;
+    let mut budgets = 0;
+    for steps in 0..40 {
+        let tried = report_tried(alloc, &ready, &task, steps, 8)?;
+        if tried.verdict == Verdict::Budget {
+            budgets = steps + 1;
+        }
+    }
+    if budgets == 0 || budgets > 20 {
+        return Ok(false);
+    }
+    let enough = report_tried(alloc, &ready, &task, budgets, 8)?;
+    Ok(enough.verdict == Verdict::Strong)
+}
+
+#[test]
+fn steps_are_out_only_where_they_are_too_few(rt: HostRuntime) -> Result<(), Fail> {
+    assert!(&rt; is_found_within_need(rt.alloc())?);
     Ok(())
 }

@@ -13,3 +13,7 @@ pub mod Printing
 pub mod Widths
 pub mod MoreVariables
 pub mod WiderNeeds
+pub mod WiderCubes
+pub mod FirstBits
+pub mod GraphBits
+pub mod GraphFirst

@@ -14,7 +14,7 @@ use Rattle.net_core.specs.declared.source.Source.{Source}
 use Rattle.net_core.specs.declared.source.Source.TheVariants as source
 use Rattle.net_core.specs.OneRun.{IsGivenRun}
 use Rattle.net_core.specs.Possible.{IsLeft, is_weakened}
-use Rattle.net_core.specs.Run.{Cut, IsInitial, IsUndriven, MayStart}
+use Rattle.net_core.specs.Run.{Cut, IsInitial, MayStart}
 use Rattle.net_core.specs.Sets.{IsIn, first_set, neither}
 use Rattle.net_core.specs.Source.{source_of}
 use Rattle.net_core.proofs.OneTime.{Facts, facts}
@@ -22,13 +22,11 @@ use Rattle.net_core.proofs.Possible.{same_fields}
 use Rattle.net_core.proofs.Runs.{one_run}
 use Rattle.net_core.proofs.Starts.{first_values}
 use Rattle.ste_model.specs.declared.task.Assertion.{Assertion}
-use Rattle.ste_model.specs.declared.task.Quint.{Quint}
-use Rattle.ste_model.specs.declared.task.Weakening.{Weakening}
 use Rattle.ste_model.specs.Asked.{asked_at, cuts_at, depth, weakened_at}
 use Rattle.ste_model.specs.Assignments.{IsBefore}
 use Rattle.ste_model.specs.Found.{IsContradictory, IsEmptySomewhere, IsStrong, IsTableOf, IsWeak}
 use Rattle.ste_model.specs.Runs.{run_of}
-use Rattle.ste_model.specs.Shown.{IsFilled, IsFirstBit, IsOpen, IsPrinted, IsQuintBindable}
+use Rattle.ste_model.specs.Shown.{IsFilled, IsFirstBit, IsOpen, IsPrinted}
 use Rattle.ste_model.proofs.Due.{due_breaks, weak_open}
 use Rattle.ste_model.proofs.Tables.{some_table}
 use Rattle.ste_model.proofs.Verdicts.{findings_are_decided}

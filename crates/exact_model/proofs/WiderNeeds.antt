@@ -35,7 +35,7 @@ use Rattle.exact_model.proofs.MoreVariables.{take_take, wider_has_as_many_nodes}
 module _ (n : ℕ) where
   -- ---- functions
 
-  abbrev AreOfFirst : List Function → Type 0
+  abbrev pub AreOfFirst : List Function → Type 0
   AreOfFirst fs = All (IsOfFirst n) fs
 
   none : AreOfFirst []
@@ -80,7 +80,7 @@ module _ (n : ℕ) where
 
   -- ---- expressions
 
-  abbrev IsValueOfFirst : SymbolicValue → Type 0
+  abbrev pub IsValueOfFirst : SymbolicValue → Type 0
   IsValueOfFirst s = IsOfFirst n s.value × AreOfFirst s.work
 
   values_first : (parts : List SymbolicValue) → All IsValueOfFirst parts → AreOfFirst (map (λ (part : SymbolicValue). part.value) parts)
@@ -101,7 +101,7 @@ module _ (n : ℕ) where
       )
 
   module _ (vars : ℕ) (small : vars ≤ n) where
-    abbrev IsRead : Expr → Type 0
+    abbrev pub IsRead : Expr → Type 0
     IsRead e = IsTrue (reads vars e) → IsValueOfFirst (symbolic_value e)
 
     abbrev Part : Type 0
@@ -138,10 +138,10 @@ module _ (n : ℕ) where
         let z : Expr-F Expr = map-Expr Part Expr expr_of y in
         subst IsValueOfFirst (sym (fold-roll-Expr SymbolicValue symbolic_step z)) (layer y (sym (fold-roll-Expr Bool (reads_step vars) z) ∙ h))
 
-    expr_first : (e : Expr) → IsRead e
+    pub expr_first : (e : Expr) → IsRead e
     expr_first = ind-Expr IsRead (λ x y is. subst (λ (z : Expr-F Expr). IsRead (roll-Expr z)) is (roll_read y))
 
-    value_first : (e : Expr) → IsTrue (reads vars e) → IsOfFirst n (value_of e)
+    pub value_first : (e : Expr) → IsTrue (reads vars e) → IsOfFirst n (value_of e)
     value_first e h bits l = sym (functions_are_values e bits) ∙ (expr_first e h).0 bits l ∙ functions_are_values e (take n bits)
 
     quints_first : (quints : List Quint) → ReadBelow vars quints → AreOfFirst (quints_work quints)
@@ -297,7 +297,7 @@ module _ (n : ℕ) where
         (both (sums ant_broken) con_sums (sums_first ant_broken (breaks_first task.ant ant))
         (both (sums con_broken) results (sums_first con_broken (breaks_first task.con con)) results_first))))))))
 
-take_whole : (n : ℕ) (bits : List Bool) → length bits ≡ n → take n bits ≡ bits
+pub take_whole : (n : ℕ) (bits : List Bool) → length bits ≡ n → take n bits ≡ bits
 take_whole zero [] l = refl
 take_whole zero (b ∷ bits) l = absurd (omega arith)
 take_whole (suc n) [] l = absurd (omega arith)

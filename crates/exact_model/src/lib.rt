@@ -11,6 +11,7 @@ ghost use Rattle.exact_model.specs.ExactNeed.{ExactResultsAreFindings, OneExactN
 ghost use Rattle.exact_model.specs.ExactReport.{ExactFailureBreaks, OneExactReportOf};
 ghost use Rattle.exact_model.specs.ExactSamples.{ExactSamplesAreCounted};
 ghost use Rattle.exact_model.specs.Wider.{WiderHasAsManyNodes, WiderNeedsAsMany};
+ghost use Rattle.exact_model.specs.WiderGraphs.{WiderGraphs};
 
 /// An assertion holds exactly where its exact verdict is pass.
 pub fn exact_pass_is_holding()
@@ -93,4 +94,10 @@ pub fn wider_has_as_many_nodes()
 /// steps.
 pub fn wider_needs_as_many()
     ensures { WiderNeedsAsMany }
+{}
+
+/// Over more variables than it reads a graph has the same report, but for the bits that stand
+/// behind its least assignment, and needs as many steps.
+pub fn wider_graphs()
+    ensures { WiderGraphs }
 {}

@@ -17,7 +17,7 @@ use Rattle.net_gen.specs.Pipeline.{pipeline_net, pipeline_tasks}
 use Rattle.ste_program.specs.Bench.{IsBench}
 use Rattle.ste_program.specs.Check.{IsCheck}
 use Rattle.ste_program.specs.Command.{net_file, second_file}
-use Rattle.ste_program.specs.Info.{IsInfo, count_line, free_below, info_text, is_free}
+use Rattle.ste_program.specs.Info.{IsInfo, count_line, free_below, info_text, is_free_source}
 use Rattle.ste_io.specs.Outside.{FilesState}
 use Rattle.report_text.specs.Text.{nodes_line}
 use Rattle.ste_program.specs.Report.{IsReport, IsWritten, text_at}
@@ -82,8 +82,8 @@ checks_same steps more cubes wave nodes net_text task_text passes others bytes o
 free_same : (net other : RawNet) (n : ℕ) → AreSame net other → free_below net n ≡ free_below other n
 free_same net other zero same = refl
 free_same net other (suc id) same =
-    ap (λ m. m + (if is_free (source_of net id) then 1 else 0)) (free_same net other id same)
-    ∙ ap (λ s. free_below other id + (if is_free s then 1 else 0)) (sources_same net other same id)
+    ap (λ m. m + (if is_free_source (source_of net id) then 1 else 0)) (free_same net other id same)
+    ∙ ap (λ s. free_below other id + (if is_free_source s then 1 else 0)) (sources_same net other same id)
 
 gates_long : (net other : RawNet) (ones others : List Gate) → AllZip (AreAlike net other) ones others → length ones ≡ length others
 gates_long net other [] [] h = refl

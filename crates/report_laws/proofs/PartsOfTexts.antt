@@ -12,6 +12,7 @@ use Rattle.ste_model.specs.declared.task.Task.{Task}
 use Rattle.ste_model.specs.declared.task.Tasks.{Tasks}
 use Rattle.ste_model.specs.Trees.{task_tree}
 use Rattle.report_text.specs.Text.{task_text}
+use Rattle.work_pool.specs.declared.mode.Mode.TheVariants.{Sets}
 use Rattle.work_pool.specs.Told.{IsToldOf}
 use Rattle.ste_program.specs.Check.{IsCheck, IsReportOn}
 use Rattle.ste_program.specs.Reading.{IsReading}
@@ -28,7 +29,7 @@ part_on : (net_text part_text whole_text : List ℕ) (steps cubes : ℕ) (wave p
 part_on net_text part_text whole_text steps cubes wave passes bytes part models net tasks reading vars =
     let same = one_netlist net_text part.models models part.reading.flattened.netlist reading.flattened.netlist in
     let flat = subst (λ (ms : List Model). IsFlat ms part.net) same part.reading.flattened.flat in
-    let told = subst (λ (vs : List (List ℕ)). AllZip (IsToldOf part.net (length vs) steps cubes) part.tasks.tasks part.report.reports) vars part.report.told in
+    let told = subst (λ (vs : List (List ℕ)). AllZip (IsToldOf Sets part.net (length vs) steps cubes) part.tasks.tasks part.report.reports) vars part.report.told in
     record {
       reports = part.report.reports;
       shared = None;

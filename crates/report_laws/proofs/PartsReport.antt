@@ -8,6 +8,7 @@ use Rattle.net_core.specs.declared.raw.RawNet.{RawNet}
 use Rattle.ste_model.specs.declared.report.Report.{Report}
 use Rattle.ste_model.specs.declared.task.Task.{Task}
 use Rattle.report_text.specs.Text.{nodes_line, report_text, task_text}
+use Rattle.work_pool.specs.declared.mode.Mode.TheVariants.{Sets}
 use Rattle.work_pool.specs.Told.{IsToldOf}
 use Rattle.ste_program.specs.Check.{IsReportOn, is_pass}
 use Rattle.report_laws.specs.PartsReport.{AreTwoReports, PartsReport, tasks_over}
@@ -63,7 +64,7 @@ module _ (names vars : List (List ℕ)) (wave : Bool) where
 
 module _ (names : List (List ℕ)) (net : RawNet) (steps cubes : ℕ) (wave : Bool) (vars : List (List ℕ)) (one other : List Task) (passes : Bool) (bytes : List ℕ) where
   abbrev Told : Task → Report → Type 0
-  Told = IsToldOf net (length vars) steps cubes
+  Told = IsToldOf Sets net (length vars) steps cubes
 
   pub joined_of : AreTwoReports names net steps cubes wave vars one other passes bytes → IsReportOn names net steps cubes wave false (tasks_over vars (one ++ other)) passes bytes
   joined_of h =

@@ -32,6 +32,7 @@ use Rattle.ste_model.specs.GraphTable.{AreRounds, VertexState, enough}
 use Rattle.ste_model.specs.GraphWork.{SymbolicState, arrivals, feasible_where, given_by, graph_work, guards_work, results_work, sets_functions, state_at, symbolic_asked_on, vertex_work}
 use Rattle.ste_model.specs.Need.{IsNeed}
 use Rattle.ste_model.specs.Work.{all_empty, all_strong, all_weak, consequents_work, contradictory_where, latches_at, over_times, quints_work, strong_where, symbolic_asked_at, symbolic_cuts_at, task_work, unsure_where, weak_where}
+use Rattle.work_pool.specs.declared.mode.Mode.TheVariants.{Sets}
 use Rattle.work_pool.specs.Told.{IsToldOf}
 use Rattle.ste_program.proofs.SameNets.{AreSame, flats_same, sources_same}
 use Rattle.report_laws.proofs.SameGraphs.{graph_back, graph_report_moved, graph_says_same, takes_moved}
@@ -219,13 +220,13 @@ graph_need_moved net other twins vars graph need h = (
 
 -- ---- what is reported
 
-told_moved : (net other : RawNet) → AreTwins net other → AreTwins other net → (vars steps cubes : ℕ) (task : Task) (report : Report) → IsToldOf net vars steps cubes task report → IsToldOf other vars steps cubes task report
+told_moved : (net other : RawNet) → AreTwins net other → AreTwins other net → (vars steps cubes : ℕ) (task : Task) (report : Report) → IsToldOf Sets net vars steps cubes task report → IsToldOf Sets other vars steps cubes task report
 told_moved net other twins back vars steps cubes (Ste t) report (inl h) = inl (report_moved net other t t twins.same twins.back (says_same t t refl) vars cubes report h)
 told_moved net other twins back vars steps cubes (Ste t) report (inr h) = inr (h.0, (λ need is. h.1 need (need_moved other net back vars t need is)))
 told_moved net other twins back vars steps cubes (Gste t) report (inl h) = inl (graph_report_moved net other t t twins.same twins.back (graph_says_same t t refl) vars cubes report h)
 told_moved net other twins back vars steps cubes (Gste t) report (inr h) = inr (h.0, (λ need is. h.1 need (graph_need_moved other net back vars t need is)))
 
-pub all_told_moved : (net other : RawNet) → AreTwins net other → AreTwins other net → (vars steps cubes : ℕ) (tasks : List Task) (reports : List Report) → AllZip (IsToldOf net vars steps cubes) tasks reports → AllZip (IsToldOf other vars steps cubes) tasks reports
+pub all_told_moved : (net other : RawNet) → AreTwins net other → AreTwins other net → (vars steps cubes : ℕ) (tasks : List Task) (reports : List Report) → AllZip (IsToldOf Sets net vars steps cubes) tasks reports → AllZip (IsToldOf Sets other vars steps cubes) tasks reports
 all_told_moved net other twins back vars steps cubes [] [] h = tt
 all_told_moved net other twins back vars steps cubes [] (r ∷ reports) h = absurd h
 all_told_moved net other twins back vars steps cubes (t ∷ tasks) [] h = absurd h

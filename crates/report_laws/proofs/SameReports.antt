@@ -34,6 +34,7 @@ use Rattle.ste_model.specs.Trees.{QuintTree, quint_tree, task_tree}
 use Rattle.ste_model.proofs.GraphReports.{one_graph_report_of}
 use Rattle.ste_model.proofs.Reports.{one_report_of}
 use Rattle.report_text.specs.Text.{fails_line, guards_text, least_line, names_net, net_line, path_line, run_text, task_text, verdict_words}
+use Rattle.work_pool.specs.declared.mode.Mode.TheVariants.{Sets}
 use Rattle.work_pool.specs.Told.{Agree, IsToldOf}
 use Rattle.report_laws.specs.OneReport.{AgreeOn, Told, told_at, told_on}
 use Rattle.ste_program.specs.Check.{IsReportOn, is_pass}
@@ -159,7 +160,7 @@ abbrev verdict_in : Report → Verdict
 verdict_in report = report.verdict
 
 module _ (net other : RawNet) (vars cubes m n : ℕ) (t u : Assertion) (same : AreSame net other) (back : AreSame other net) (range : IsInRange other) (settled : IsSettled other) (says : SaysSame t u) where
-  told_agree : (r q : Report) → IsToldOf net vars m cubes (Ste t) r → IsToldOf other vars n cubes (Ste u) q → Agree r q
+  told_agree : (r q : Report) → IsToldOf Sets net vars m cubes (Ste t) r → IsToldOf Sets other vars n cubes (Ste u) q → Agree r q
   told_agree r q (inr f) g = inr (inl (ap verdict_in f.0))
   told_agree r q (inl f) (inr g) = inr (inr (ap verdict_in g.0))
   told_agree r q (inl f) (inl g) = inl (one_report_of other range settled vars cubes u r q (report_moved net other t u same back says vars cubes r f) g)
@@ -168,7 +169,7 @@ module _ (net other : RawNet) (vars cubes m n : ℕ) (t u : Assertion) (same : A
   no_verdict verdict e h = subst (λ (v : Verdict). IsVerdictOf other vars u v) e h
 
   -- with one verdict they are one
-  told_same : (r q : Report) → r.verdict ≡ q.verdict → IsToldOf net vars m cubes (Ste t) r → IsToldOf other vars n cubes (Ste u) q → r ≡ q
+  told_same : (r q : Report) → r.verdict ≡ q.verdict → IsToldOf Sets net vars m cubes (Ste t) r → IsToldOf Sets other vars n cubes (Ste u) q → r ≡ q
   told_same r q e (inl f) (inl g) = one_report_of other range settled vars cubes u r q (report_moved net other t u same back says vars cubes r f) g
   told_same r q e (inl f) (inr g) = absurd (no_verdict r.verdict (e ∙ ap verdict_in g.0) (report_moved net other t u same back says vars cubes r f).judged)
   told_same r q e (inr f) (inl g) = absurd (no_verdict q.verdict (sym e ∙ ap verdict_in f.0) g.judged)
@@ -176,7 +177,7 @@ module _ (net other : RawNet) (vars cubes m n : ℕ) (t u : Assertion) (same : A
 
 -- the same of graphs
 module _ (net other : RawNet) (vars cubes m n : ℕ) (t u : Graph) (same : AreSame net other) (back : AreSame other net) (range : IsInRange other) (settled : IsSettled other) (says : GraphSaysSame t u) where
-  graphs_agree : (r q : Report) → IsToldOf net vars m cubes (Gste t) r → IsToldOf other vars n cubes (Gste u) q → Agree r q
+  graphs_agree : (r q : Report) → IsToldOf Sets net vars m cubes (Gste t) r → IsToldOf Sets other vars n cubes (Gste u) q → Agree r q
   graphs_agree r q (inr f) g = inr (inl (ap verdict_in f.0))
   graphs_agree r q (inl f) (inr g) = inr (inr (ap verdict_in g.0))
   graphs_agree r q (inl f) (inl g) = inl (one_graph_report_of other range settled vars cubes u r q (graph_report_moved net other t u same back says vars cubes r f) g)
@@ -184,7 +185,7 @@ module _ (net other : RawNet) (vars cubes m n : ℕ) (t u : Graph) (same : AreSa
   no_graph_verdict : (verdict : Verdict) → verdict ≡ Budget → IsGraphVerdict other vars u verdict → ⊥
   no_graph_verdict verdict e h = subst (λ (v : Verdict). IsGraphVerdict other vars u v) e h
 
-  graphs_same : (r q : Report) → r.verdict ≡ q.verdict → IsToldOf net vars m cubes (Gste t) r → IsToldOf other vars n cubes (Gste u) q → r ≡ q
+  graphs_same : (r q : Report) → r.verdict ≡ q.verdict → IsToldOf Sets net vars m cubes (Gste t) r → IsToldOf Sets other vars n cubes (Gste u) q → r ≡ q
   graphs_same r q e (inl f) (inl g) = one_graph_report_of other range settled vars cubes u r q (graph_report_moved net other t u same back says vars cubes r f) g
   graphs_same r q e (inl f) (inr g) = absurd (no_graph_verdict r.verdict (e ∙ ap verdict_in g.0) (graph_report_moved net other t u same back says vars cubes r f).judged)
   graphs_same r q e (inr f) (inl g) = absurd (no_graph_verdict q.verdict (sym e ∙ ap verdict_in f.0) g.judged)
@@ -223,7 +224,7 @@ pub record AreToldAlike (names vars : List (List ℕ)) (wave : Bool) (t u : Task
   pub text : r.verdict ≡ q.verdict → task_text names vars wave (t, r) ≡ task_text names vars wave (u, q)
 
 task_alike : (net other : RawNet) (names : List (List ℕ)) (vars : List (List ℕ)) (wave : Bool) (cubes m n : ℕ) → AreSame net other → AreSame other net → IsInRange other → IsSettled other → (t u : Task) (r q : Report) → task_tree t ≡ task_tree u →
-    IsToldOf net (length vars) m cubes t r → IsToldOf other (length vars) n cubes u q → AreToldAlike names vars wave t u r q
+    IsToldOf Sets net (length vars) m cubes t r → IsToldOf Sets other (length vars) n cubes u q → AreToldAlike names vars wave t u r q
 task_alike net other names vars wave cubes m n same back range settled (Ste t) (Ste u) r q e f g =
     let says = says_same t u e in
     let one = told_same net other (length vars) cubes m n t u same back range settled says r q in
@@ -249,7 +250,7 @@ verdict_of told = told.report.verdict
 
 reports_alike : (net other : RawNet) (names : List (List ℕ)) (vars : List (List ℕ)) (wave : Bool) (cubes m n : ℕ) → AreSame net other → AreSame other net → IsInRange other → IsSettled other →
     (tasks twins : List Task) (reports others : List Report) → map task_tree tasks ≡ map task_tree twins →
-    AllZip (IsToldOf net (length vars) m cubes) tasks reports → AllZip (IsToldOf other (length vars) n cubes) twins others →
+    AllZip (IsToldOf Sets net (length vars) m cubes) tasks reports → AllZip (IsToldOf Sets other (length vars) n cubes) twins others →
     AllZip AgreeOn (told_on names vars wave tasks reports) (told_on names vars wave twins others)
     × (map verdict_of (told_on names vars wave tasks reports) ≡ map verdict_of (told_on names vars wave twins others) → reports ≡ others)
 reports_alike net other names vars wave cubes m n same back range settled [] [] [] [] e f g = (tt, (λ v. refl))
@@ -298,7 +299,7 @@ pub reports_agree : (models : List Model) (net other : RawNet) (ones twos : List
     AllZip AgreeOn (told_on ones tasks.vars wave tasks.tasks one.reports) (told_on twos twins.vars wave twins.tasks two.reports)
     × (map verdict_of (told_on ones tasks.vars wave tasks.tasks one.reports) ≡ map verdict_of (told_on twos twins.vars wave twins.tasks two.reports) → passes ≡ others)
 reports_agree models net other ones twos m n cubes wave nodes tasks twins passes others bytes others_bytes f g range settled names vars trees one two =
-    let told = subst (λ (vs : List (List ℕ)). AllZip (IsToldOf net (length vs) m cubes) tasks.tasks one.reports) vars one.told in
+    let told = subst (λ (vs : List (List ℕ)). AllZip (IsToldOf Sets net (length vs) m cubes) tasks.tasks one.reports) vars one.told in
     let alike = reports_alike net other twos twins.vars wave cubes m n (flats_same models net other f g) (flats_same models other net g f) range settled tasks.tasks twins.tasks one.reports two.reports trees told two.told in
     subst (λ (ns : List (List ℕ)). Agreed wave tasks.tasks twins.tasks one.reports two.reports passes others ns tasks.vars twos twins.vars) (sym names)
     (subst (λ (vs : List (List ℕ)). Agreed wave tasks.tasks twins.tasks one.reports two.reports passes others twos vs twos twins.vars) (sym vars) (

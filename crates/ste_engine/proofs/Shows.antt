@@ -25,7 +25,8 @@ use Rattle.engine_parts.specs.declared.failing.Failure.TheVariants as failure
 use Rattle.engine_parts.specs.declared.results.Results.{Results}
 use Rattle.engine_parts.specs.Failing.{FailsBy}
 use Rattle.ste_engine.specs.private.Places.{IsFoundBy}
-use Rattle.ste_engine.specs.private.Reports.{IsFailureOf, IsRunDue, TellFindings}
+use Rattle.ste_engine.specs.Findings.{TellFindings}
+use Rattle.ste_engine.specs.private.Reports.{IsFailureOf, IsRunDue}
 use Rattle.ste_engine.specs.private.Turns.{AreResults}
 
 -- ---- what the references tell

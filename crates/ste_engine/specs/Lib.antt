@@ -1,2 +1,3 @@
+pub mod Findings
 pub mod Engine
 pub mod private

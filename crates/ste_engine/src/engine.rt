@@ -1,8 +1,9 @@
 //! The engine; begin with `check_ste`.
 
-ghost use Rattle.std.specs.Prelude.{◌≡◌, ◌≢◌, ◌<◌, ◌≤◌, ℕ, List, All, IfOk, IfSome, OnOk, map};
+ghost use Rattle.std.specs.Prelude.{◌≡◌, ◌≢◌, ◌<◌, ◌≤◌, ℕ, List, All, Err, IfOk, IfSome, OnOk, map};
 ghost use Rattle.dd_nodes.specs.Functions.{IsCofactorOf};
 ghost use Rattle.dd_nodes.specs.Stores.{Builds, Keeps};
+ghost use Rattle.dd_ops.specs.declared.fault.OpFault.TheVariants.{StepsOut};
 ghost use Rattle.net_core.specs.Work.{SymbolicSet};
 ghost use Rattle.dual_rail.specs.Rail.{Built};
 ghost use Rattle.gate_sets.specs.Lists.{rows_of};
@@ -12,6 +13,7 @@ ghost use Rattle.ste_model.specs.Need.{IsWholeTable, ReadBelow};
 ghost use Rattle.ste_model.specs.Report.{IsReportOf, budget_report};
 ghost use Rattle.ste_model.specs.Work.{quints_work, task_work};
 ghost use Rattle.ste_engine.specs.Engine.{IsBudget, IsKept};
+ghost use Rattle.ste_engine.specs.Findings.{TellFindings};
 ghost use Rattle.ste_engine.specs.private.Firsts.{AreFirsts};
 ghost use Rattle.engine_parts.specs.Latches.{first_rails};
 ghost use Rattle.ste_engine.specs.private.Turns.{AreResults, IsLine};
@@ -107,6 +109,96 @@ fn results<N: Nodes>(
     finish(ops, nodes, reached.contradictory, reached.found)
 }
 
+/// The strong, the weak and the contradictory assignments, with the places that are found on the
+/// way. It begins with the last frame of another assertion on the net, where there is one, and
+/// leaves that of this one, but none where steps or memory are out.
+fn results_from<N: Nodes>(
+    alloc: Global,
+    ops: &Ops,
+    nodes: &mut N,
+    net: &Net,
+    rows: &GateRows,
+    task: &Assertion,
+    firsts: &mut Firsts,
+    last: &mut Option<Frame>,
+) -> Result<Results, OpFault>
+    requires rows { rows.now.covers ≡ map rows_of net.now.raw.covers }
+    requires ant { All (λ quint. quint.node.0 < net.now.raw.nets) task.now.ant }
+    requires con { All (λ quint. quint.node.0 < net.now.raw.nets) task.now.con }
+    requires weak { All (λ weakening. weakening.node.0 < net.now.raw.nets) task.now.weak }
+    requires reads_ant { ReadBelow (N.store nodes.old).vars task.now.ant }
+    requires reads_con { ReadBelow (N.store nodes.old).vars task.now.con }
+    requires firsts { AreFirsts (N.store nodes.old).vars net.now.raw task.now firsts.old }
+    requires last { IfSome last.old (IsFrame (N.store nodes.old) net.now.raw) }
+    ensures built { (table : ℕ → ℕ → SymbolicSet)
+        → IsWholeTable net.now.raw (N.store nodes.old).vars task.now table
+        → Built (task_work net.now.raw task.now table) (AreResults net.now.raw task.now table)
+        (N.store nodes.old) (N.store nodes.new) result }
+    ensures firsts { OnOk result
+        (AreFirsts (N.store nodes.old).vars net.now.raw task.now firsts.new) }
+    ensures last { IfSome last.new (IsFrame (N.store nodes.new) net.now.raw) }
+{
+    let mut frame = frame_from(alloc, net, task.reset, last.take())?;
+    let r = results(alloc, ops, nodes, net, rows, task, &mut frame, firsts)?;
+    *last = Some(frame);
+    Ok(r)
+}
+
+/// The strong, the weak and the contradictory assignments of an assertion over the variables of the
+/// store, by references, for a check that makes a report of its own. The conditions are those of
+/// `check_ste_from`, and it begins with the frame of another assertion, and leaves one, as that
+/// does.
+///
+/// `StepsOut` comes only where all steps are spent, and fewer were left at the start than the
+/// assertion needs. Whatever the answer, each node that is made is a node of the work functions,
+/// and what was held stays.
+pub fn ste_results<N: Nodes>(
+    alloc: Global,
+    nodes: &mut N,
+    net: &Net,
+    rows: &GateRows,
+    task: &Assertion,
+    last: &mut Option<Frame>,
+) -> Result<Results, OpFault>
+    requires rows { rows.now.covers ≡ map rows_of net.now.raw.covers }
+    requires ant { All (λ quint. quint.node.0 < net.now.raw.nets) task.now.ant }
+    requires con { All (λ quint. quint.node.0 < net.now.raw.nets) task.now.con }
+    requires weak { All (λ weakening. weakening.node.0 < net.now.raw.nets) task.now.weak }
+    requires reads_ant { ReadBelow (N.store nodes.old).vars task.now.ant }
+    requires reads_con { ReadBelow (N.store nodes.old).vars task.now.con }
+    requires last { IfSome last.old (IsFrame (N.store nodes.old) net.now.raw) }
+
+    // The references tell the findings.
+    ensures told { IfOk result (λ r. TellFindings (N.store nodes.new) net.now.raw task.now r) }
+
+    // Where steps are out, all are spent, and they were too few.
+    ensures short { result ≡ Err StepsOut
+        → IsBudget net.now.raw task.now (N.store nodes.old) (N.store nodes.new) }
+
+    // What was held stays, and so does the limit; only nodes of the work functions are made.
+    ensures keeps { Keeps (N.store nodes.old) (N.store nodes.new) }
+    ensures limit { (N.store nodes.new).limit ≡ (N.store nodes.old).limit }
+    ensures builds { (table : ℕ → ℕ → SymbolicSet)
+        → IsWholeTable net.now.raw (N.store nodes.old).vars task.now table
+        → Builds (IsCofactorOf (N.store nodes.old).vars (task_work net.now.raw task.now table))
+        (N.store nodes.old) (N.store nodes.new) }
+
+    // The frame that is left is one.
+    ensures last { IfSome last.new (IsFrame (N.store nodes.new) net.now.raw) }
+{
+    let mut firsts = Firsts::none();
+    results_from(
+        alloc,
+        &Ops::new(alloc),
+        nodes,
+        net,
+        rows,
+        task,
+        &mut firsts,
+        last,
+    )
+}
+
 /// The report of an assertion over the variables of the store, for all assignments at once, with at
 /// most `cubes` cubes in each of its lists: see `Report`. `rows` are those of the net, the nodes of
 /// the task and of its weakenings are nets of it, and its variables are below the store's.
@@ -199,13 +291,9 @@ pub fn check_ste_from<N: Nodes>(
     ensures last { IfSome last.new (IsFrame (N.store nodes.new) net.now.raw) }
 {
     let ops = Ops::new(alloc);
-    let mut frame = frame_from(alloc, net, task.reset, last.take())?;
     let mut firsts = Firsts::none();
-    match results(alloc, &ops, nodes, net, rows, task, &mut frame, &mut firsts) {
-        Ok(r) => {
-            *last = Some(frame);
-            report_of(alloc, &ops, nodes, net, rows, task, r, firsts, cubes)
-        }
+    match results_from(alloc, &ops, nodes, net, rows, task, &mut firsts, last) {
+        Ok(r) => report_of(alloc, &ops, nodes, net, rows, task, r, firsts, cubes),
         Err(OpFault::StepsOut) => budget_report(alloc, &task.name),
         Err(OpFault::OutOfMemory) => Err(AllocError),
     }

@@ -16,4 +16,4 @@ mod timeline;
 mod turn;
 mod weakened;
 
-pub use engine::{check_ste, check_ste_from};
+pub use engine::{check_ste, check_ste_from, ste_results};

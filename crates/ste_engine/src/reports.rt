@@ -4,8 +4,8 @@ ghost use Rattle.std.specs.Prelude.{◌≡◌, ◌<◌, All, IfOk, map};
 ghost use Rattle.gate_sets.specs.Lists.{rows_of};
 ghost use Rattle.ste_model.specs.Report.{IsReportOf};
 ghost use Rattle.engine_parts.specs.Failing.{MakesNothing};
+ghost use Rattle.ste_engine.specs.Findings.{TellFindings};
 ghost use Rattle.ste_engine.specs.private.Firsts.{AreFirsts};
-ghost use Rattle.ste_engine.specs.private.Reports.{TellFindings};
 
 use crate::firsts::Firsts;
 use crate::shown::shown_of;

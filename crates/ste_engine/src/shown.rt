@@ -9,9 +9,10 @@ ghost use Rattle.ste_model.specs.Found.{IsFound, IsStrong, IsVerdictOf, IsWeak};
 ghost use Rattle.ste_model.specs.Report.{IsFailingPlace, IsShown};
 ghost use Rattle.engine_parts.specs.declared.failing.Failure.TheVariants as Failure;
 ghost use Rattle.engine_parts.specs.Failing.{FailsBy, MakesNothing};
+ghost use Rattle.ste_engine.specs.Findings.{TellFindings};
 ghost use Rattle.ste_engine.specs.private.Firsts.{AreFirsts, IsFirstPlace};
 ghost use Rattle.ste_engine.specs.private.Places.{IsFoundBy};
-ghost use Rattle.ste_engine.specs.private.Reports.{IsFailureOf, IsRunDue, TellFindings};
+ghost use Rattle.ste_engine.specs.private.Reports.{IsFailureOf, IsRunDue};
 
 use crate::firsts::Firsts;
 use crate::place::failing_place;

@@ -44,6 +44,7 @@ use Rattle.ste_model.proofs.GraphReports.{same_edges}
 use Rattle.ste_model.proofs.Passes.{pass_holds}
 use Rattle.ste_model.proofs.Paths.{graph_pass_holds}
 use Rattle.ste_io.specs.Outside.{FilesState}
+use Rattle.work_pool.specs.declared.mode.Mode.TheVariants.{Sets}
 use Rattle.work_pool.specs.Told.{IsToldOf}
 use Rattle.ste_program.specs.Check.{IsCheck, task_steps}
 use Rattle.ste_program.specs.Holds.{BreaksAlong, BreaksIn, BreaksTask, GraphHoldsOf, HoldsOf, TaskHoldsOf}
@@ -88,22 +89,31 @@ no_budget name report (inr vacuous) over = let both : Vacuous ≡ Budget = sym v
 
 -- where pass is reported for a task, it holds
 task_holds : (models : List Model) (net : RawNet) (vars steps cubes : ℕ) (task : Task) (report : TaskReport) → IsFree (IsRefusal models) → IsFlat models net → IsSettled net → IsCheckable net.nets vars task → (report.verdict ≡ Pass) ⊎ (report.verdict ≡ Vacuous) →
-    IsToldOf net vars steps cubes task report → TaskHoldsOf models vars task
+    IsToldOf Sets net vars steps cubes task report → TaskHoldsOf models vars task
 task_holds models net vars steps cubes (Ste task) report sound flat settled checkable says (inl told) = held models net vars task sound flat (pass_holds net vars task report.verdict settled says told.judged)
 task_holds models net vars steps cubes (Ste task) report sound flat settled checkable says (inr over) = absurd (no_budget task.name report says over.0)
 task_holds models net vars steps cubes (Gste graph) report sound flat settled checkable says (inl told) =
     held_graph models net vars graph sound flat (graph_pass_holds net vars graph report.verdict settled (graph_over net vars graph checkable).sound says told.judged)
 task_holds models net vars steps cubes (Gste graph) report sound flat settled checkable says (inr over) = absurd (no_budget graph.name report says over.0)
 
+-- each task of a check may be checked, over the nets of its netlist
+pub checkable_at : (steps : Option ℕ) (cubes : ℕ) (wave nodes : Bool) (net_text task_text : List ℕ) (passes : Bool) (bytes : List ℕ) (written : IsCheck steps cubes wave nodes net_text task_text passes bytes) → (place : ℕ) (task : Task) → slice_get written.tasks.tasks place ≡ Some task →
+    IsCheckable (length (nets written.models)) (length written.tasks.vars) task
+checkable_at steps cubes wave nodes net_text task_text passes bytes written place task here =
+    let r = written.reading in
+    let vars = length written.tasks.vars in
+    let declared = tasks_declared written.models task_text r.raw written.tasks r.spelled r.bound in
+    subst (λ n. IsCheckable n vars task) r.flattened.flat.nets (all_at (IsCheckable written.net.nets vars) written.tasks.tasks place task (promised written.models r.raw written.net written.tasks r.flattened.flat r.bound declared) here)
+
 -- where a check says pass, the task holds
-check_holds : (steps : Option ℕ) (cubes : ℕ) (wave nodes : Bool) (net_text task_text : List ℕ) (passes : Bool) (bytes : List ℕ) (written : IsCheck steps cubes wave nodes net_text task_text passes bytes) → CheckHolds steps cubes wave nodes net_text task_text passes bytes written
+pub check_holds : (steps : Option ℕ) (cubes : ℕ) (wave nodes : Bool) (net_text task_text : List ℕ) (passes : Bool) (bytes : List ℕ) (written : IsCheck steps cubes wave nodes net_text task_text passes bytes) → CheckHolds steps cubes wave nodes net_text task_text passes bytes written
 check_holds given cubes wave nodes net_text task_text passes bytes written = λ place task report here there says.
     let r = written.reading in
     let n = r.flattened in
     let vars = length written.tasks.vars in
     let steps = task_steps given (length written.tasks.tasks) in
-    let told : IsToldOf written.net vars steps cubes task report =
-    at_place (IsToldOf written.net vars steps cubes) written.tasks.tasks written.report.reports place task report written.report.told here there in
+    let told : IsToldOf Sets written.net vars steps cubes task report =
+    at_place (IsToldOf Sets written.net vars steps cubes) written.tasks.tasks written.report.reports place task report written.report.told here there in
     let declared = tasks_declared written.models task_text r.raw written.tasks r.spelled r.bound in
     let checkable : IsCheckable written.net.nets vars task = all_at (IsCheckable written.net.nets vars) written.tasks.tasks place task (promised written.models r.raw written.net written.tasks n.flat r.bound declared) here in
     task_holds written.models written.net vars steps cubes task report n.sound n.flat n.settled checkable says told
@@ -224,7 +234,7 @@ no_run name report run is over = let both : Some run ≡ None = sym is ∙ ap (�
 
 -- a run that is shown of a task breaks it
 task_breaks : (models : List Model) (net : RawNet) (vars steps cubes : ℕ) (task : Task) (report : TaskReport) (run : Run) → IsFree (IsRefusal models) → IsFlat models net → IsSettled net → IsCheckable net.nets vars task → report.run ≡ Some run →
-    IsToldOf net vars steps cubes task report → (bits : List Bool) × (report.least ≡ Some bits) × (length bits ≡ vars) × BreaksTask models task bits report.path run
+    IsToldOf Sets net vars steps cubes task report → (bits : List Bool) × (report.least ≡ Some bits) × (length bits ≡ vars) × BreaksTask models task bits report.path run
 task_breaks models net vars steps cubes (Ste task) report run sound flat settled checkable is (inl told) =
     broken models net vars cubes task sound flat settled (checkable_ant net.nets vars task checkable) (checkable_con net.nets vars task checkable) report run is told.shown told.run
 task_breaks models net vars steps cubes (Ste task) report run sound flat settled checkable is (inr over) = absurd (no_run task.name report run is over.0)
@@ -232,14 +242,14 @@ task_breaks models net vars steps cubes (Gste graph) report run sound flat settl
 task_breaks models net vars steps cubes (Gste graph) report run sound flat settled checkable is (inr over) = absurd (no_run graph.name report run is over.0)
 
 -- where a check shows a run, it breaks its task
-check_breaks : (steps : Option ℕ) (cubes : ℕ) (wave nodes : Bool) (net_text task_text : List ℕ) (passes : Bool) (bytes : List ℕ) (written : IsCheck steps cubes wave nodes net_text task_text passes bytes) → CheckBreaks steps cubes wave nodes net_text task_text passes bytes written
+pub check_breaks : (steps : Option ℕ) (cubes : ℕ) (wave nodes : Bool) (net_text task_text : List ℕ) (passes : Bool) (bytes : List ℕ) (written : IsCheck steps cubes wave nodes net_text task_text passes bytes) → CheckBreaks steps cubes wave nodes net_text task_text passes bytes written
 check_breaks given cubes wave nodes net_text task_text passes bytes written = λ place task report run here there is.
     let r = written.reading in
     let n = r.flattened in
     let vars = length written.tasks.vars in
     let steps = task_steps given (length written.tasks.tasks) in
-    let told : IsToldOf written.net vars steps cubes task report =
-    at_place (IsToldOf written.net vars steps cubes) written.tasks.tasks written.report.reports place task report written.report.told here there in
+    let told : IsToldOf Sets written.net vars steps cubes task report =
+    at_place (IsToldOf Sets written.net vars steps cubes) written.tasks.tasks written.report.reports place task report written.report.told here there in
     let declared = tasks_declared written.models task_text r.raw written.tasks r.spelled r.bound in
     let checkable : IsCheckable written.net.nets vars task = all_at (IsCheckable written.net.nets vars) written.tasks.tasks place task (promised written.models r.raw written.net written.tasks n.flat r.bound declared) here in
     task_breaks written.models written.net vars steps cubes task report run n.sound n.flat n.settled checkable is told

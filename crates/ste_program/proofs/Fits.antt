@@ -24,6 +24,7 @@ use Rattle.ste_model.specs.declared.task.Task.TheVariants.{Ste, Gste}
 use Rattle.ste_model.specs.declared.verdict.Verdict.{Verdict}
 use Rattle.ste_model.proofs.Due.{asks_of_nets}
 use Rattle.ste_model.proofs.DueAlong.{of_cuts}
+use Rattle.work_pool.specs.declared.mode.Mode.TheVariants.{Sets}
 use Rattle.work_pool.specs.Told.{IsToldOf}
 use Rattle.ste_program.specs.private.Made.{AreBindsIn, IsCheckable}
 use Rattle.ste_program.proofs.Broken.{all_at}
@@ -88,7 +89,7 @@ graph_rows_in net n graph verdict least numbers run e (inr h) = subst (λ (o : O
 
 -- ---- tasks
 
-one_fits : (net : RawNet) (vars steps cubes n : ℕ) (task : Task) (report : Report) → net.nets ≡ n → IsCheckable net.nets vars task → IsToldOf net vars steps cubes task report → Fits n report
+one_fits : (net : RawNet) (vars steps cubes n : ℕ) (task : Task) (report : Report) → net.nets ≡ n → IsCheckable net.nets vars task → IsToldOf Sets net vars steps cubes task report → Fits n report
 one_fits net vars steps cubes n (Gste graph) report e checkable (inr over) = subst (λ (r : Report). Fits n r) (sym over.0) (tt, tt)
 one_fits net vars steps cubes n (Gste graph) report e checkable (inl told) =
     let con = subst (λ (k : ℕ). All (λ (edge : Edge). AreBindsIn k edge.con) graph.edges) e (cons_in net.nets vars graph checkable) in (
@@ -102,7 +103,7 @@ one_fits net vars steps cubes n (Ste task) report e checkable (inl told) =
       rows_in net n task report.verdict report.least report.run e told.run,
     )
 
-pub all_fit : (net : RawNet) (vars steps cubes n : ℕ) (tasks : List Task) (reports : List Report) → net.nets ≡ n → All (IsCheckable net.nets vars) tasks → AllZip (IsToldOf net vars steps cubes) tasks reports → All (Fits n) reports
+pub all_fit : (net : RawNet) (vars steps cubes n : ℕ) (tasks : List Task) (reports : List Report) → net.nets ≡ n → All (IsCheckable net.nets vars) tasks → AllZip (IsToldOf Sets net vars steps cubes) tasks reports → All (Fits n) reports
 all_fit net vars steps cubes n [] [] e checkable told = λ k d l. absurd (omega (arith, l))
 all_fit net vars steps cubes n [] (r ∷ reports) e checkable told = absurd told
 all_fit net vars steps cubes n (t ∷ tasks) [] e checkable told = absurd told

@@ -17,6 +17,7 @@ use Rattle.dual_rail.proofs.Turns.{zip_at}
 use Rattle.net_core.specs.declared.raw.RawNet.{RawNet}
 use Rattle.ste_model.specs.declared.report.Report.{Report}
 use Rattle.ste_model.specs.declared.task.Task.{Task}
+use Rattle.work_pool.specs.declared.mode.Mode.TheVariants.{Sets}
 use Rattle.work_pool.specs.Pool.{IsToldOfNumber}
 use Rattle.work_pool.specs.Told.{IsToldOf}
 use Rattle.ste_program.specs.private.Tries.{budget_numbers, is_budget, is_budget_report, says_budget, with_replaced}
@@ -68,34 +69,34 @@ budgets_some reports e =
 module _ (net : RawNet) (vars steps cubes : ℕ) (tasks : List Task) where
   -- each of these reports may be reported for its task, or its number is one of these
   abbrev ToldOrLeft : List ℕ → List Report → Type 0
-  ToldOrLeft numbers reports = (i : ℕ) (task : Task) (report : Report) → i < length tasks → IsToldOf net vars steps cubes (get_or tasks i task) (get_or reports i report) ⊎ Contains numbers i
+  ToldOrLeft numbers reports = (i : ℕ) (task : Task) (report : Report) → i < length tasks → IsToldOf Sets net vars steps cubes (get_or tasks i task) (get_or reports i report) ⊎ Contains numbers i
 
-  replaced_told : (reports : List Report) (numbers : List ℕ) (again : List Report) → length reports ≡ length tasks → AllZip (IsToldOfNumber net vars steps cubes tasks) numbers again → ToldOrLeft numbers reports
-      → AllZip (IsToldOf net vars steps cubes) tasks (with_replaced reports numbers again)
-  replaced_told reports [] [] long news left = zip_of (IsToldOf net vars steps cubes) tasks reports (sym long) (λ i task report lt.
+  replaced_told : (reports : List Report) (numbers : List ℕ) (again : List Report) → length reports ≡ length tasks → AllZip (IsToldOfNumber Sets net vars steps cubes tasks) numbers again → ToldOrLeft numbers reports
+      → AllZip (IsToldOf Sets net vars steps cubes) tasks (with_replaced reports numbers again)
+  replaced_told reports [] [] long news left = zip_of (IsToldOf Sets net vars steps cubes) tasks reports (sym long) (λ i task report lt.
       ⊎_elim (λ told. told) (λ none. absurd (Contains-none i none)) (left i task report lt))
   replaced_told reports [] (r ∷ again) long news left = absurd news
   replaced_told reports (n ∷ numbers) [] long news left = absurd news
   replaced_told reports (n ∷ numbers) (r ∷ again) long news left = replaced_told (set reports n r) numbers again (length-set reports n r ∙ long) news.1 (λ i task report lt. dite (ℕ_discrete i n)
-      (λ (same : i ≡ n). inl (subst (IsToldOf net vars steps cubes (get_or tasks i task)) (sym (get_or-set_at reports n i r report same (omega (arith, lt, long, same))))
+      (λ (same : i ≡ n). inl (subst (IsToldOf Sets net vars steps cubes (get_or tasks i task)) (sym (get_or-set_at reports n i r report same (omega (arith, lt, long, same))))
       (news.0 (get_or tasks i task) (subst (λ k. slice_get tasks k ≡ Some (get_or tasks i task)) same (slice_get-get_or tasks i task lt)))))
       (λ (other : i ≢ n). ⊎_elim
-      (λ told. inl (subst (IsToldOf net vars steps cubes (get_or tasks i task)) (sym (get_or-set_other reports n i r report other)) told))
+      (λ told. inl (subst (IsToldOf Sets net vars steps cubes (get_or tasks i task)) (sym (get_or-set_other reports n i r report other)) told))
       (λ has. inr (⊎_elim (λ (e : n ≡ i). absurd (other (sym e))) (λ rest. rest) (Contains-cons_cases n numbers i has)))
       (left i task report lt)))
 
   -- a report with few steps stands, but where it says budget
-  left_of : (few : ℕ) (old : List Report) → AllZip (IsToldOf net vars few cubes) tasks old → ToldOrLeft (budget_numbers old) old
+  left_of : (few : ℕ) (old : List Report) → AllZip (IsToldOf Sets net vars few cubes) tasks old → ToldOrLeft (budget_numbers old) old
   left_of few old told i task report lt = by (is_budget (get_or old i report).verdict) refl
     where
       at : i < length old
-      at = let long = AllZip-long (IsToldOf net vars few cubes) tasks old told in omega (arith, lt, long)
+      at = let long = AllZip-long (IsToldOf Sets net vars few cubes) tasks old told in omega (arith, lt, long)
 
-      by : (test : Bool) → is_budget (get_or old i report).verdict ≡ test → IsToldOf net vars steps cubes (get_or tasks i task) (get_or old i report) ⊎ Contains (budget_numbers old) i
+      by : (test : Bool) → is_budget (get_or old i report).verdict ≡ test → IsToldOf Sets net vars steps cubes (get_or tasks i task) (get_or old i report) ⊎ Contains (budget_numbers old) i
       by true e = inr (Contains-filter (says_budget old) (range_with_len 0 (length old)) i (counted (length old) i at) (ap is_budget_report (slice_get-get_or old i report at) ∙ e))
-      by false e = inl (one_told net vars few steps cubes (get_or tasks i task) (get_or old i report) e (zip_at (IsToldOf net vars few cubes) tasks old i task report told at))
+      by false e = inl (one_told net vars few steps cubes (get_or tasks i task) (get_or old i report) e (zip_at (IsToldOf Sets net vars few cubes) tasks old i task report told at))
 
   -- the tasks that said budget are checked again
-  pub rechecked_reports : (few : ℕ) (old again : List Report) → AllZip (IsToldOf net vars few cubes) tasks old → AllZip (IsToldOfNumber net vars steps cubes tasks) (budget_numbers old) again
-      → AllZip (IsToldOf net vars steps cubes) tasks (with_replaced old (budget_numbers old) again)
-  rechecked_reports few old again told news = replaced_told old (budget_numbers old) again (AllZip-long (IsToldOf net vars few cubes) tasks old told) news (left_of few old told)
+  pub rechecked_reports : (few : ℕ) (old again : List Report) → AllZip (IsToldOf Sets net vars few cubes) tasks old → AllZip (IsToldOfNumber Sets net vars steps cubes tasks) (budget_numbers old) again
+      → AllZip (IsToldOf Sets net vars steps cubes) tasks (with_replaced old (budget_numbers old) again)
+  rechecked_reports few old again told news = replaced_told old (budget_numbers old) again (AllZip-long (IsToldOf Sets net vars few cubes) tasks old told) news (left_of few old told)

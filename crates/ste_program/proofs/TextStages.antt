@@ -1,8 +1,9 @@
 -- The stages of a command's texts: each gives one refusal at most, and what is known silences it.
-use Rattle.std.proofs.Common.{◌≡◌, ℕ, List, [], ◌∷◌, length, Option, Result, Ok, Err, Bool, true, false, refl, ap, sym, ◌∙◌, inl, inr, subst}
+use Rattle.std.proofs.Common.{◌≡◌, ℕ, List, [], ◌∷◌, ◌++◌, length, Option, Result, Ok, Err, Bool, true, false, refl, ap, sym, ◌∙◌, inl, inr, subst}
 use Rattle.std.specs.Prelude.{MatchResult}
 use Rattle.std.proofs.lemmas.List.{length-map}
 use Rattle.blif_lines.specs.Lines.{lines_of}
+use Rattle.aig_model.specs.declared.fault.AigFault.{AigFault}
 use Rattle.blif_syntax.specs.declared.fault.BlifFault.{BlifFault}
 use Rattle.blif_syntax.specs.declared.models.Model.{Model}
 use Rattle.clock_step.specs.Answer as inputs
@@ -26,8 +27,8 @@ use Rattle.task_binding.specs.declared.fault.BindFault.{BindFault}
 use Rattle.task_binding.proofs.Alike as binding
 use Rattle.ste_program.specs.Answer.{status_of}
 use Rattle.ste_program.specs.Check.{IsCheck, are_too_many}
-use Rattle.ste_program.specs.Netlist.{IsLoop, IsNetlist}
-use Rattle.ste_program.specs.Order.{AllSilent, CannotBind, HasTooManySteps, IsFaultyFor, IsFirstRefusal, check_stages, has_faulty_hierarchy, has_faulty_inputs, has_faulty_tasks, has_loop, info_stages, is_faulty, is_unbound, text_stages}
+use Rattle.ste_program.specs.Netlist.{IsLoop, IsNetlist, IsNetlistAs, is_aag}
+use Rattle.ste_program.specs.Order.{AllSilent, CannotBind, HasTooManySteps, IsFaultyFor, IsFirstRefusal, check_stages, has_faulty_hierarchy, has_faulty_inputs, has_faulty_tasks, has_loop, info_stages, is_faulty, is_faulty_as, is_unbound, sim_stages, text_stages}
 use Rattle.ste_program.specs.Reading.{OneReading}
 use Rattle.ste_program.specs.Report.{IsWritten}
 use Rattle.ste_program.specs.TaskFile.{AreTasks}
@@ -37,6 +38,7 @@ use Rattle.ste_program.specs.private.Prepared.{IsPrepared}
 use Rattle.ste_program.specs.private.Texts.{OrMemory}
 use Rattle.ste_program.specs.declared.refusal.Refusal.{Refusal}
 use Rattle.ste_program.specs.declared.refusal.Refusal.TheVariants as refusal
+use Rattle.ste_program.specs.declared.run.Status.TheVariants as status
 use Rattle.ste_program.proofs.HierarchyFaults as hierarchy
 use Rattle.ste_program.proofs.Loops.{no_loop, one_loop}
 use Rattle.ste_program.proofs.NetlistText as netlist
@@ -45,8 +47,12 @@ use Rattle.ste_program.proofs.Stages.{AllOnce, AllTold}
 use Rattle.ste_program.proofs.TaskText as tasks
 
 -- each stage of the texts gives one refusal at most
+faulty_once_as : (aag : Bool) (net_text : List ℕ) (one other : Refusal) → is_faulty_as aag net_text one → is_faulty_as aag net_text other → one ≡ other
+faulty_once_as true net_text one other f g = f.1 ∙ (ap (λ (fault : AigFault). refusal.Aig fault) (netlist.one_aig_fault net_text f.0 g.0 f.2 g.2) ∙ sym g.1)
+faulty_once_as false net_text one other f g = f.1 ∙ (ap (λ (fault : BlifFault). refusal.Netlist fault) (netlist.one_blif_fault net_text f.0 g.0 f.2 g.2) ∙ sym g.1)
+
 faulty_once : (net_text : List ℕ) (one other : Refusal) → is_faulty net_text one → is_faulty net_text other → one ≡ other
-faulty_once net_text one other f g = f.1 ∙ (ap (λ (fault : BlifFault). refusal.Netlist fault) (netlist.one_fault net_text f.0 g.0 f.2 g.2) ∙ sym g.1)
+faulty_once net_text one other f g = faulty_once_as (is_aag net_text) net_text one other f g
 
 tasks_once : (task_text : List ℕ) (one other : Refusal) → has_faulty_tasks task_text one → has_faulty_tasks task_text other → one ≡ other
 tasks_once task_text one other f g = f.1 ∙ (ap (λ (fault : TaskFault). refusal.Tasks fault) (tasks.one_fault task_text f.0 g.0 f.2 g.2) ∙ sym g.1)
@@ -103,19 +109,30 @@ text_once (sim net inputs) steps net_text second_text = (faulty_once net_text, (
 text_once (bench stages) steps net_text second_text = check_once steps (pipeline_net stages) (pipeline_tasks stages)
 
 -- what a stage of the texts gives is reported with status 2
+faulty_told_as : (aag : Bool) (net_text : List ℕ) (found : Refusal) → is_faulty_as aag net_text found → status_of found ≡ status.Refused
+faulty_told_as true net_text found h = ap status_of h.1
+faulty_told_as false net_text found h = ap status_of h.1
+
+faulty_told : (net_text : List ℕ) (found : Refusal) → is_faulty net_text found → status_of found ≡ status.Refused
+faulty_told net_text found h = faulty_told_as (is_aag net_text) net_text found h
+
 check_told : (steps : Option ℕ) (net_text task_text : List ℕ) → AllTold (check_stages steps net_text task_text)
 check_told steps net_text task_text =
-    ((λ found h. ap status_of h.1), ((λ found h. ap status_of h.1), ((λ found h. ap status_of h.1), ((λ found h. ap status_of h.1), ((λ found h. ap status_of h.1), ((λ found h. ap status_of h.is), tt))))))
+    ((λ found h. faulty_told net_text found h), ((λ found h. ap status_of h.1), ((λ found h. ap status_of h.1), ((λ found h. ap status_of h.1), ((λ found h. ap status_of h.1), ((λ found h. ap status_of h.is), tt))))))
 
 pub text_told : (action : Action) (steps : Option ℕ) (net_text second_text : List ℕ) → AllTold (text_stages action steps net_text second_text)
 text_told (check net tasks) steps net_text second_text = check_told steps net_text second_text
-text_told (info net) steps net_text second_text = ((λ found h. ap status_of h.1), ((λ found h. ap status_of h.1), ((λ found h. ap status_of h.1), tt)))
-text_told (sim net inputs) steps net_text second_text = ((λ found h. ap status_of h.1), ((λ found h. ap status_of h.1), ((λ found h. ap status_of h.1), ((λ found h. ap status_of h.1), tt))))
+text_told (info net) steps net_text second_text = ((λ found h. faulty_told net_text found h), ((λ found h. ap status_of h.1), ((λ found h. ap status_of h.1), tt)))
+text_told (sim net inputs) steps net_text second_text = ((λ found h. faulty_told net_text found h), ((λ found h. ap status_of h.1), ((λ found h. ap status_of h.1), ((λ found h. ap status_of h.1), tt))))
 text_told (bench stages) steps net_text second_text = check_told steps (pipeline_net stages) (pipeline_tasks stages)
 
 -- what is known silences a stage
+faulty_silent_as : (aag : Bool) (net_text : List ℕ) (models : List Model) → IsNetlistAs aag net_text models → (other : Refusal) → ¬ is_faulty_as aag net_text other
+faulty_silent_as true net_text models spelled other h = netlist.no_aig_fault net_text models h.0 spelled h.2
+faulty_silent_as false net_text models spelled other h = netlist.no_blif_fault net_text models h.0 spelled h.2
+
 faulty_silent : (net_text : List ℕ) (models : List Model) → IsNetlist net_text models → (other : Refusal) → ¬ is_faulty net_text other
-faulty_silent net_text models spelled other h = netlist.no_fault net_text models h.0 spelled h.2
+faulty_silent net_text models spelled other h = faulty_silent_as (is_aag net_text) net_text models spelled other h
 
 tasks_silent : (task_text : List ℕ) (raw : RawTasks) → AreTasks task_text raw → (other : Refusal) → ¬ has_faulty_tasks task_text other
 tasks_silent task_text raw read other h = tasks.no_fault task_text raw h.0 read h.2
@@ -239,6 +256,17 @@ net_stages steps net_text task_text = has_faulty_hierarchy net_text ∷ has_loop
 
 abbrev task_stages : Option ℕ → List ℕ → List ℕ → List (Refusal → Type 0)
 task_stages steps net_text task_text = has_faulty_tasks task_text ∷ net_stages steps net_text task_text
+
+-- the first refusal of stages is that of more stages
+first_of_more : (stages more : List (Refusal → Type 0)) (found : Refusal) → IsFirstRefusal stages found → IsFirstRefusal (stages ++ more) found
+first_of_more [] more found h = absurd h
+first_of_more (stage ∷ stages) more found (inl h) = inl h
+first_of_more (stage ∷ stages) more found (inr h) = inr (h.0, first_of_more stages more found h.1)
+
+-- the netlist of a simulation is refused
+pub sim_fails : (net_text input_text : List ℕ) (found : Refusal) → OrMemory (IsFirstRefusal (info_stages net_text)) found → OrMemory (IsFirstRefusal (sim_stages net_text input_text)) found
+sim_fails net_text input_text found (inl e) = inl e
+sim_fails net_text input_text found (inr h) = inr (first_of_more (info_stages net_text) (has_faulty_inputs net_text input_text ∷ []) found h)
 
 -- the netlist's text is refused
 pub netlist_text_fails : (steps : Option ℕ) (net_text task_text : List ℕ) (found : Refusal) → OrMemory (is_faulty net_text) found → OrMemory (IsFirstRefusal (check_stages steps net_text task_text)) found

@@ -1,6 +1,9 @@
 -- What the layers' own answers say of texts.
 use Rattle.std.proofs.Common.{◌≡◌, ◌∙◌, ℕ, List, length, Option, Some, Result, Err, refl, ap, sym, subst, inl, inr}
 use Rattle.std.specs.Prelude.{◌⊎◌, slice_get}
+use Rattle.aig_model.specs.Answer.{IsAigAnswer}
+use Rattle.aig_model.specs.declared.fault.AigFault.{AigFault}
+use Rattle.aig_model.specs.declared.fault.AigFault.TheVariants as aig
 use Rattle.blif_lines.specs.declared.lines.Line.{Line}
 use Rattle.blif_lines.specs.Lines.{lines_of}
 use Rattle.blif_syntax.specs.Answer as blif_answer
@@ -24,20 +27,25 @@ use Rattle.task_binding.specs.Answer.{IsBindAnswer}
 use Rattle.task_binding.specs.declared.fault.BindFault.{BindFault}
 use Rattle.task_binding.specs.declared.fault.BindFault.TheVariants as bind
 use Rattle.ste_program.specs.Netlist.{IsLoop, net_lines}
-use Rattle.ste_program.specs.Order.{is_faulty}
-use Rattle.ste_program.specs.Refused.{binding_refused, hierarchy_refused, netlist_refused}
+use Rattle.ste_program.specs.Order.{is_faulty_aig, is_faulty_blif}
+use Rattle.ste_program.specs.Refused.{aig_refused, binding_refused, hierarchy_refused, netlist_refused}
 use Rattle.ste_program.specs.private.Made.{HasNoNet, IsNetOf, IsNotBound}
 use Rattle.ste_program.specs.private.Texts.{OrMemory}
 
 -- a netlist's text that is refused
-netlist_told : (text : List ℕ) (fault : BlifFault) → blif_answer.IsBlifAnswer (net_lines text) (Err fault) → OrMemory (is_faulty text) (netlist_refused fault)
+pub aig_told : (text : List ℕ) (fault : AigFault) → IsAigAnswer text (Err fault) → OrMemory (is_faulty_aig text) (aig_refused fault)
+aig_told text (aig.BadLine line) h = inr (aig.BadLine line, refl, ((λ e. absurd (cc e)), h))
+aig_told text (aig.LeftOut line word) h = inr (aig.LeftOut line word, refl, ((λ e. absurd (cc e)), h))
+aig_told text aig.OutOfMemory h = inl refl
+
+netlist_told : (text : List ℕ) (fault : BlifFault) → blif_answer.IsBlifAnswer (net_lines text) (Err fault) → OrMemory (is_faulty_blif text) (netlist_refused fault)
 netlist_told text (blif.BadLine line) h = inr (blif.BadLine line, refl, ((λ e. absurd (cc e)), h))
 netlist_told text (blif.UnknownWord line word) h = inr (blif.UnknownWord line word, refl, ((λ e. absurd (cc e)), h))
 netlist_told text (blif.LeftOut line word) h = inr (blif.LeftOut line word, refl, ((λ e. absurd (cc e)), h))
 netlist_told text blif.NoModel h = inr (blif.NoModel, refl, ((λ e. absurd (cc e)), h))
 netlist_told text blif.OutOfMemory h = inl refl
 
-pub no_models : (text : List ℕ) (lines : List Line) (fault : BlifFault) → lines ≡ lines_of text → blif_answer.IsBlifAnswer (blif_answer.entries_of lines) (Err fault) → OrMemory (is_faulty text) (netlist_refused fault)
+pub no_models : (text : List ℕ) (lines : List Line) (fault : BlifFault) → lines ≡ lines_of text → blif_answer.IsBlifAnswer (blif_answer.entries_of lines) (Err fault) → OrMemory (is_faulty_blif text) (netlist_refused fault)
 no_models text lines fault same h = netlist_told text fault (subst (λ (ls : List Line). blif_answer.IsBlifAnswer (blif_answer.entries_of ls) (Err fault)) same h)
 
 -- a hierarchy that is refused

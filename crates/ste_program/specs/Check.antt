@@ -11,6 +11,7 @@ use Rattle.ste_model.specs.declared.task.Tasks.{Tasks}
 use Rattle.ste_model.specs.declared.verdict.Verdict.{Verdict}
 use Rattle.ste_model.specs.declared.verdict.Verdict.TheVariants.{Pass}
 use Rattle.report_text.specs.Text.{report_text}
+use Rattle.work_pool.specs.declared.mode.Mode.TheVariants.{Sets}
 use Rattle.work_pool.specs.Told.{IsSharedCount, IsToldOf}
 use Rattle.ste_program.specs.Reading.{IsReading}
 
@@ -32,9 +33,9 @@ pub record IsReportOn (names : List (List ℕ)) (net : RawNet) (steps cubes : �
     (tasks : Tasks) (passes : Bool) (bytes : List ℕ) : Type 0 where
   pub reports : List Report
   pub shared : Option ℕ
-  pub told : AllZip (IsToldOf net (length tasks.vars) steps cubes) tasks.tasks reports
+  pub told : AllZip (IsToldOf Sets net (length tasks.vars) steps cubes) tasks.tasks reports
   pub shown : is_some shared ≡ nodes
-  pub counted : IfSome shared (IsSharedCount net (length tasks.vars) steps tasks.tasks reports)
+  pub counted : IfSome shared (IsSharedCount Sets net (length tasks.vars) (length tasks.vars) steps tasks.tasks reports)
   pub passing : passes ≡ list_all (λ report. is_pass report.verdict) reports
   pub written : bytes ≡ report_text names tasks.vars wave shared tasks.tasks reports
 

@@ -10,16 +10,16 @@ use Rattle.net_core.specs.Source.{source_of}
 use Rattle.ste_program.specs.Netlist.{IsFlattened}
 
 -- the source of a free net
-abbrev pub is_free : Source → Bool
-is_free Input = false
-is_free Free = true
-is_free (Gate number) = false
-is_free (Latch number) = false
+abbrev pub is_free_source : Source → Bool
+is_free_source Input = false
+is_free_source Free = true
+is_free_source (Gate number) = false
+is_free_source (Latch number) = false
 
 -- how many of the nets below a number are free: nothing drives them, and they are no inputs
 abbrev pub free_below : RawNet → ℕ → ℕ
 free_below net zero = 0
-free_below net (suc id) = free_below net id + (if is_free (source_of net id) then 1 else 0)
+free_below net (suc id) = free_below net id + (if is_free_source (source_of net id) then 1 else 0)
 
 -- a line with a word and a number
 abbrev pub count_line : List ℕ → ℕ → List ℕ

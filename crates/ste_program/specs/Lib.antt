@@ -5,6 +5,7 @@ pub mod Netlist
 pub mod TaskFile
 pub mod Reading
 pub mod Holds
+pub mod LiteralHolds
 pub mod Check
 pub mod Bench
 pub mod Info

@@ -2,6 +2,8 @@
 -- Source: this project's own choice.
 use Rattle.std.specs.Prelude.{ℕ, List, codes, ◌++◌, Option}
 use Rattle.std.specs.Fmt.{decimal}
+use Rattle.aig_model.specs.declared.fault.AigFault.{AigFault}
+use Rattle.aig_model.specs.declared.fault.AigFault.TheVariants as aig
 use Rattle.blif_syntax.specs.declared.fault.BlifFault.{BlifFault}
 use Rattle.blif_syntax.specs.declared.fault.BlifFault.TheVariants as blif
 use Rattle.hierarchy.specs.declared.fault.NetFault.{NetFault}
@@ -16,7 +18,7 @@ use Rattle.command_line.specs.Command.{Command}
 use Rattle.ste_program.specs.Command.{file_name}
 use Rattle.ste_program.specs.declared.refusal.File.TheVariants as file
 use Rattle.ste_program.specs.declared.refusal.Refusal.{Refusal}
-use Rattle.ste_program.specs.declared.refusal.Refusal.TheVariants.{Usage, CannotRead, TooLarge, Netlist, Tasks, Hierarchy, Loop, Binding, Inputs, TooManySteps, OutOfMemory}
+use Rattle.ste_program.specs.declared.refusal.Refusal.TheVariants.{Usage, CannotRead, TooLarge, Netlist, Aig, Tasks, Hierarchy, Loop, Binding, Inputs, TooManySteps, OutOfMemory}
 
 -- out of memory
 abbrev pub out_of_memory : List ℕ
@@ -43,6 +45,12 @@ netlist_message name (blif.UnknownWord line word) =
 netlist_message name (blif.LeftOut line word) = line_message name line (codes "left out: " ++ word)
 netlist_message name blif.NoModel = file_message name (codes "no model")
 netlist_message name blif.OutOfMemory = out_of_memory
+
+-- the message on an AIGER text that is refused
+abbrev pub aig_message : List ℕ → AigFault → List ℕ
+aig_message name (aig.BadLine line) = line_message name line (codes "bad line")
+aig_message name (aig.LeftOut line word) = line_message name line (codes "left out: " ++ word)
+aig_message name aig.OutOfMemory = out_of_memory
 
 -- the message on a task file's text that is refused
 abbrev pub tasks_message : List ℕ → TaskFault → List ℕ
@@ -108,6 +116,7 @@ message_of command (CannotRead which) =
     codes "stework: cannot read " ++ file_name command which ++ codes "\n"
 message_of command (TooLarge which) = file_message (file_name command which) (codes "too large")
 message_of command (Netlist found) = netlist_message (file_name command file.Net) found
+message_of command (Aig found) = aig_message (file_name command file.Net) found
 message_of command (Tasks found) = tasks_message (file_name command file.Second) found
 message_of command (Hierarchy found) = hierarchy_message (file_name command file.Net) found
 message_of command (Loop name) =

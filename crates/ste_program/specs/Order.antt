@@ -1,6 +1,7 @@
 -- Meaning, and two laws. The order of refusals: stages, of which each gives a refusal or nothing;
 -- the first that gives one decides. Source: this project's own choice.
-use Rattle.std.specs.Prelude.{◌≡◌, ◌≢◌, ◌<◌, ◌⊎◌, ◌∷◌, [], ⊤, ℕ, Bool, List, length, true, Option, Some, None, Err, IsSomeAnd}
+use Rattle.std.specs.Prelude.{◌≡◌, ◌≢◌, ◌<◌, ◌⊎◌, ◌∷◌, [], ⊤, ℕ, Bool, List, length, true, false, Option, Some, None, Err, IsSomeAnd}
+use Rattle.aig_model.specs.declared.fault.AigFault.{AigFault}
 use Rattle.blif_lines.specs.Lines.{lines_of}
 use Rattle.blif_syntax.specs.declared.fault.BlifFault.{BlifFault}
 use Rattle.blif_syntax.specs.declared.models.Model.{Model}
@@ -23,7 +24,7 @@ use Rattle.task_binding.specs.declared.fault.BindFault.TheVariants as bind
 use Rattle.ste_io.specs.Outside.{FilesState, StoredFiles}
 use Rattle.ste_program.specs.Check.{are_too_many}
 use Rattle.ste_program.specs.Command.{file_of, net_file, second_file}
-use Rattle.ste_program.specs.Netlist.{IsLoop, IsNetlist, IsNetlistFault}
+use Rattle.ste_program.specs.Netlist.{IsAigTextFault, IsBlifTextFault, IsLoop, IsNetlist, is_aag}
 use Rattle.ste_program.specs.Report.{IsReport, greatest, text_at}
 use Rattle.ste_program.specs.TaskFile.{AreTasks, IsTasksFault}
 use Rattle.ste_program.specs.declared.refusal.File.{File}
@@ -42,10 +43,24 @@ IsFirstRefusal [] found = ⊥
 IsFirstRefusal (stage ∷ stages) found =
     stage found ⊎ (((other : Refusal) → ¬ stage other) × IsFirstRefusal stages found)
 
+-- the text of the netlist is faulty as BLIF
+abbrev pub is_faulty_blif : List ℕ → Refusal → Type 0
+is_faulty_blif net_text found =
+    (fault : BlifFault) × (found ≡ refusal.Netlist fault) × IsBlifTextFault net_text fault
+
+-- the text of the netlist is faulty as AIGER
+abbrev pub is_faulty_aig : List ℕ → Refusal → Type 0
+is_faulty_aig net_text found =
+    (fault : AigFault) × (found ≡ refusal.Aig fault) × IsAigTextFault net_text fault
+
+-- the text of the netlist is faulty, as AIGER or as BLIF
+abbrev pub is_faulty_as : Bool → List ℕ → Refusal → Type 0
+is_faulty_as true net_text found = is_faulty_aig net_text found
+is_faulty_as false net_text found = is_faulty_blif net_text found
+
 -- the text of the netlist is faulty
 abbrev pub is_faulty : List ℕ → Refusal → Type 0
-is_faulty net_text found =
-    (fault : BlifFault) × (found ≡ refusal.Netlist fault) × IsNetlistFault net_text fault
+is_faulty net_text found = is_faulty_as (is_aag net_text) net_text found
 
 -- the text of the tasks is faulty
 abbrev pub has_faulty_tasks : List ℕ → Refusal → Type 0

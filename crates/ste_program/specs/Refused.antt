@@ -1,4 +1,6 @@
 -- Meaning. The refusal that goes with a layer's own fault. Source: this project's own choice.
+use Rattle.aig_model.specs.declared.fault.AigFault.{AigFault}
+use Rattle.aig_model.specs.declared.fault.AigFault.TheVariants as aig
 use Rattle.blif_syntax.specs.declared.fault.BlifFault.{BlifFault}
 use Rattle.blif_syntax.specs.declared.fault.BlifFault.TheVariants as blif
 use Rattle.hierarchy.specs.declared.fault.NetFault.{NetFault}
@@ -11,6 +13,11 @@ use Rattle.clock_step.specs.declared.fault.InputFault.{InputFault}
 use Rattle.clock_step.specs.declared.fault.InputFault.TheVariants as input
 use Rattle.ste_program.specs.declared.refusal.Refusal.{Refusal}
 use Rattle.ste_program.specs.declared.refusal.Refusal.TheVariants as refusal
+
+-- a fault of an AIGER text
+abbrev pub aig_refused : AigFault → Refusal
+aig_refused aig.OutOfMemory = refusal.OutOfMemory
+aig_refused found = refusal.Aig found
 
 -- a fault of a netlist's text
 abbrev pub netlist_refused : BlifFault → Refusal

@@ -1,7 +1,8 @@
--- Meaning, and two laws. What a command writes on what the files hold. Source: this project's own
+-- Meaning, and three laws. What a command writes on what the files hold. Source: this project's own
 -- choice.
-use Rattle.std.specs.Prelude.{◌≡◌, ◌≤◌, ◌⊎◌, ⊤, ℕ, Bool, true, List, [], length, Option, Some, None, IfSome, slice_get}
+use Rattle.std.specs.Prelude.{◌≡◌, ◌≤◌, ◌⊎◌, ⊤, ℕ, Bool, true, List, [], length, Option, Some, None, IfSome, IsTrue, slice_get}
 use Rattle.std.specs.FinMap.{get}
+use Rattle.aig_model.specs.Answer.{spelled_aig}
 use Rattle.command_line.specs.Command.{Action, Command, bench, check, info, sim}
 use Rattle.net_gen.specs.Pipeline.{pipeline_net, pipeline_tasks}
 use Rattle.ste_model.specs.declared.task.Task.{Task}
@@ -14,6 +15,8 @@ use Rattle.ste_program.specs.Check.{IsCheck}
 use Rattle.ste_program.specs.Command.{net_file, second_file}
 use Rattle.ste_program.specs.Holds.{BreaksTask, TaskHoldsOf}
 use Rattle.ste_program.specs.Info.{IsInfo}
+use Rattle.ste_program.specs.LiteralHolds.{BreaksTaskOnLiterals, TaskHoldsOfLiterals}
+use Rattle.ste_program.specs.Netlist.{is_aag}
 use Rattle.ste_program.specs.Simulated.{IsSimulated}
 
 -- the greatest size of a file, in bytes
@@ -119,4 +122,40 @@ abbrev pub RunsBreak : Option Command → FilesState → Type 0
 RunsBreak command files =
     (passes : Bool) (bytes : List ℕ) (report : IsReport command files passes bytes) →
     TheyBreak report.asked.action report.asked report.net_text report.second_text passes bytes
+    report.written
+
+-- What a check of an AIGER netlist says of the literals: where it says pass, or contradictory
+-- antecedent, of a task, the task holds of them; and where it shows a run of a task, the run breaks
+-- the task on them.
+pub record CheckTellsLiterals (steps : Option ℕ) (cubes : ℕ) (wave nodes : Bool)
+    (net_text task_text : List ℕ) (passes : Bool) (bytes : List ℕ)
+    (written : IsCheck steps cubes wave nodes net_text task_text passes bytes) : Type 0 where
+  pub holds : (place : ℕ) (task : Task) (report : TaskReport) →
+      slice_get written.tasks.tasks place ≡ Some task →
+      slice_get written.report.reports place ≡ Some report →
+      (report.verdict ≡ Pass) ⊎ (report.verdict ≡ Vacuous) →
+      TaskHoldsOfLiterals (spelled_aig net_text) (length written.tasks.vars) task
+  pub breaks : (place : ℕ) (task : Task) (report : TaskReport) (run : Run) →
+      slice_get written.tasks.tasks place ≡ Some task →
+      slice_get written.report.reports place ≡ Some report → report.run ≡ Some run →
+      (bits : List Bool) × (report.least ≡ Some bits) × (length bits ≡ length written.tasks.vars)
+      × BreaksTaskOnLiterals (spelled_aig net_text) task bits report.path run
+
+-- the same of what an action writes; `bench` reads no netlist, and makes no AIGER
+abbrev pub TellLiterals : (action : Action) (asked : Command) (net_text second_text : List ℕ)
+    (passes : Bool) (bytes : List ℕ) → IsWritten action asked net_text second_text passes bytes →
+    Type 0
+TellLiterals (check net tasks) asked net_text second_text passes bytes written =
+    IsTrue (is_aag net_text) → CheckTellsLiterals asked.steps asked.cubes asked.wave asked.nodes
+    net_text second_text passes bytes written
+TellLiterals (info net) asked net_text second_text passes bytes written = ⊤
+TellLiterals (sim net inputs) asked net_text second_text passes bytes written = ⊤
+TellLiterals (bench stages) asked net_text second_text passes bytes written = ⊤
+
+-- Law: of an AIGER netlist what passes holds of the literals as they were written, and each run that
+-- a report shows is a run of the literals and breaks its task.
+abbrev pub ReportTellsLiterals : Option Command → FilesState → Type 0
+ReportTellsLiterals command files =
+    (passes : Bool) (bytes : List ℕ) (report : IsReport command files passes bytes) →
+    TellLiterals report.asked.action report.asked report.net_text report.second_text passes bytes
     report.written

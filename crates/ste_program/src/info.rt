@@ -2,7 +2,7 @@
 ghost use Rattle.std.specs.Prelude.{◌≡◌, ◌≤◌, ◌++◌, ℕ, List, true, IfOk, MatchResult, length};
 ghost use Rattle.blif_syntax.specs.declared.models.Model.{Model};
 ghost use Rattle.net_core.specs.declared.source.Source.{Source};
-ghost use Rattle.ste_program.specs.Info.{IsInfo, count_line, free_below, info_text, is_free};
+ghost use Rattle.ste_program.specs.Info.{IsInfo, count_line, free_below, info_text, is_free_source};
 ghost use Rattle.ste_program.specs.Netlist.{IsNetlist};
 ghost use Rattle.ste_program.specs.Order.{IsFirstRefusal, info_stages};
 ghost use Rattle.ste_program.specs.Report.{greatest};
@@ -17,8 +17,8 @@ use std::alloc::{AllocError, Global};
 use ste_base::NodeId;
 
 /// Whether this is the source of a free net.
-fn is_free(source: Source) -> bool
-    ensures { result ≡ is_free source }
+fn is_free_source(source: Source) -> bool
+    ensures { result ≡ is_free_source source }
 {
     matches!(source, Source::Free)
 }
@@ -30,7 +30,7 @@ fn free_nets(net: &Net) -> u32
     let mut count = 0;
     let mut id = 0;
     while id < net.nets() {
-        if is_free(net.source(NodeId(id))) {
+        if is_free_source(net.source(NodeId(id))) {
             count += 1;
         }
         id += 1;

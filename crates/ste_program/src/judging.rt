@@ -8,6 +8,7 @@ ghost use Rattle.gate_sets.specs.Lists.{rows_of};
 ghost use Rattle.ste_program.specs.Check.{is_pass};
 ghost use Rattle.ste_program.specs.private.Made.{IsCheckable};
 ghost use Rattle.ste_program.specs.private.Tries.{budget_numbers, first_steps, is_budget, most_first_steps, next_steps, says_budget, with_replaced};
+ghost use Rattle.work_pool.specs.declared.mode.Mode.TheVariants.{Sets};
 ghost use Rattle.work_pool.specs.Told.{IsSharedCount, IsToldOf};
 
 use command_line::Command;
@@ -16,7 +17,7 @@ use std::alloc::{AllocError, Global};
 use std::thread::Threads;
 use ste_model::{Report, Tasks, Verdict};
 use sym_step::GateRows;
-use work_pool::{Gate, PoolAnswer, run_alone, run_some, run_tasks};
+use work_pool::{Gate, Mode, PoolAnswer, run_alone, run_some, run_tasks};
 
 /// The node steps for each net that are tried first.
 const FIRST_STEPS_A_NET: u32 = 12;
@@ -182,11 +183,12 @@ pub fn reports_of<R: Threads + Sync, G: Gate + Sync>(
     requires vars { length tasks.now.vars ≤ most_variables }
     requires steps { (1 ≤ steps) × (length tasks.now.tasks * steps ≤ 16000000) }
     ensures told { IfOk result (λ told. AllZip
-        (IsToldOf net.now.raw (length tasks.now.vars) steps asked.now.cubes) tasks.now.tasks
+        (IsToldOf Sets net.now.raw (length tasks.now.vars) steps asked.now.cubes) tasks.now.tasks
         told.reports.items) }
     ensures shown { IfOk result (λ told. is_some told.shared ≡ asked.now.nodes) }
-    ensures counted { IfOk result (λ told. IfSome told.shared (IsSharedCount net.now.raw
-        (length tasks.now.vars) steps tasks.now.tasks told.reports.items)) }
+    ensures counted { IfOk result (λ told. IfSome told.shared (IsSharedCount Sets net.now.raw
+        (length tasks.now.vars) (length tasks.now.vars) steps tasks.now.tasks
+        told.reports.items)) }
 {
     if asked.nodes || (asked.workers > 1 && tasks.tasks.len() > 1) {
         let checking = Checking {
@@ -200,7 +202,7 @@ pub fn reports_of<R: Threads + Sync, G: Gate + Sync>(
         return check_with_growing_steps(rt, alloc, &checking, steps, gate);
     }
     let cubes = asked.cubes;
-    let answer = run_alone(alloc, net, rows, tasks, steps, cubes, gate)?;
+    let answer = run_alone(alloc, Mode::Sets, net, rows, tasks, steps, cubes, gate)?;
     Ok(Reports {
         reports: answer.reports,
         shared: None,
@@ -223,12 +225,13 @@ fn check_with_growing_steps<R: Threads + Sync, G: Gate + Sync>(
     gate: &G,
 ) -> Result<Reports, AllocError>
     requires steps { (1 ≤ steps) × (length checking.now.tasks.now.tasks * steps ≤ 16000000) }
-    ensures told { IfOk result (λ told. AllZip (IsToldOf checking.now.net.now.raw
+    ensures told { IfOk result (λ told. AllZip (IsToldOf Sets checking.now.net.now.raw
         (length checking.now.tasks.now.vars) steps checking.now.cubes)
         checking.now.tasks.now.tasks told.reports.items) }
     ensures shown { IfOk result (λ told. is_some told.shared ≡ checking.now.nodes) }
     ensures counted { IfOk result (λ told. IfSome told.shared
-        (IsSharedCount checking.now.net.now.raw (length checking.now.tasks.now.vars) steps
+        (IsSharedCount Sets checking.now.net.now.raw (length checking.now.tasks.now.vars)
+        (length checking.now.tasks.now.vars) steps
         checking.now.tasks.now.tasks told.reports.items)) }
 {
     let count = checking.tasks.tasks.len() as u32;
@@ -261,15 +264,16 @@ fn recheck<R: Threads + Sync, G: Gate + Sync>(
     requires numbers { numbers.now ≡ budget_numbers told.reports.items }
     requires some { 1 ≤ length numbers.now }
     requires steps { (1 ≤ steps) × (length checking.now.tasks.now.tasks * steps ≤ 16000000) }
-    ensures told { (few : ℕ) → AllZip (IsToldOf checking.now.net.now.raw
+    ensures told { (few : ℕ) → AllZip (IsToldOf Sets checking.now.net.now.raw
         (length checking.now.tasks.now.vars) few checking.now.cubes)
         checking.now.tasks.now.tasks told.reports.items →
-        IfOk result (λ again. AllZip (IsToldOf checking.now.net.now.raw
+        IfOk result (λ again. AllZip (IsToldOf Sets checking.now.net.now.raw
         (length checking.now.tasks.now.vars) steps checking.now.cubes)
         checking.now.tasks.now.tasks again.reports.items) }
     ensures shown { IfOk result (λ again. is_some again.shared ≡ checking.now.nodes) }
     ensures counted { IfOk result (λ again. IfSome again.shared
-        (IsSharedCount checking.now.net.now.raw (length checking.now.tasks.now.vars) steps
+        (IsSharedCount Sets checking.now.net.now.raw (length checking.now.tasks.now.vars)
+        (length checking.now.tasks.now.vars) steps
         checking.now.tasks.now.tasks again.reports.items)) }
 {
     if checking.nodes {
@@ -278,6 +282,7 @@ fn recheck<R: Threads + Sync, G: Gate + Sync>(
     let again = run_some(
         rt,
         alloc,
+        Mode::Sets,
         checking.workers,
         checking.net,
         checking.rows,
@@ -302,12 +307,13 @@ fn check_once<R: Threads + Sync, G: Gate + Sync>(
     gate: &G,
 ) -> Result<Reports, AllocError>
     requires steps { (1 ≤ steps) × (length checking.now.tasks.now.tasks * steps ≤ 16000000) }
-    ensures told { IfOk result (λ told. AllZip (IsToldOf checking.now.net.now.raw
+    ensures told { IfOk result (λ told. AllZip (IsToldOf Sets checking.now.net.now.raw
         (length checking.now.tasks.now.vars) steps checking.now.cubes)
         checking.now.tasks.now.tasks told.reports.items) }
     ensures shown { IfOk result (λ told. is_some told.shared ≡ checking.now.nodes) }
     ensures counted { IfOk result (λ told. IfSome told.shared
-        (IsSharedCount checking.now.net.now.raw (length checking.now.tasks.now.vars) steps
+        (IsSharedCount Sets checking.now.net.now.raw (length checking.now.tasks.now.vars)
+        (length checking.now.tasks.now.vars) steps
         checking.now.tasks.now.tasks told.reports.items)) }
 {
     let answer = run_tasks(

@@ -1,9 +1,10 @@
 //! The one line that reports a refusal: `message_of`.
 ghost use Rattle.std.specs.Prelude.{◌≡◌, ◌++◌, codes, IfOk};
-ghost use Rattle.ste_program.specs.Message.{binding_message, file_message, hierarchy_message, inputs_message, line_message, message_of, netlist_message, out_of_memory, tasks_message, usage};
+ghost use Rattle.ste_program.specs.Message.{aig_message, binding_message, file_message, hierarchy_message, inputs_message, line_message, message_of, netlist_message, out_of_memory, tasks_message, usage};
 
 use crate::command::file_name;
 use crate::refusal::{File, Refusal};
+use aig_model::AigFault;
 use assert_syntax::TaskFault;
 use blif_syntax::BlifFault;
 use clock_step::InputFault;
@@ -76,6 +77,19 @@ fn netlist_message(alloc: Global, name: &str, fault: &BlifFault) -> Result<Items
         }
         BlifFault::NoModel => on_file(alloc, name, b"no model"),
         BlifFault::OutOfMemory => out_of_memory(alloc),
+    }
+}
+
+/// The message on an AIGER text that is refused.
+fn aig_message(alloc: Global, name: &str, fault: &AigFault) -> Result<Items<u8>, AllocError>
+    ensures { IfOk result (λ message. message ≡ aig_message name.now fault.now) }
+{
+    match fault {
+        AigFault::BadLine { line } => on_line(alloc, name, *line, b"bad line"),
+        AigFault::LeftOut { line, word } => {
+            on_word(alloc, name, *line, b"left out: ", word.bytes())
+        }
+        AigFault::OutOfMemory => out_of_memory(alloc),
     }
 }
 
@@ -208,6 +222,7 @@ pub fn message_of(
         Refusal::CannotRead(which) => cannot_read(alloc, file_name(command, *which)),
         Refusal::TooLarge(which) => on_file(alloc, file_name(command, *which), b"too large"),
         Refusal::Netlist(fault) => netlist_message(alloc, file_name(command, File::Net), fault),
+        Refusal::Aig(fault) => aig_message(alloc, file_name(command, File::Net), fault),
         Refusal::Tasks(fault) => tasks_message(alloc, file_name(command, File::Second), fault),
         Refusal::Hierarchy(fault) => hierarchy_message(alloc, file_name(command, File::Net), fault),
         Refusal::Loop(net) => loop_message(alloc, file_name(command, File::Net), net.bytes()),

@@ -1,8 +1,9 @@
 //! Why there is no report: `Refusal`, one variant for each cause.
 ghost use Rattle.std.specs.Prelude.{◌≡◌};
 ghost use Rattle.ste_program.specs.declared.refusal.Refusal.TheVariants as refusal;
-ghost use Rattle.ste_program.specs.Refused.{binding_refused, hierarchy_refused, inputs_refused, netlist_refused, tasks_refused};
+ghost use Rattle.ste_program.specs.Refused.{aig_refused, binding_refused, hierarchy_refused, inputs_refused, netlist_refused, tasks_refused};
 
+use aig_model::AigFault;
 use assert_syntax::TaskFault;
 use blif_syntax::BlifFault;
 use clock_step::InputFault;
@@ -30,8 +31,10 @@ pub enum Refusal {
     CannotRead(File),
     /// The file has more bytes than are read.
     TooLarge(File),
-    /// The netlist's text has a faulty line, or no model.
+    /// The netlist's text, as BLIF, has a faulty line, or no model.
     Netlist(BlifFault),
+    /// The netlist's text, as AIGER, has a faulty line.
+    Aig(AigFault),
     /// The tasks' text has a faulty line, or no task.
     Tasks(TaskFault),
     /// The netlist has no flat net.
@@ -54,6 +57,17 @@ impl From<BlifFault> for Refusal {
         match fault {
             BlifFault::OutOfMemory => Refusal::OutOfMemory,
             fault => Refusal::Netlist(fault),
+        }
+    }
+}
+
+impl From<AigFault> for Refusal {
+    ghost from_gives = { λ fault found. found ≡ aig_refused fault };
+
+    fn from(fault: AigFault) -> Refusal {
+        match fault {
+            AigFault::OutOfMemory => Refusal::OutOfMemory,
+            fault => Refusal::Aig(fault),
         }
     }
 }

@@ -7,7 +7,7 @@ ghost use Rattle.command_line.specs.Command.{command_of};
 ghost use Rattle.ste_program.specs.Command.{files_of};
 ghost use Rattle.ste_program.specs.Message.{cannot_write};
 ghost use Rattle.ste_io.specs.Outside.{with_names};
-ghost use Rattle.ste_program.specs.Report.{ReportedPassHolds, RunsBreak};
+ghost use Rattle.ste_program.specs.Report.{ReportTellsLiterals, ReportedPassHolds, RunsBreak};
 
 use crate::message::message_of;
 use crate::refusal::Refusal;
@@ -153,16 +153,16 @@ pub fn run<R: Threads + Sync, F: Files, O: Sink, E: Sink, G: Gate + Sync>(
     // Where a report says pass, or contradictory antecedent, each two-valued run that meets the
     // antecedent meets the consequent.
     ensures pass_holds { ReportedPassHolds (command_of words.now) (F.state files.old) }
-
     // Each run that a report shows is a two-valued run, meets the antecedent of its task and breaks
     // the consequent, under the least assignment shown, of a graph along the path shown.
     ensures runs_break { RunsBreak (command_of words.now) (F.state files.old) }
+    // Of an AIGER netlist both hold of the runs of its literals.
+    ensures literals { ReportTellsLiterals (command_of words.now) (F.state files.old) }
 
     // Status 2: the first refusal was reported, and nothing is on the output.
     ensures refused { result ≡ Status.Refused → WasRefused (command_of words.now)
         (F.state files.old) (F.state files.new) (O.state out.old) (O.state out.new)
         (E.state err.old) (E.state err.new) }
-
     // Status 3: a file could not be read, or a sink not written to, as its count of faults shows.
     ensures faulted { result ≡ Status.Faulted → WasFaulted (command_of words.now)
         (F.state files.old) (F.state files.new) (O.state out.old) (O.state out.new)

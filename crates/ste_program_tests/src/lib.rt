@@ -4,6 +4,8 @@
 #![tactic(auto)]
 
 #[cfg(test)]
+mod aiger;
+#[cfg(test)]
 mod hierarchies;
 #[cfg(test)]
 mod orders;

@@ -17,7 +17,8 @@ use Rattle.ste_model.specs.declared.task.Task.{Task}
 use Rattle.ste_model.specs.declared.verdict.Verdict.{Verdict}
 use Rattle.ste_model.specs.declared.verdict.Verdict.TheVariants.{Pass, Weak, Strong, Vacuous, Budget}
 use Rattle.gste_engine.proofs.Lists.{zip_push, zip_weaker}
-use Rattle.work_pool.specs.Pool.{IsPooled, IsTaskKept, IsTaskOver}
+use Rattle.work_pool.specs.declared.mode.Mode.{Mode}
+use Rattle.work_pool.specs.Pool.{IsPooled, IsTaskKept}
 use Rattle.work_pool.specs.Told.{IsToldOf, budgets, counts_budget}
 use Rattle.work_pool.specs.private.Jobs.{AreJobs, IsDone, IsGathered, IsGathering, IsReady, tasks_at}
 use Rattle.work_pool.proofs.Ranks.{ranks}
@@ -82,21 +83,21 @@ spent_at Vacuous steps n full = omega arith
 spent_at Budget steps n full = let e = full refl in omega arith
 
 -- the store of one job more is merged
-gathers : (net : RawNet) (steps cubes : ℕ) (start s o t : Store) (tasks : List Task) (reports : List Report) (task : Task) (report : Report) → IsGood s → IsGood o → IsGood t
-    → IsGathered net steps cubes start s tasks reports → IsDone net steps cubes task start o (Ok report) → Unites s o t → IsGathered net steps cubes start t (tasks ++ task ∷ []) (reports ++ report ∷ [])
-gathers net steps cubes start s o t tasks reports task report gs go gt g done u =
+gathers : (mode : Mode) (net : RawNet) (vars steps cubes : ℕ) (start s o t : Store) (tasks : List Task) (reports : List Report) (task : Task) (report : Report) → IsGood s → IsGood o → IsGood t
+    → IsGathered mode net vars steps cubes start s tasks reports → IsDone mode net vars steps cubes task start o (Ok report) → Unites s o t → IsGathered mode net vars steps cubes start t (tasks ++ task ∷ []) (reports ++ report ∷ [])
+gathers mode net vars steps cubes start s o t tasks reports task report gs go gt g done u =
     let same : t.vars ≡ o.vars = u.vars ∙ g.vars ∙ sym done.vars in
     let left : Keeps s t = record { grows = u.left; vars = u.vars; table = u.table } in
     let right : Keeps o t = record { grows = u.right; vars = same; table = u.table ∙ g.table ∙ sym done.table } in
     record {
-      told = zip_push (IsToldOf net t.vars steps cubes) tasks reports task report (subst (λ v. AllZip (IsToldOf net v steps cubes) tasks reports) (sym u.vars) g.told) (subst (λ v. IsToldOf net v steps cubes task report) (sym same) done.told);
+      told = zip_push (IsToldOf mode net vars steps cubes) tasks reports task report g.told done.told;
       used =
           let a = g.used in let b = spent_at report.verdict steps (length o.made) done.full in let m = ap length u.made in let p = length-append s.made o.made in
           subst (λ (n : ℕ). n * steps ≤ length t.made) (sym (budgets_push reports report)) (omega arith);
       limit = let a = u.limit in let b = g.limit in let c = done.limit in subst (λ (n : ℕ). t.limit ≡ n * steps) (sym (length-append tasks (task ∷ []))) (omega arith);
-      kept = zip_push (λ (x : Task) (r : Report). r.verdict ≢ Budget → IsTaskKept net x t) tasks reports task report
-          (zip_weaker (λ (x : Task) (r : Report). r.verdict ≢ Budget → IsTaskKept net x s) (λ (x : Task) (r : Report). r.verdict ≢ Budget → IsTaskKept net x t) tasks reports (λ x r h other. kept_on net x s t gs gt left (h other)) g.kept)
-          (λ other. kept_on net task o t go gt right (done.kept other));
+      kept = zip_push (λ (x : Task) (r : Report). r.verdict ≢ Budget → IsTaskKept mode net vars x t) tasks reports task report
+          (zip_weaker (λ (x : Task) (r : Report). r.verdict ≢ Budget → IsTaskKept mode net vars x s) (λ (x : Task) (r : Report). r.verdict ≢ Budget → IsTaskKept mode net vars x t) tasks reports (λ x r h other. kept_on mode net vars x s t gs gt left (h other)) g.kept)
+          (λ other. kept_on mode net vars task o t go gt right (done.kept other));
       vars = u.vars ∙ g.vars;
       table = u.table ∙ g.table;
     }
@@ -106,10 +107,10 @@ pub first_of : {X : Type 0} (xs : List X) → 0 < length xs → X
 first_of [] some = absurd (omega arith)
 first_of (x ∷ xs) some = x
 
-module _ {X : Type 0} (store : X → Store) (outcome : X → Result Report AllocError) (net : RawNet) (steps cubes : ℕ) (start : Store) where
+module _ {X : Type 0} (store : X → Store) (outcome : X → Result Report AllocError) (mode : Mode) (net : RawNet) (vars steps cubes : ℕ) (start : Store) where
   -- what a job leaves of a task
   abbrev pub Leaves : Task → X → Type 0
-  Leaves task job = IsDone net steps cubes task start (store job) (outcome job)
+  Leaves task job = IsDone mode net vars steps cubes task start (store job) (outcome job)
 
   module _ (place : X → ℕ) (whole : Store) (tasks : List Task) (numbers : List ℕ) (inside : All (λ number. number < length tasks) numbers) (dealt turned : List X) (ready : All (λ job. IsReady steps whole (store job)) dealt)
       (long : length dealt ≡ length numbers) (numbered : (i : ℕ) (job : X) → i < length numbers → place (get_or dealt i job) ≡ i) (moved : IsPermutation dealt turned) where
@@ -125,23 +126,21 @@ module _ {X : Type 0} (store : X → Store) (outcome : X → Result Report Alloc
         let all = All-permutation (λ job. (store job).table ≡ whole.table) dealt turned moved (λ i job lt. (ready i job lt).table) in
         all i job lt ∙ sym (all k job lt')
 
-    all_over : All (IsTaskOver net whole.vars) tasks → (task : Task) → All (λ job. IsTaskOver net (store job).vars (get_or tasks (get_or numbers (place job) 0) task)) turned
-    all_over over task = All-permutation (λ job. IsTaskOver net (store job).vars (get_or tasks (get_or numbers (place job) 0) task)) dealt turned moved (λ i job lt.
-        let at : i < length numbers = omega (arith, lt, long) in
-        subst (λ v. IsTaskOver net v (get_or tasks (get_or numbers (place (get_or dealt i job)) 0) task)) (sym (ready i job lt).vars) (subst (λ k. IsTaskOver net whole.vars (get_or tasks (get_or numbers k 0) task)) (sym (numbered i job at)) (over (get_or numbers i 0) task (inside i 0 at))))
+    one_width : All (λ job. (store job).vars ≡ whole.vars) turned
+    one_width = All-permutation (λ job. (store job).vars ≡ whole.vars) dealt turned moved (λ i job lt. (ready i job lt).vars)
 
-    pub all_jobs : All (IsTaskOver net whole.vars) tasks → AreJobs store place net tasks numbers turned
-    all_jobs over = record { numbered = inside; within = all_within; made = all_made; over = all_over over; table = one_table }
+    pub all_jobs : (width : ℕ) → whole.vars ≡ width → AreJobs store place (length numbers) width turned
+    all_jobs width is = subst (λ v. AreJobs store place (length numbers) v turned) is (record { within = all_within; made = all_made; vars = one_width; table = one_table })
 
     -- the jobs that were dealt are done, are in order again, and their stores are on one table
     pub all_done : (given : ℕ) (old new jobs last : List X) → start ≡ gives_up given whole → old ≡ turned → length new ≡ length old → jobs ≡ new → ((i : ℕ) (job : X) → i < length old → place (get_or new i job) ≡ place (get_or old i job))
-        → ((i : ℕ) (task : Task) (job : X) → i < length old → IsDone net (store (get_or old i job)).limit cubes (get_or tasks (get_or numbers (place (get_or old i job)) 0) task) (store (get_or old i job)) (store (get_or new i job)) (outcome (get_or new i job)))
+        → ((i : ℕ) (task : Task) (job : X) → i < length old → IsDone mode net vars (store (get_or old i job)).limit cubes (get_or tasks (get_or numbers (place (get_or old i job)) 0) task) (store (get_or old i job)) (store (get_or new i job)) (outcome (get_or new i job)))
         → IsPermutation jobs last → IsNonDecreasingBy place last
         → ((task : Task) → AllZip Leaves (tasks_at tasks numbers task) last) × All (λ job. (store job).table ≡ start.table) last
     all_done given old new jobs last left is longer back same done moved_back rises = (
       λ task. zip_of Leaves (tasks_at tasks numbers task) last (length-map numbers (λ number. get_or tasks number task) ∙ sym many) (λ i t job lt.
           let at : i < length numbers = let m = length-map numbers (λ number. get_or tasks number task) in omega (arith, lt, m) in
-          subst (λ (x : Task). IsDone net steps cubes x start (store (get_or last i job)) (outcome (get_or last i job)))
+          subst (λ (x : Task). IsDone mode net vars steps cubes x start (store (get_or last i job)) (outcome (get_or last i job)))
           (ap (λ k. get_or tasks (get_or numbers k 0) task) (in_order i job (omega (arith, at, many))) ∙ sym (get_or-map (λ number. get_or tasks number task) numbers i 0 t at))
           (at_last i job (omega (arith, at, many)) task)),
       λ i job lt. let some = inside i 0 (omega (arith, lt, many)) in (at_last i job lt (first_of tasks (omega (arith, some)))).table,
@@ -160,14 +159,14 @@ module _ {X : Type 0} (store : X → Store) (outcome : X → Result Report Alloc
         ready_at = All-permutation (λ job. IsReady steps start (store job)) dealt old turned_moved (λ i job lt. let r = ready i job lt in
             record { made = r.made; limit = r.limit; vars = r.vars ∙ sym (ap (λ (s : Store). s.vars) left); table = r.table ∙ sym (ap (λ (s : Store). s.table) left) })
 
-        at_new : All (λ job. (task : Task) → IsDone net steps cubes (get_or tasks (get_or numbers (place job) 0) task) start (store job) (outcome job)) new
+        at_new : All (λ job. (task : Task) → IsDone mode net vars steps cubes (get_or tasks (get_or numbers (place job) 0) task) start (store job) (outcome job)) new
         at_new i job lt task =
             let inside : i < length old = omega (arith, lt, longer) in
-            subst (λ k. IsDone net steps cubes (get_or tasks (get_or numbers k 0) task) start (store (get_or new i job)) (outcome (get_or new i job))) (sym (same i job inside))
-            (done_of net steps cubes (get_or tasks (get_or numbers (place (get_or old i job)) 0) task) start (store (get_or old i job)) (store (get_or new i job)) (outcome (get_or new i job)) (ready_at i job inside) (done i task job inside))
+            subst (λ k. IsDone mode net vars steps cubes (get_or tasks (get_or numbers k 0) task) start (store (get_or new i job)) (outcome (get_or new i job))) (sym (same i job inside))
+            (done_of mode net vars steps cubes (get_or tasks (get_or numbers (place (get_or old i job)) 0) task) start (store (get_or old i job)) (store (get_or new i job)) (outcome (get_or new i job)) (ready_at i job inside) (done i task job inside))
 
-        at_last : All (λ job. (task : Task) → IsDone net steps cubes (get_or tasks (get_or numbers (place job) 0) task) start (store job) (outcome job)) last
-        at_last = All-permutation (λ job. (task : Task) → IsDone net steps cubes (get_or tasks (get_or numbers (place job) 0) task) start (store job) (outcome job)) new last back_moved at_new
+        at_last : All (λ job. (task : Task) → IsDone mode net vars steps cubes (get_or tasks (get_or numbers (place job) 0) task) start (store job) (outcome job)) last
+        at_last = All-permutation (λ job. (task : Task) → IsDone mode net vars steps cubes (get_or tasks (get_or numbers (place job) 0) task) start (store job) (outcome job)) new last back_moved at_new
 
         places_moved : IsPermutation (map place dealt) (map place last)
         places_moved = IsPermutation-trans (map place dealt) (map place old) (map place last) (IsPermutation-map place dealt old turned_moved)
@@ -184,13 +183,13 @@ module _ {X : Type 0} (store : X → Store) (outcome : X → Result Report Alloc
             i 0 (let m = length-map last place in omega (arith, lt, m))
 
   -- before any store is merged
-  pub begins : (tasks : List Task) (jobs left : List X) (reports : List Report) → start.made ≡ [] → start.limit ≡ 0 → reports ≡ [] → left ≡ jobs → AllZip Leaves tasks jobs → IsGathering X Leaves net steps cubes start start tasks reports left
+  pub begins : (tasks : List Task) (jobs left : List X) (reports : List Report) → start.made ≡ [] → start.limit ≡ 0 → reports ≡ [] → left ≡ jobs → AllZip Leaves tasks jobs → IsGathering X Leaves mode net vars steps cubes start start tasks reports left
   begins tasks jobs left reports made limit none is zip = record {
     before = [];
     behind = tasks;
     all = refl;
     done = subst (AllZip Leaves tasks) (sym is) zip;
-    gathered = subst (IsGathered net steps cubes start start []) (sym none) record {
+    gathered = subst (IsGathered mode net vars steps cubes start start []) (sym none) record {
       told = tt;
       used = omega arith;
       limit = let l = limit in omega arith;
@@ -202,33 +201,33 @@ module _ {X : Type 0} (store : X → Store) (outcome : X → Result Report Alloc
 
   -- the job that comes next is merged, and its report is put behind the others
   pub goes_on : (s t : Store) (tasks : List Task) (reports more : List Report) (job : X) (jobs left : List X) (report : Report) → IsGood s → IsGood (store job) → IsGood t → outcome job ≡ Ok report → Unites s (store job) t
-      → left ≡ job ∷ jobs → more ≡ reports ++ report ∷ [] → IsGathering X Leaves net steps cubes start s tasks reports left → IsGathering X Leaves net steps cubes start t tasks more jobs
+      → left ≡ job ∷ jobs → more ≡ reports ++ report ∷ [] → IsGathering X Leaves mode net vars steps cubes start s tasks reports left → IsGathering X Leaves mode net vars steps cubes start t tasks more jobs
   goes_on s t tasks reports more job jobs left report gs gj gt is u next pushed g =
-      subst (λ r. IsGathering X Leaves net steps cubes start t tasks r jobs) (sym pushed) (by g.before g.behind g.all (subst (AllZip Leaves g.behind) next g.done) g.gathered)
+      subst (λ r. IsGathering X Leaves mode net vars steps cubes start t tasks r jobs) (sym pushed) (by g.before g.behind g.all (subst (AllZip Leaves g.behind) next g.done) g.gathered)
     where
-      by : (before behind : List Task) → tasks ≡ before ++ behind → AllZip Leaves behind (job ∷ jobs) → IsGathered net steps cubes start s before reports → IsGathering X Leaves net steps cubes start t tasks (reports ++ report ∷ []) jobs
+      by : (before behind : List Task) → tasks ≡ before ++ behind → AllZip Leaves behind (job ∷ jobs) → IsGathered mode net vars steps cubes start s before reports → IsGathering X Leaves mode net vars steps cubes start t tasks (reports ++ report ∷ []) jobs
       by before [] all zip old = absurd zip
       by before (task ∷ behind) all zip old = record {
         before = before ++ task ∷ [];
         behind = behind;
         all = all ∙ sym (append_assoc before (task ∷ []) behind);
         done = zip.1;
-        gathered = gathers net steps cubes start s (store job) t before reports task report gs gj gt old (subst (λ (o : Result Report AllocError). IsDone net steps cubes task start (store job) o) is zip.0) u;
+        gathered = gathers mode net vars steps cubes start s (store job) t before reports task report gs gj gt old (subst (λ (o : Result Report AllocError). IsDone mode net vars steps cubes task start (store job) o) is zip.0) u;
       }
 
   -- all stores are merged
-  pub ends : (t : Store) (tasks : List Task) (reports : List Report) (left : List X) → length left ≡ 0 → IsGathering X Leaves net steps cubes start t tasks reports left → IsPooled net steps cubes tasks reports t
+  pub ends : (t : Store) (tasks : List Task) (reports : List Report) (left : List X) → length left ≡ 0 → IsGathering X Leaves mode net vars steps cubes start t tasks reports left → IsPooled mode net vars steps cubes tasks reports t
   ends t tasks reports (job ∷ left) none g = absurd (let e : suc (length left) ≡ 0 = none in omega arith)
   ends t tasks reports [] none g = by g.before g.behind g.all g.done g.gathered
     where
-      pooled : IsGathered net steps cubes start t tasks reports → IsPooled net steps cubes tasks reports t
+      pooled : IsGathered mode net vars steps cubes start t tasks reports → IsPooled mode net vars steps cubes tasks reports t
       pooled h = record {
         told = h.told;
         used = h.used;
         limit = h.limit;
-        kept = λ i task report a b other. zip_at (λ (x : Task) (r : Report). r.verdict ≢ Budget → IsTaskKept net x t) tasks reports i task report h.kept a b other;
+        kept = λ i task report a b other. zip_at (λ (x : Task) (r : Report). r.verdict ≢ Budget → IsTaskKept mode net vars x t) tasks reports i task report h.kept a b other;
       }
 
-      by : (before behind : List Task) → tasks ≡ before ++ behind → AllZip Leaves behind [] → IsGathered net steps cubes start t before reports → IsPooled net steps cubes tasks reports t
-      by before [] all zip h = pooled (subst (λ (ts : List Task). IsGathered net steps cubes start t ts reports) (sym (all ∙ append-nil before)) h)
+      by : (before behind : List Task) → tasks ≡ before ++ behind → AllZip Leaves behind [] → IsGathered mode net vars steps cubes start t before reports → IsPooled mode net vars steps cubes tasks reports t
+      by before [] all zip h = pooled (subst (λ (ts : List Task). IsGathered mode net vars steps cubes start t ts reports) (sym (all ∙ append-nil before)) h)
       by before (task ∷ behind) all zip h = absurd zip

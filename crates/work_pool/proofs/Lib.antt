@@ -7,3 +7,5 @@ pub mod Numbers
 pub mod Spent
 pub mod Portions
 pub mod Frames
+pub mod Graphs
+pub mod TableWidths

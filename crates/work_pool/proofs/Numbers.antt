@@ -9,6 +9,7 @@ use Rattle.dual_rail.proofs.Turns.{zip_at}
 use Rattle.net_core.specs.declared.raw.RawNet.{RawNet}
 use Rattle.ste_model.specs.declared.report.Report.{Report}
 use Rattle.ste_model.specs.declared.task.Task.{Task}
+use Rattle.work_pool.specs.declared.mode.Mode.{Mode}
 use Rattle.work_pool.specs.Pool.{AreTasksOf, IsToldOfNumber}
 use Rattle.work_pool.specs.Told.{IsToldOf}
 use Rattle.work_pool.specs.private.Jobs.{tasks_at}
@@ -52,14 +53,20 @@ at_numbers tasks (n ∷ numbers) (x ∷ some) task are =
     ap (λ y. y ∷ tasks_at tasks numbers task) (get_or_from_slice_get tasks n x task are.0) ∙ ap (λ ys. x ∷ ys) (at_numbers tasks numbers some task are.1)
 
 -- the reports of the tasks of these numbers, number by number
-pub some_told : (net : RawNet) (vars steps cubes : ℕ) (tasks : List Task) (numbers : List ℕ) (reports : List Report) → 1 ≤ length numbers → All (λ n. n < length tasks) numbers
-    → ((task : Task) → AllZip (IsToldOf net vars steps cubes) (tasks_at tasks numbers task) reports) → AllZip (IsToldOfNumber net vars steps cubes tasks) numbers reports
-some_told net vars steps cubes tasks numbers reports some inside told = zip_of (IsToldOfNumber net vars steps cubes tasks) numbers reports long (λ i number report lt. λ task at.
-    subst (λ (x : Task). IsToldOf net vars steps cubes x (get_or reports i report)) (get_or-map (λ n. get_or tasks n task) numbers i number task lt ∙ get_or_from_slice_get tasks (get_or numbers i number) task task at)
-    (zip_at (IsToldOf net vars steps cubes) (tasks_at tasks numbers task) reports i task report (told task) (omega (arith, lt, long))))
+pub some_told : (mode : Mode) (net : RawNet) (vars steps cubes : ℕ) (tasks : List Task) (numbers : List ℕ) (reports : List Report) → 1 ≤ length numbers → All (λ n. n < length tasks) numbers
+    → ((task : Task) → AllZip (IsToldOf mode net vars steps cubes) (tasks_at tasks numbers task) reports) → AllZip (IsToldOfNumber mode net vars steps cubes tasks) numbers reports
+some_told mode net vars steps cubes tasks numbers reports some inside told = zip_of (IsToldOfNumber mode net vars steps cubes tasks) numbers reports long (λ i number report lt. λ task at.
+    subst (λ (x : Task). IsToldOf mode net vars steps cubes x (get_or reports i report)) (get_or-map (λ n. get_or tasks n task) numbers i number task lt ∙ get_or_from_slice_get tasks (get_or numbers i number) task task at)
+    (zip_at (IsToldOf mode net vars steps cubes) (tasks_at tasks numbers task) reports i task report (told task) (omega (arith, lt, long))))
   where
     first : Task
     first = first_task tasks numbers some inside
 
     long : length numbers ≡ length reports
-    long = sym (AllZip-long (IsToldOf net vars steps cubes) (tasks_at tasks numbers first) reports (told first) ∙ length-map numbers (λ n. get_or tasks n first))
+    long = sym (AllZip-long (IsToldOf mode net vars steps cubes) (tasks_at tasks numbers first) reports (told first) ∙ length-map numbers (λ n. get_or tasks n first))
+
+-- what is reported of a task, where a mode, a net and numbers are the same
+pub told_as : (mode other : Mode) (net next : RawNet) (vars declared steps cubes most : ℕ) (task : Task) (report : Report) → mode ≡ other → net ≡ next → vars ≡ declared → cubes ≡ most → IsToldOf mode net vars steps cubes task report → IsToldOf other next declared steps most task report
+told_as mode other net next vars declared steps cubes most task report p q r s told =
+    subst (λ (m : Mode). IsToldOf m next declared steps most task report) p (subst (λ (n : RawNet). IsToldOf mode n declared steps most task report) q
+    (subst (λ (v : ℕ). IsToldOf mode net v steps most task report) r (subst (λ (c : ℕ). IsToldOf mode net vars steps c task report) s told)))

@@ -9,7 +9,7 @@ use Rattle.dd_nodes.specs.Stores.{Store}
 use Rattle.net_core.specs.declared.raw.RawNet.{RawNet}
 use Rattle.ste_model.specs.declared.report.Report.{Report}
 use Rattle.ste_model.specs.declared.task.Task.{Task}
-use Rattle.work_pool.specs.Pool.{IsTaskOver}
+use Rattle.work_pool.specs.declared.mode.Mode.{Mode}
 use Rattle.work_pool.specs.private.Jobs.{AreDone, AreJobs, HandsOn, IsDone, IsLike}
 
 -- an element of a list in which one was set
@@ -20,37 +20,36 @@ set_by P xs i k y d lt here there = elim (eqb_tells k i) [
 ]
 
 -- a part of jobs that may be done
-pub AreJobs-part : {X : Type 0} (store : X → Store) (place : X → ℕ) (net : RawNet) (tasks : List Task) (numbers : List ℕ) (jobs part : List X) (start : ℕ) → start + length part ≤ length jobs
-    → ((k : ℕ) (d : X) → k < length part → get_or part k d ≡ get_or jobs (start + k) d) → AreJobs store place net tasks numbers jobs → AreJobs store place net tasks numbers part
-AreJobs-part store place net tasks numbers jobs part start within same all =
+pub AreJobs-part : {X : Type 0} (store : X → Store) (place : X → ℕ) (count width : ℕ) (jobs part : List X) (start : ℕ) → start + length part ≤ length jobs
+    → ((k : ℕ) (d : X) → k < length part → get_or part k d ≡ get_or jobs (start + k) d) → AreJobs store place count width jobs → AreJobs store place count width part
+AreJobs-part store place count width jobs part start within same all =
     let inside : (k : ℕ) → k < length part → start + k < length jobs = λ k lt. omega (arith, within, lt) in
     record {
-      numbered = all.numbered;
-      within = λ k d lt. subst (λ x. place x < length numbers) (sym (same k d lt)) (all.within (start + k) d (inside k lt));
+      within = λ k d lt. subst (λ x. place x < count) (sym (same k d lt)) (all.within (start + k) d (inside k lt));
       made = λ k d lt. subst (λ x. (store x).made ≡ []) (sym (same k d lt)) (all.made (start + k) d (inside k lt));
-      over = λ task k d lt. subst (λ x. IsTaskOver net (store x).vars (get_or tasks (get_or numbers (place x) 0) task)) (sym (same k d lt)) (all.over task (start + k) d (inside k lt));
+      vars = λ k d lt. subst (λ x. (store x).vars ≡ width) (sym (same k d lt)) (all.vars (start + k) d (inside k lt));
       table = λ i k d lt lt'. ap (λ x. (store x).table) (same i d lt) ∙ all.table (start + i) (start + k) d (inside i lt) (inside k lt') ∙ ap (λ x. (store x).table) (sym (same k d lt'));
     }
 
 -- what is done of one job in a part
-pub record IsDoneIn {X : Type 0} (store : X → Store) (place : X → ℕ) (outcome : X → Result Report AllocError) (net : RawNet) (cubes : ℕ) (tasks : List Task) (numbers : List ℕ) (old new : List X) (i : ℕ) (d : X) : Type 0 where
+pub record IsDoneIn {X : Type 0} (store : X → Store) (place : X → ℕ) (outcome : X → Result Report AllocError) (mode : Mode) (net : RawNet) (vars cubes : ℕ) (tasks : List Task) (numbers : List ℕ) (old new : List X) (i : ℕ) (d : X) : Type 0 where
   pub part : List X
   pub after : List X
   pub offset : ℕ
   pub inside : offset < length part
   pub was : get_or part offset d ≡ get_or old i d
-  pub done : AreDone store place outcome net cubes tasks numbers part after
+  pub done : AreDone store place outcome mode net vars cubes tasks numbers part after
   pub is : get_or after offset d ≡ get_or new i d
 
-pub AreDone-whole : {X : Type 0} (store : X → Store) (place : X → ℕ) (outcome : X → Result Report AllocError) (net : RawNet) (cubes : ℕ) (tasks : List Task) (numbers : List ℕ) (old new : List X) → length new ≡ length old
-    → ((i : ℕ) (d : X) → i < length old → IsDoneIn store place outcome net cubes tasks numbers old new i d) → AreDone store place outcome net cubes tasks numbers old new
-AreDone-whole store place outcome net cubes tasks numbers old new long each = record {
+pub AreDone-whole : {X : Type 0} (store : X → Store) (place : X → ℕ) (outcome : X → Result Report AllocError) (mode : Mode) (net : RawNet) (vars cubes : ℕ) (tasks : List Task) (numbers : List ℕ) (old new : List X) → length new ≡ length old
+    → ((i : ℕ) (d : X) → i < length old → IsDoneIn store place outcome mode net vars cubes tasks numbers old new i d) → AreDone store place outcome mode net vars cubes tasks numbers old new
+AreDone-whole store place outcome mode net vars cubes tasks numbers old new long each = record {
   long = long;
   same = λ i d lt. let at = each i d lt in ap place (sym at.is) ∙ at.done.same at.offset d at.inside ∙ ap place at.was;
   done = λ i task d lt.
       let at = each i d lt in
-      subst (λ x. IsDone net (store x).limit cubes (get_or tasks (get_or numbers (place x) 0) task) (store x) (store (get_or new i d)) (outcome (get_or new i d))) at.was
-      (subst (λ y. IsDone net (store (get_or at.part at.offset d)).limit cubes (get_or tasks (get_or numbers (place (get_or at.part at.offset d)) 0) task) (store (get_or at.part at.offset d)) (store y) (outcome y)) at.is
+      subst (λ x. IsDone mode net vars (store x).limit cubes (get_or tasks (get_or numbers (place x) 0) task) (store x) (store (get_or new i d)) (outcome (get_or new i d))) at.was
+      (subst (λ y. IsDone mode net vars (store (get_or at.part at.offset d)).limit cubes (get_or tasks (get_or numbers (place (get_or at.part at.offset d)) 0) task) (store (get_or at.part at.offset d)) (store y) (outcome y)) at.is
       (at.done.done at.offset task d at.inside));
 }
 
@@ -61,9 +60,9 @@ IsLike-trans : (s t u : Store) → IsLike s t → IsLike t u → IsLike s u
 IsLike-trans s t u a b = record { made = b.made ∙ a.made; limit = b.limit ∙ a.limit; vars = b.vars ∙ a.vars; table = b.table ∙ a.table }
 
 -- what a job leaves of a store is what it leaves of one like it
-IsDone-like : (net : RawNet) (cubes : ℕ) (task : Task) (s m t : Store) (outcome : Result Report AllocError) → IsLike s m → IsDone net m.limit cubes task m t outcome → IsDone net s.limit cubes task s t outcome
-IsDone-like net cubes task s m t outcome like done =
-    let d = subst (λ (n : ℕ). IsDone net n cubes task m t outcome) like.limit done in
+IsDone-like : (mode : Mode) (net : RawNet) (vars cubes : ℕ) (task : Task) (s m t : Store) (outcome : Result Report AllocError) → IsLike s m → IsDone mode net vars m.limit cubes task m t outcome → IsDone mode net vars s.limit cubes task s t outcome
+IsDone-like mode net vars cubes task s m t outcome like done =
+    let d = subst (λ (n : ℕ). IsDone mode net vars n cubes task m t outcome) like.limit done in
     record { limit = d.limit; vars = d.vars ∙ like.vars; table = d.table ∙ like.table; told = d.told; full = d.full; kept = d.kept }
 
 module _ {X : Type 0} (store : X → Store) (place : X → ℕ) (outcome : X → Result Report AllocError) where
@@ -136,10 +135,10 @@ module _ {X : Type 0} (store : X → Store) (place : X → ℕ) (outcome : X →
       ∙ (rest i j (omega arith) lt).table ∙ tables i (i + 1) j lt next ∙ sym (rest (i + 1) j (omega arith) next).table
       ∙ ap (λ x. (store x).table) (sym (get_or-set_other jobs i (i + 1) new j (λ e. absurd (omega (arith, e)))))
 
-  module _ (net : RawNet) (cubes : ℕ) (tasks : List Task) (numbers : List ℕ) where
+  module _ (mode : Mode) (net : RawNet) (vars cubes : ℕ) (tasks : List Task) (numbers : List ℕ) where
     -- what the job x leaves where it is done as y
     abbrev pub Leaves : Task → X → X → Type 0
-    Leaves task x y = IsDone net (store x).limit cubes (get_or tasks (get_or numbers (place x) 0) task) (store x) (store y) (outcome y)
+    Leaves task x y = IsDone mode net vars (store x).limit cubes (get_or tasks (get_or numbers (place x) 0) task) (store x) (store y) (outcome y)
 
     -- one job more is done
     module _ (first jobs next : List X) (i : ℕ) (r new : X) (long : length jobs ≡ length first) (lt : i < length first) (at : r ≡ get_or jobs i r)
@@ -167,14 +166,14 @@ module _ {X : Type 0} (store : X → Store) (place : X → ℕ) (outcome : X →
       done_here task j =
           let like = rest i j (omega arith) lt in
           let d = subst (λ (z : X). Leaves task z new) (at_first j) (is_done task) in
-          IsDone-like net cubes (get_or tasks (get_or numbers (place (get_or first i j)) 0) task) (store (get_or first i j)) (store (get_or jobs i j)) (store new) (outcome new) like
-          (subst (λ (n : ℕ). IsDone net (store (get_or jobs i j)).limit cubes (get_or tasks (get_or numbers n 0) task) (store (get_or jobs i j)) (store new) (outcome new)) (same i j lt) d)
+          IsDone-like mode net vars cubes (get_or tasks (get_or numbers (place (get_or first i j)) 0) task) (store (get_or first i j)) (store (get_or jobs i j)) (store new) (outcome new) like
+          (subst (λ (n : ℕ). IsDone mode net vars (store (get_or jobs i j)).limit cubes (get_or tasks (get_or numbers n 0) task) (store (get_or jobs i j)) (store new) (outcome new)) (same i j lt) d)
 
       pub done_next : (k : ℕ) (task : Task) (j : X) → k < i + 1 → k < length first → Leaves task (get_or first k j) (get_or next k j)
       done_next k task j up lt' =
           let one = get_or tasks (get_or numbers (place (get_or first k j)) 0) task in
-          subst (λ (s : Store). IsDone net (store (get_or first k j)).limit cubes one (store (get_or first k j)) s (outcome (get_or next k j))) (sym (hands.stores k j (within k lt') (omega (arith, up))))
-          (subst (λ (o : Result Report AllocError). IsDone net (store (get_or first k j)).limit cubes one (store (get_or first k j)) (store (get_or (set jobs i new) k j)) o) (sym (hands.outcomes k j (within k lt')))
+          subst (λ (s : Store). IsDone mode net vars (store (get_or first k j)).limit cubes one (store (get_or first k j)) s (outcome (get_or next k j))) (sym (hands.stores k j (within k lt') (omega (arith, up))))
+          (subst (λ (o : Result Report AllocError). IsDone mode net vars (store (get_or first k j)).limit cubes one (store (get_or first k j)) (store (get_or (set jobs i new) k j)) o) (sym (hands.outcomes k j (within k lt')))
           (set_by (λ z. Leaves task (get_or first k j) z) jobs i k new j (omega (arith, lt, long))
           (λ e. subst (λ (m : ℕ). Leaves task (get_or first m j) new) (sym e) (done_here task j)) (λ ne. done k task j (omega (arith, up, ne)) lt')))
 

@@ -1,2 +1,3 @@
 -- Definitions that serve private functions.
+pub mod Ready
 pub mod Jobs

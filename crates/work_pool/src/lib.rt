@@ -2,12 +2,17 @@
 #![tactic(auto)]
 
 pub mod alone;
+mod batch;
 pub mod gate;
 pub mod laws;
+pub mod mode;
 mod pool;
 pub mod run;
 mod turns;
+pub mod width;
 
 pub use alone::{AloneAnswer, run_alone};
 pub use gate::{Gate, NoGate};
-pub use run::{PoolAnswer, run_some, run_tasks};
+pub use mode::Mode;
+pub use run::{PoolAnswer, run_exact, run_some, run_tasks};
+pub use width::{table_width, task_width};

@@ -8,22 +8,22 @@ ghost use Rattle.dd_nodes.specs.Stores.{Keeps, Store, gives_up};
 ghost use Rattle.net_core.specs.declared.raw.RawNet.{RawNet};
 ghost use Rattle.net_core.specs.Flat.{IsInRange};
 ghost use Rattle.ste_model.specs.declared.task.Task.{Task as ATask};
-ghost use Rattle.gate_sets.specs.Lists.{rows_of};
 ghost use Rattle.sym_step.specs.Frame.{IsFrame};
-ghost use Rattle.work_pool.specs.Pool.{IsPooled, IsTaskOver};
+ghost use Rattle.work_pool.specs.declared.mode.Mode.{Mode as AMode};
+ghost use Rattle.work_pool.specs.Pool.{IsPooled};
 ghost use Rattle.work_pool.specs.private.Jobs.{AreDone, AreJobs, HandsOn, IsDone, IsReady, tasks_at};
+ghost use Rattle.work_pool.specs.private.Ready.{IsTaskReady};
 
+use crate::batch::{Batch, check};
 use crate::gate::Gate;
 use crate::turns::turns_of;
 use dd_nodes::{Nodes, Split};
-use gste_engine::check_graph;
 use net_core::Net;
 use std::alloc::{AllocError, Global};
 use std::thread;
 use std::thread::Threads;
-use ste_engine::check_ste_from;
 use ste_model::{Report, Task};
-use sym_step::{Frame, GateRows};
+use sym_step::Frame;
 
 /// The work on the task whose number stands at this place: a store of its own, and what came out.
 #[derive(Drop)]
@@ -33,51 +33,25 @@ pub(crate) struct Job<N> {
     pub(crate) outcome: Result<Report, AllocError>,
 }
 
-/// The report of a task over a store that made nothing yet, from the last frame of another one,
-/// where there is one; it leaves one for the next, where there is one.
-pub(crate) fn check<N: Nodes>(
-    alloc: Global,
-    nodes: &mut N,
-    net: &Net,
-    rows: &GateRows,
-    task: &Task,
-    cubes: u32,
-    last: &mut Option<Frame>,
-) -> Result<Report, AllocError>
-    requires rows { rows.now.covers ≡ map rows_of net.now.raw.covers }
-    requires made { (N.store nodes.old).made ≡ [] }
-    requires over { IsTaskOver net.now.raw (N.store nodes.old).vars task.now }
-    requires last { IfSome last.old (IsFrame (N.store nodes.old) net.now.raw) }
-    ensures done { IsDone net.now.raw (N.store nodes.old).limit cubes task.now (N.store nodes.old)
-        (N.store nodes.new) result }
-    ensures last { IfSome last.new (IsFrame (N.store nodes.new) net.now.raw) }
-{
-    match task {
-        Task::Ste(assertion) => check_ste_from(alloc, nodes, net, rows, assertion, cubes, last),
-        Task::Gste(graph) => check_graph(alloc, nodes, net, rows, graph, cubes),
-    }
-}
-
 /// Checks a task over the store of its job.
 fn work<N: Nodes>(
     alloc: Global,
-    net: &Net,
-    rows: &GateRows,
+    batch: &Batch<'_>,
     task: &Task,
-    cubes: u32,
     job: &mut Job<N>,
     last: &mut Option<Frame>,
 )
-    requires rows { rows.now.covers ≡ map rows_of net.now.raw.covers }
     requires made { (N.store job.old.nodes).made ≡ [] }
-    requires over { IsTaskOver net.now.raw (N.store job.old.nodes).vars task.now }
-    requires last { IfSome last.old (IsFrame (N.store job.old.nodes) net.now.raw) }
+    requires ready { IsTaskReady batch.now.mode batch.now.net.now.raw batch.now.vars
+        (N.store job.old.nodes).vars task.now }
+    requires last { IfSome last.old (IsFrame (N.store job.old.nodes) batch.now.net.now.raw) }
     ensures place { job.new.place ≡ job.old.place }
-    ensures done { IsDone net.now.raw (N.store job.old.nodes).limit cubes task.now
+    ensures done { IsDone batch.now.mode batch.now.net.now.raw batch.now.vars
+        (N.store job.old.nodes).limit batch.now.cubes task.now
         (N.store job.old.nodes) (N.store job.new.nodes) job.new.outcome }
-    ensures last { IfSome last.new (IsFrame (N.store job.new.nodes) net.now.raw) }
+    ensures last { IfSome last.new (IsFrame (N.store job.new.nodes) batch.now.net.now.raw) }
 {
-    job.outcome = check(alloc, &mut job.nodes, net, rows, task, cubes, last);
+    job.outcome = check(alloc, &mut job.nodes, batch, task, last);
 }
 
 /// The store of the job behind the i-th takes over what that one's store remembers; the result is
@@ -139,66 +113,50 @@ pub(crate) fn frame_to_carry(alloc: Global, net: &Net, last: Option<Frame>) -> O
 /// Does a job.
 fn work_at<N: Nodes, G: Gate>(
     alloc: Global,
-    net: &Net,
-    rows: &GateRows,
-    tasks: &[Task],
+    batch: &Batch<'_>,
     numbers: &[u32],
-    cubes: u32,
     job: &mut Job<N>,
     gate: &G,
     last: &mut Option<Frame>,
 )
-    requires rows { rows.now.covers ≡ map rows_of net.now.raw.covers }
-    requires numbers { All (λ number. number < length tasks.now) numbers.now }
+    requires numbers { All (λ number. number < length batch.now.tasks.now) numbers.now }
     requires within { job.old.place < length numbers.now }
     requires made { (N.store job.old.nodes).made ≡ [] }
-    requires over { (task : ATask) → IsTaskOver net.now.raw (N.store job.old.nodes).vars
-        (get_or tasks.now (get_or numbers.now job.old.place 0) task) }
-    requires last { IfSome last.old (IsFrame (N.store job.old.nodes) net.now.raw) }
+    requires vars { (N.store job.old.nodes).vars ≡ batch.now.width }
+    requires last { IfSome last.old (IsFrame (N.store job.old.nodes) batch.now.net.now.raw) }
     ensures place { job.new.place ≡ job.old.place }
-    ensures done { (task : ATask) → IsDone net.now.raw (N.store job.old.nodes).limit cubes
-        (get_or tasks.now (get_or numbers.now job.old.place 0) task)
+    ensures done { (task : ATask) → IsDone batch.now.mode batch.now.net.now.raw batch.now.vars
+        (N.store job.old.nodes).limit batch.now.cubes
+        (get_or batch.now.tasks.now (get_or numbers.now job.old.place 0) task)
         (N.store job.old.nodes) (N.store job.new.nodes) job.new.outcome }
     ensures table { (N.store job.new.nodes).table ≡ (N.store job.old.nodes).table }
-    ensures last { IfSome last.new (IsFrame (N.store job.new.nodes) net.now.raw) }
+    ensures last { IfSome last.new (IsFrame (N.store job.new.nodes) batch.now.net.now.raw) }
 {
     let number = numbers[job.place as usize];
     gate.at_task(number);
-    work(alloc, net, rows, &tasks[number as usize], cubes, job, last);
-    *last = frame_to_carry(alloc, net, last.take());
+    work(alloc, batch, &batch.tasks[number as usize], job, last);
+    *last = frame_to_carry(alloc, batch.net, last.take());
 }
 
 /// Each of these jobs is done once, one after another. What the store of one remembers goes over to
 /// that of the next, and so does the last frame.
 fn work_portion<N: Nodes, G: Gate>(
     alloc: Global,
-    net: &Net,
-    rows: &GateRows,
-    tasks: &[Task],
+    batch: &Batch<'_>,
     numbers: &[u32],
-    cubes: u32,
     jobs: &mut [Job<N>],
     gate: &G,
 )
-    requires rows { rows.now.covers ≡ map rows_of net.now.raw.covers }
+    requires numbers { All (λ number. number < length batch.now.tasks.now) numbers.now }
     requires jobs { AreJobs (λ job. N.store job.nodes) (λ job. job.place)
-        net.now.raw tasks.now numbers.now jobs.old }
+        (length numbers.now) batch.now.width jobs.old }
     ensures { AreDone (λ job. N.store job.nodes) (λ job. job.place) (λ job. job.outcome)
-        net.now.raw cubes tasks.now numbers.now jobs.old jobs.new }
+        batch.now.mode batch.now.net.now.raw batch.now.vars batch.now.cubes
+        batch.now.tasks.now numbers.now jobs.old jobs.new }
 {
     let mut last = None;
     for i in 0..jobs.len() {
-        work_at(
-            alloc,
-            net,
-            rows,
-            tasks,
-            numbers,
-            cubes,
-            &mut jobs[i],
-            gate,
-            &mut last,
-        );
+        work_at(alloc, batch, numbers, &mut jobs[i], gate, &mut last);
         carry_to_next(jobs, i, &mut last);
     }
 }
@@ -208,20 +166,18 @@ fn work_all<N: Nodes + Send, R: Threads + Sync, G: Gate + Sync>(
     rt: &R,
     alloc: Global,
     workers: u32,
-    net: &Net,
-    rows: &GateRows,
-    tasks: &[Task],
+    batch: &Batch<'_>,
     numbers: &[u32],
-    cubes: u32,
     jobs: &mut [Job<N>],
     gate: &G,
 )
     requires workers { 0 < workers }
-    requires rows { rows.now.covers ≡ map rows_of net.now.raw.covers }
+    requires numbers { All (λ number. number < length batch.now.tasks.now) numbers.now }
     requires jobs { AreJobs (λ job. N.store job.nodes) (λ job. job.place)
-        net.now.raw tasks.now numbers.now jobs.old }
+        (length numbers.now) batch.now.width jobs.old }
     ensures { AreDone (λ job. N.store job.nodes) (λ job. job.place) (λ job. job.outcome)
-        net.now.raw cubes tasks.now numbers.now jobs.old jobs.new }
+        batch.now.mode batch.now.net.now.raw batch.now.vars batch.now.cubes
+        batch.now.tasks.now numbers.now jobs.old jobs.new }
 {
     if jobs.is_empty() {
         return;
@@ -232,14 +188,15 @@ fn work_all<N: Nodes + Send, R: Threads + Sync, G: Gate + Sync>(
         jobs,
         size,
         &|_: usize, portion: &mut [Job<N>]|
-            requires rows { rows.now.covers ≡ map rows_of net.now.raw.covers }
+            requires numbers { All (λ number. number < length batch.now.tasks.now) numbers.now }
             requires jobs { AreJobs (λ job. N.store job.nodes) (λ job. job.place)
-                net.now.raw tasks.now numbers.now portion.old }
+                (length numbers.now) batch.now.width portion.old }
             ensures { AreDone (λ job. N.store job.nodes) (λ job. job.place) (λ job. job.outcome)
-                net.entry.now.raw cubes tasks.entry.now numbers.entry.now
+                batch.entry.now.mode batch.entry.now.net.now.raw batch.entry.now.vars
+                batch.entry.now.cubes batch.entry.now.tasks.now numbers.entry.now
                 portion.old portion.new }
         {
-            work_portion(alloc, net, rows, tasks, numbers, cubes, portion, gate);
+            work_portion(alloc, batch, numbers, portion, gate);
         },
     );
 }
@@ -300,10 +257,10 @@ fn gather<N: Split>(
     requires table { All (λ job. (N.store job.nodes).table ≡ (N.store nodes).table) jobs.items }
     requires made { (N.store nodes).made ≡ [] }
     requires limit { (N.store nodes).limit ≡ 0 }
-    ensures pooled { (net : RawNet) (steps cubes : ℕ) (tasks : List ATask)
-        → AllZip (λ task job. IsDone net steps cubes task (N.store nodes) (N.store job.nodes)
-        job.outcome) tasks jobs.items
-        → IfOk result (λ r. IsPooled net steps cubes tasks r.0.items (N.store r.1)) }
+    ensures pooled { (mode : AMode) (net : RawNet) (vars steps cubes : ℕ) (tasks : List ATask)
+        → AllZip (λ task job. IsDone mode net vars steps cubes task (N.store nodes)
+        (N.store job.nodes) job.outcome) tasks jobs.items
+        → IfOk result (λ r. IsPooled mode net vars steps cubes tasks r.0.items (N.store r.1)) }
     ensures vars { IfOk result (λ r. (N.store r.1).vars ≡ (N.store nodes).vars) }
     ensures table { IfOk result (λ r. (N.store r.1).table ≡ (N.store nodes).table) }
 {
@@ -326,39 +283,33 @@ pub(crate) fn pooled_tasks<N: Split + Send, R: Threads + Sync, G: Gate + Sync>(
     rt: &R,
     alloc: Global,
     workers: u32,
-    net: &Net,
-    rows: &GateRows,
-    tasks: &[Task],
+    batch: &Batch<'_>,
     numbers: &[u32],
     steps: u32,
-    cubes: u32,
     mut nodes: N,
     gate: &G,
 ) -> Result<(Vec<Report>, N), AllocError>
     requires workers { 0 < workers }
     requires few { length numbers.now < 2 ^ 32 }
-    requires numbers { All (λ number. number < length tasks.now) numbers.now }
-    requires rows { rows.now.covers ≡ map rows_of net.now.raw.covers }
+    requires numbers { All (λ number. number < length batch.now.tasks.now) numbers.now }
     requires made { (N.store nodes).made ≡ [] }
     requires limit { (N.store nodes).limit ≡ length numbers.now * steps }
-    requires over { All (IsTaskOver net.now.raw (N.store nodes).vars) tasks.now }
-    ensures pooled { (task : ATask) → IfOk result (λ r. IsPooled net.now.raw steps cubes
-        (tasks_at tasks.now numbers.now task) r.0.items (N.store r.1)) }
+    requires width { (N.store nodes).vars ≡ batch.now.width }
+    ensures pooled { (task : ATask) → IfOk result (λ r. IsPooled batch.now.mode
+        batch.now.net.now.raw batch.now.vars steps batch.now.cubes
+        (tasks_at batch.now.tasks.now numbers.now task) r.0.items (N.store r.1)) }
     ensures vars { IfOk result (λ r. (N.store r.1).vars ≡ (N.store nodes).vars) }
     ensures table { IfOk result (λ r. (N.store r.1).table ≡ (N.store nodes).table) }
 {
     let mut jobs = deal(alloc, &mut nodes, numbers.len(), steps)?;
-    let turns = turns_of(alloc, tasks, numbers, workers)?;
+    let turns = turns_of(alloc, batch.tasks, numbers, workers)?;
     put_in_turn(&mut jobs, turns.as_slice());
     work_all(
         rt,
         alloc,
         workers,
-        net,
-        rows,
-        tasks,
+        batch,
         numbers,
-        cubes,
         jobs.as_mut_slice(),
         gate,
     );

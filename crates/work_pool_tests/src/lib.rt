@@ -3,4 +3,6 @@
 #![tactic(auto)]
 
 #[cfg(test)]
+mod exact;
+#[cfg(test)]
 mod tests;

@@ -16,7 +16,7 @@ use std::thread::Threads;
 use ste_base::{Items, Name, NodeId, Time};
 use ste_model::{Assertion, Quint, Report, Task, Tasks, Verdict};
 use sym_step::GateRows;
-use work_pool::{Gate, run_alone, run_some, run_tasks};
+use work_pool::{Gate, Mode, run_alone, run_some, run_tasks};
 
 /// The bit that the net is given, the one that it has to have, and up to which time.
 type Case = (Option<bool>, bool, Time);
@@ -184,7 +184,19 @@ fn reports_two_tasks<R: Threads + Sync>(
         begun: AtomicU64::new(0),
     };
     let Ready { net, rows } = ready;
-    let answer = run_some(rt, alloc, 2, net, rows, tasks, &[2, 0], 100, 4, &count)?;
+    let answer = run_some(
+        rt,
+        alloc,
+        Mode::Sets,
+        2,
+        net,
+        rows,
+        tasks,
+        &[2, 0],
+        100,
+        4,
+        &count,
+    )?;
     Ok(
         has_verdicts(&answer.reports, &[Verdict::Weak, Verdict::Pass])
             && count.begun.load(Ordering::SeqCst) == 2,
@@ -209,7 +221,7 @@ fn reports_tasks_alone(alloc: Global, ready: &Ready, tasks: &Tasks) -> Result<bo
         begun: AtomicU64::new(0),
     };
     let Ready { net, rows } = ready;
-    let answer = run_alone(alloc, net, rows, tasks, 100, 4, &count)?;
+    let answer = run_alone(alloc, Mode::Sets, net, rows, tasks, 100, 4, &count)?;
     Ok(
         has_verdicts(&answer.reports, ALL)
             && answer.made == 0

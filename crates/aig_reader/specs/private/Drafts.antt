@@ -8,7 +8,7 @@ use Rattle.aig_model.specs.declared.line.Head.{Head}
 use Rattle.aig_model.specs.declared.line.Said.{Said}
 use Rattle.aig_model.specs.declared.line.Said.TheVariants as said
 use Rattle.aig_model.specs.Answer.{spelled_aig}
-use Rattle.aig_model.specs.Faults.{fault_of, first_faulty, lines_asked}
+use Rattle.aig_model.specs.Faults.{text_fault, first_faulty, lines_asked}
 use Rattle.aig_model.specs.Spelled.{aig_of, entries_from}
 
 -- nothing is said
@@ -79,7 +79,7 @@ AreLines head lines (Err OutOfMemory) = Unit {0}
 
 -- the answer on a text
 abbrev pub IsText : List ℕ → Result Aig AigFault → Type 0
-IsText bytes (Ok aig) = (fault_of bytes ≡ None) × (aig ≡ spelled_aig bytes)
-IsText bytes (Err (BadLine line)) = fault_of bytes ≡ Some (BadLine line)
-IsText bytes (Err (LeftOut line word)) = fault_of bytes ≡ Some (LeftOut line word)
+IsText bytes (Ok aig) = (text_fault bytes ≡ None) × (aig ≡ spelled_aig bytes)
+IsText bytes (Err (BadLine line)) = text_fault bytes ≡ Some (BadLine line)
+IsText bytes (Err (LeftOut line word)) = text_fault bytes ≡ Some (LeftOut line word)
 IsText bytes (Err OutOfMemory) = Unit {0}

@@ -1,19 +1,14 @@
 -- For private functions. What the reader holds of the lines that it has read, and what its parts
 -- answer.
-use Rattle.std.specs.Prelude.{◌≡◌, ◌≤◌, ℕ, ◌++◌, ◌∷◌, [], List, length, Option, Some, None, Result, Ok, Err}
+use Rattle.std.specs.Prelude.{◌≤◌, ℕ, ◌++◌, ◌∷◌, [], List, length, Option, Some, None, Result, Ok, Err}
 use Rattle.ste_base.specs.Limits.{most_variables}
 use Rattle.bool_expr.specs.declared.expr.Expr.{Expr}
 use Rattle.bool_expr.specs.declared.fault.ExprFault.{ExprFault}
 use Rattle.bool_expr.specs.declared.fault.ExprFault.TheVariants as expr_fault
-use Rattle.bool_expr.specs.Grammar.{Expression}
-use Rattle.bool_expr.specs.Read.{IsExprAnswer}
-use Rattle.bool_expr.specs.Tree.{tree_of}
 use Rattle.assert_syntax.specs.declared.draft.OpenTask.{OpenTask}
 use Rattle.assert_syntax.specs.declared.draft.OpenTask.TheVariants as task
 use Rattle.assert_syntax.specs.declared.fault.TaskFault.{TaskFault}
-use Rattle.assert_syntax.specs.declared.fault.TaskFault.TheVariants.{BadLine, TooDeep, DoubleName, UnknownVar, TooMany, NoTask, OutOfMemory}
-use Rattle.assert_syntax.specs.declared.form.LineFault.{LineFault}
-use Rattle.assert_syntax.specs.declared.form.LineFault.TheVariants.{Bad, Deep, Double, Unknown, Many}
+use Rattle.assert_syntax.specs.declared.fault.TaskFault.TheVariants.{BadLine, TooDeep, UnknownVar, TooMany, OutOfMemory}
 use Rattle.assert_syntax.specs.declared.form.Side.{Side}
 use Rattle.assert_syntax.specs.declared.form.Side.TheVariants.{Antecedent, Consequent}
 use Rattle.assert_syntax.specs.declared.form.Span.{Span}
@@ -27,8 +22,7 @@ use Rattle.assert_syntax.specs.declared.tasks.RawTask.{RawTask}
 use Rattle.assert_syntax.specs.declared.tasks.RawTask.TheVariants.{Ste, Gste}
 use Rattle.assert_syntax.specs.declared.tasks.RawWeak.{RawWeak}
 use Rattle.assert_syntax.specs.Forms.{Clause}
-use Rattle.assert_syntax.specs.Parses.{tree_over}
-use Rattle.assert_syntax.specs.Places.{Context, clause_fault}
+use Rattle.assert_syntax.specs.Places.{Context}
 use Rattle.assert_syntax.specs.Spelled.{from_of, to_of}
 
 -- what is known of the earlier lines
@@ -49,23 +43,6 @@ pub record HasRoom (context : Context) : Type 0 where
   pub vertices : length context.vertices ≤ 1000
   pub edges : context.edges ≤ 10000
 
--- the fault of a line of this number in which this is found
-abbrev pub IsFault : ℕ → Option LineFault → TaskFault → Type 0
-IsFault line found (BadLine n) = (n ≡ line) × (found ≡ Some Bad)
-IsFault line found (TooDeep n) = (n ≡ line) × (found ≡ Some Deep)
-IsFault line found (DoubleName n name) = (n ≡ line) × (found ≡ Some (Double name))
-IsFault line found (UnknownVar n name) = (n ≡ line) × (found ≡ Some (Unknown name))
-IsFault line found (TooMany n) = (n ≡ line) × (found ≡ Some Many)
-IsFault line found NoTask = ⊥
-IsFault line found OutOfMemory = Unit {0}
-
--- what a text is read as that spells this
-abbrev pub IsRead : List (List ℕ) → Option Expression → Result Expr ExprFault → Type 0
-IsRead vars (Some d) answer = IsExprAnswer vars d answer
-IsRead vars None (Err expr_fault.BadExpr) = Unit {0}
-IsRead vars None (Err expr_fault.OutOfMemory) = Unit {0}
-IsRead vars None other = ⊥
-
 -- the expressions of a clause, or its fault, by what its value and its guard are read as
 abbrev pub both_read : ℕ → Result Expr ExprFault → Result Expr ExprFault → Span →
     Result (Expr × Expr) TaskFault
@@ -79,15 +56,6 @@ both_read line (Err (expr_fault.UnknownVar name)) guard times = Err (UnknownVar 
 both_read line value (Err (expr_fault.UnknownVar name)) times = Err (UnknownVar line name)
 both_read line (Ok value) (Ok guard) span.Late = Err (TooMany line)
 both_read line (Ok value) (Ok guard) times = Ok (value, guard)
-
--- what the expressions of a clause are read as, by what its value and its guard spell
-abbrev pub IsClauseRead : List (List ℕ) → Option Expression → Option Expression → Span → ℕ →
-    Result (Expr × Expr) TaskFault → Type 0
-IsClauseRead vars value guard times line (Ok both) =
-    (clause_fault vars value guard times ≡ None) × (tree_of both.0 ≡ tree_over vars value)
-    × (tree_of both.1 ≡ tree_over vars guard)
-IsClauseRead vars value guard times line (Err fault) =
-    IsFault line (clause_fault vars value guard times) fault
 
 -- one more on this side of two lists
 abbrev pub side_added : {T : Type 0} → Side → List T → List T → T → List T × List T

@@ -10,7 +10,7 @@ use Rattle.assert_syntax.specs.Forms.{Entry}
 use Rattle.assert_syntax.specs.Parses.{Parse}
 use Rattle.assert_syntax.specs.Places.{Context, context_behind, form_fault}
 use Rattle.assert_syntax.specs.Spelled.{RawTaskTree, RawEdgeTree, assertion, graph, raw_bind_tree, raw_edge_tree, mark_tree, raw_quint_tree, raw_task_tree, raw_weak_tree, binds_of, edges_of, marks_of, quints_of, tasks_of, vertices_of, weaks_of}
-use Rattle.assert_syntax.specs.private.Drafts.{IsFault}
+use Rattle.assert_syntax.specs.Reads.{IsFault}
 
 -- the open edge with the bindings and the weakened nodes to come
 abbrev pub grown_edge : Parse → List (List ℕ) → Option RawEdge → List Entry → List RawEdgeTree

@@ -1,5 +1,5 @@
 -- For private functions. The parts of an exact report.
-use Rattle.std.specs.Prelude.{◌≡◌, ◌≤◌, ◌+◌, ◌++◌, ℕ, Bool, List, Option, None, Some, IsTrue, drop, length, take}
+use Rattle.std.specs.Prelude.{◌≡◌, ◌↔◌, ◌≤◌, ◌+◌, ◌++◌, ℕ, Bool, List, Option, None, Some, IsTrue, drop, length, take}
 use Rattle.dd_nodes.specs.declared.node.Ref.{Ref}
 use Rattle.dd_nodes.specs.Stores.{Store, function}
 use Rattle.net_core.specs.declared.raw.RawNet.{RawNet}
@@ -9,7 +9,9 @@ use Rattle.ste_model.specs.Asked.{depth}
 use Rattle.ste_model.specs.Assignments.{EachAssignment, IsBefore}
 use Rattle.ste_model.specs.Holds.{IsTaskRun}
 use Rattle.exact_model.specs.Choices.{bits_at, choices}
-use Rattle.exact_model.specs.Exact.{IsCounterexample, IsExactVerdictOf, IsExactlyStrong}
+use Rattle.engine_parts.specs.declared.results.Results.{Results}
+use Rattle.engine_parts.specs.Reporting.{AreResultRefs}
+use Rattle.exact_model.specs.Exact.{IsCounterexample, IsExactVerdictOf, IsExactlyContradictory, IsExactlyStrong}
 use Rattle.exact_model.specs.ExactReport.{ShowsExactly}
 use Rattle.exact_engine.specs.declared.results.ExactResults.{ExactResults}
 use Rattle.exact_engine.specs.declared.showing.Shown.{Shown}
@@ -54,6 +56,18 @@ pub record IsLeastCounter (net : RawNet) (vars : ℕ) (task : Assertion) (all : 
 abbrev pub IsLeastFound : RawNet → ℕ → Assertion → Option (List Bool) → Type 0
 IsLeastFound net vars task None = EachAssignment vars (λ bits. ¬ IsExactlyStrong net task bits)
 IsLeastFound net vars task (Some all) = IsLeastCounter net vars task all
+
+-- The references tell the exactly strong and the exactly contradictory assignments, which are the
+-- bits of the first variables; no assignment is weak.
+pub record TellSets (net : RawNet) (vars : ℕ) (task : Assertion) (s : Store) (r : Results) :
+    Type 0 where
+  pub within : vars ≤ s.vars
+  pub refs : AreResultRefs s r
+  pub none : r.weak.0 ≡ 0
+  pub strong : (bits : List Bool) → length bits ≡ s.vars →
+      IsTrue (function s r.strong bits) ↔ IsExactlyStrong net task (take vars bits)
+  pub contradictory : (bits : List Bool) → length bits ≡ s.vars →
+      IsTrue (function s r.contradictory bits) ↔ IsExactlyContradictory net task (take vars bits)
 
 -- the verdict is the exact one, and each report with these parts shows what it has to
 pub record IsShownExactly (net : RawNet) (vars : ℕ) (task : Assertion) (shown : Shown) :

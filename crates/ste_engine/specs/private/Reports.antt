@@ -1,6 +1,5 @@
 -- For private functions. The parts of a report.
 use Rattle.std.specs.Prelude.{◌≡◌, ◌≢◌, ◌⊎◌, ℕ, Bool, List, Option, None, Some}
-use Rattle.dd_nodes.specs.Stores.{Store, function}
 use Rattle.net_core.specs.declared.raw.RawNet.{RawNet}
 use Rattle.ste_base.specs.declared.id.NodeId.{NodeId}
 use Rattle.ste_model.specs.declared.run.Run.{Run}
@@ -8,19 +7,9 @@ use Rattle.ste_model.specs.declared.task.Assertion.{Assertion}
 use Rattle.ste_model.specs.declared.task.Task.TheVariants.{Ste}
 use Rattle.ste_model.specs.declared.verdict.Verdict.{Verdict}
 use Rattle.ste_model.specs.declared.verdict.Verdict.TheVariants.{Strong, Weak}
-use Rattle.ste_model.specs.Assignments.{Tells}
-use Rattle.ste_model.specs.Found.{FailsStrongly, FailsWeakly, IsContradictory, IsStrong, IsWeak}
+use Rattle.ste_model.specs.Found.{FailsStrongly, FailsWeakly, IsStrong, IsWeak}
 use Rattle.ste_model.specs.Report.{IsDue, IsPrintedUnder, IsShown}
 use Rattle.ste_model.specs.Shown.{IsBindable}
-use Rattle.engine_parts.specs.declared.results.Results.{Results}
-use Rattle.engine_parts.specs.Reporting.{AreResultRefs}
-
--- the references tell the strong, the weak and the contradictory assignments
-pub record TellFindings (s : Store) (net : RawNet) (task : Assertion) (r : Results) : Type 0 where
-  pub refs : AreResultRefs s r
-  pub strong : Tells s.vars (function s r.strong) (IsStrong net task)
-  pub weak : Tells s.vars (function s r.weak) (IsWeak net task)
-  pub contradictory : Tells s.vars (function s r.contradictory) (IsContradictory net task)
 
 -- the printed run under a strong assignment, where the antecedent is bindable
 abbrev pub IsRunDue : RawNet → Assertion → List Bool → Option Run → Type 0

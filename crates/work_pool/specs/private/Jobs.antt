@@ -7,7 +7,8 @@ use Rattle.net_core.specs.declared.raw.RawNet.{RawNet}
 use Rattle.ste_model.specs.declared.report.Report.{Report}
 use Rattle.ste_model.specs.declared.task.Task.{Task}
 use Rattle.ste_model.specs.declared.verdict.Verdict.TheVariants.{Budget}
-use Rattle.work_pool.specs.Pool.{IsTaskKept, IsTaskOver}
+use Rattle.work_pool.specs.declared.mode.Mode.{Mode}
+use Rattle.work_pool.specs.Pool.{IsTaskKept}
 use Rattle.work_pool.specs.Told.{IsToldOf, budgets}
 
 -- the tasks of these numbers, in the order of the numbers; each number is that of a task
@@ -29,26 +30,24 @@ pub record IsLike (s t : Store) : Type 0 where
   pub vars : t.vars ≡ s.vars
   pub table : t.table ≡ s.table
 
--- what a job with so many steps, on the table of s, leaves of its store and of its task
-pub record IsDone (net : RawNet) (steps cubes : ℕ) (task : Task) (s t : Store)
-    (outcome : Result Report AllocError) : Type 0 where
+-- what a job with so many steps, on the table of s, leaves of its store and of its task, which is
+-- over so many declared variables
+pub record IsDone (mode : Mode) (net : RawNet) (declared steps cubes : ℕ) (task : Task)
+    (s t : Store) (outcome : Result Report AllocError) : Type 0 where
   pub limit : t.limit ≡ steps
   pub vars : t.vars ≡ s.vars
   pub table : t.table ≡ s.table
-  pub told : IfOk outcome (λ report. IsToldOf net t.vars steps cubes task report)
+  pub told : IfOk outcome (λ report. IsToldOf mode net declared steps cubes task report)
   pub full : IfOk outcome (λ report. report.verdict ≡ Budget → length t.made ≡ steps)
-  pub kept : IfOk outcome (λ report. report.verdict ≢ Budget → IsTaskKept net task t)
+  pub kept : IfOk outcome (λ report. report.verdict ≢ Budget → IsTaskKept mode net declared task t)
 
--- jobs that may be done: each has the place of one of the numbers, which are those of tasks, and a
--- store that made nothing, over which its task is; all stores are on one table
-pub record AreJobs {X : Type 0} (store : X → Store) (place : X → ℕ) (net : RawNet)
-    (tasks : List Task) (numbers : List ℕ) (jobs : List X) : Type 0 where
-  pub numbered : All (λ number. number < length tasks) numbers
-  pub within : All (λ job. place job < length numbers) jobs
+-- jobs that may be done: each has the place of one of so many numbers, and a store of this width
+-- that made nothing; all stores are on one table
+pub record AreJobs {X : Type 0} (store : X → Store) (place : X → ℕ) (count width : ℕ)
+    (jobs : List X) : Type 0 where
+  pub within : All (λ job. place job < count) jobs
   pub made : All (λ job. (store job).made ≡ []) jobs
-  pub over : (task : Task) →
-      All (λ job. IsTaskOver net (store job).vars
-      (get_or tasks (get_or numbers (place job) 0) task)) jobs
+  pub vars : All (λ job. (store job).vars ≡ width) jobs
   pub table : (i k : ℕ) (job : X) → i < length jobs → k < length jobs →
       (store (get_or jobs i job)).table ≡ (store (get_or jobs k job)).table
 
@@ -67,33 +66,35 @@ pub record HandsOn {X : Type 0} (store : X → Store) (place : X → ℕ)
 
 -- jobs as they were, and done
 pub record AreDone {X : Type 0} (store : X → Store) (place : X → ℕ)
-    (outcome : X → Result Report AllocError) (net : RawNet) (cubes : ℕ) (tasks : List Task)
-    (numbers : List ℕ) (old new : List X) : Type 0 where
+    (outcome : X → Result Report AllocError) (mode : Mode) (net : RawNet) (vars cubes : ℕ)
+    (tasks : List Task) (numbers : List ℕ) (old new : List X) : Type 0 where
   pub long : length new ≡ length old
   pub same : (i : ℕ) (job : X) → i < length old →
       place (get_or new i job) ≡ place (get_or old i job)
   pub done : (i : ℕ) (task : Task) (job : X) → i < length old →
-      IsDone net (store (get_or old i job)).limit cubes
+      IsDone mode net vars (store (get_or old i job)).limit cubes
       (get_or tasks (get_or numbers (place (get_or old i job)) 0) task)
       (store (get_or old i job)) (store (get_or new i job)) (outcome (get_or new i job))
 
 -- the reports of these tasks, where t is the store that their jobs' stores were merged into, and s
 -- the one before them
-pub record IsGathered (net : RawNet) (steps cubes : ℕ) (s t : Store) (tasks : List Task)
-    (reports : List Report) : Type 0 where
-  pub told : AllZip (IsToldOf net t.vars steps cubes) tasks reports
+pub record IsGathered (mode : Mode) (net : RawNet) (declared steps cubes : ℕ) (s t : Store)
+    (tasks : List Task) (reports : List Report) : Type 0 where
+  pub told : AllZip (IsToldOf mode net declared steps cubes) tasks reports
   pub used : budgets reports * steps ≤ length t.made
   pub limit : t.limit ≡ length tasks * steps
-  pub kept : AllZip (λ task report. report.verdict ≢ Budget → IsTaskKept net task t) tasks reports
+  pub kept : AllZip (λ task report. report.verdict ≢ Budget → IsTaskKept mode net declared task t)
+      tasks reports
   pub vars : t.vars ≡ s.vars
   pub table : t.table ≡ s.table
 
 -- The first of these tasks are gathered, and the jobs that are left are those of the others; left
 -- says what is left of a task by a job.
-pub record IsGathering (X : Type 0) (left : Task → X → Type 0) (net : RawNet) (steps cubes : ℕ)
-    (s t : Store) (tasks : List Task) (reports : List Report) (jobs : List X) : Type 0 where
+pub record IsGathering (X : Type 0) (left : Task → X → Type 0) (mode : Mode) (net : RawNet)
+    (declared steps cubes : ℕ) (s t : Store) (tasks : List Task) (reports : List Report)
+    (jobs : List X) : Type 0 where
   pub before : List Task
   pub behind : List Task
   pub all : tasks ≡ before ++ behind
   pub done : AllZip left behind jobs
-  pub gathered : IsGathered net steps cubes s t before reports
+  pub gathered : IsGathered mode net declared steps cubes s t before reports

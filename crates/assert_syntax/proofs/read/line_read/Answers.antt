@@ -1,6 +1,6 @@
 use Rattle.std.proofs.Common.{ap}
 use Rattle.assert_syntax.specs.private.Drafts.{context_held}
-use Rattle.assert_syntax.specs.private.Held.{form_held}
+use Rattle.assert_syntax.specs.Held.{form_held}
 use Rattle.assert_syntax.proofs.Turn.{at_form}
 use Rattle.assert_syntax.proofs.read.line_read.Goals as goal
 

@@ -3,7 +3,7 @@ use Rattle.assert_syntax.specs.private.Drafts.{context_held, tasks_closed}
 use Rattle.assert_syntax.specs.Answer.{task_entries_of}
 use Rattle.assert_syntax.specs.Forms.{task_form_of}
 use Rattle.assert_syntax.specs.Spelled.{raw_task_tree}
-use Rattle.assert_syntax.specs.private.Held.{form_held}
+use Rattle.assert_syntax.specs.Held.{form_held}
 use Rattle.assert_syntax.proofs.Turn.{Holds, by_form, read_begin, read_turn, bad_answer, fault_answer, all_read, few_tasks, none_read, some_read}
 use Rattle.assert_syntax.proofs.read.tasks_from.Goals as goal
 

@@ -82,8 +82,8 @@ returns-in-Ok-clause-kept g c =
     let u : Store = g.N.Nodes.store c.report_of.new.nodes in
     let kept : IsExactlyKept net vars task u = λ bit exact f h.
     let wide = bits_over_more (vars + length (choices net task)) bit in
-    kept_of net vars task wide u c.in-Ok.r (g.met.N.Nodes.diagram c.report_of.new.nodes)
-    (subst (λ (x : Store). AreExactRefs net vars task wide x c.in-Ok.r) (sym c.report_of.ensures.store) (c.in-Ok.ensures.built bit exact).ok) f h in
+    let refs : AreExactRefs net vars task wide u c.in-Ok.r = subst (λ (x : Store). AreExactRefs net vars task wide x c.in-Ok.r) (sym c.report_of.ensures.store) (c.in-Ok.ensures.built bit exact).ok in
+    kept_of net vars task wide u c.in-Ok.r.strong c.in-Ok.r.contradictory (g.met.N.Nodes.diagram c.report_of.new.nodes) refs.strong refs.contradictory f h in
     IfOk-weaker c.report_of.result (λ (report : Report). IsExactReportOf net vars c.args.cubes task report) (λ (report : Report). report.verdict ≢ Budget → IsExactlyKept net vars task u)
     (λ report is some. kept) c.report_of.ensures.report
 

@@ -4,8 +4,8 @@ use Rattle.exact_engine.specs.private.Counts.{first_count}
 use Rattle.exact_engine.proofs.Counted.{choices_long}
 use Rattle.exact_engine.proofs.counting.choices.Goals as goal
 
-pub returns : goal.returns
-returns c =
+pub returns-clause-exact : goal.returns-clause-exact
+returns-clause-exact c =
     let net = c.args.net.now.raw in
     let task = c.args.task.now in
     let each : ℕ = c.open_count-each.result in

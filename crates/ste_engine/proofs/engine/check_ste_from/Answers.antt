@@ -1,4 +1,4 @@
-use Rattle.std.proofs.Common.{◌≡◌, ◌≢◌, sym, ◌∙◌, ap, subst, Err, IfSome, Option}
+use Rattle.std.proofs.Common.{◌≡◌, ◌≢◌, sym, ◌∙◌, ap, subst, Err, IfSome, None, Option, Some}
 use Rattle.std.proofs.lemmas.Result.{IfOk-weaker}
 use Rattle.dd_nodes.specs.Stores.{Store}
 use Rattle.dd_nodes.proofs.Spending.{Spends-out}
@@ -24,17 +24,16 @@ use Rattle.ste_engine.proofs.Shows.{results_tell}
 use Rattle.ste_engine.proofs.Short.{short}
 use Rattle.ste_engine.proofs.engine.check_ste_from.Goals as goal
 
-pub results-requires-clause-frame : goal.results-requires-clause-frame
-results-requires-clause-frame g c =
-    let s : Store = g.N.Nodes.store c.args.nodes.now in
-    c.in_ok-frame.ensures.frame s (g.met.N.Nodes.diagram c.args.nodes.now) (subst (λ (o : Option Frame). IfSome o (IsFrame s c.args.net.now.raw)) (sym c.take.ensures.value) c.requires.last)
+last_keeps : (P Q : Frame → Type 0) → ((frame : Frame) → P frame → Q frame) → (last : Option Frame) → IfSome last P → IfSome last Q
+last_keeps P Q give None h = tt
+last_keeps P Q give (Some frame) h = give frame h
 
 pub report_of-requires-clause-told : goal.report_of-requires-clause-told
 report_of-requires-clause-told g c =
     let net : RawNet = c.args.net.now.raw in
     let task : Assertion = c.args.task.now in
     let s : Store = g.N.Nodes.store c.args.nodes.now in
-    let t : Store = g.N.Nodes.store c.results.new.nodes in
+    let t : Store = g.N.Nodes.store c.results_from.new.nodes in
     let settled : IsSettled net = settled_by_order net c.args.net.now.settled c.args.net.now.in_order in
     let w = whole_exists net s.vars task settled in
     let b = c.in-Ok.ensures.built w.0 w.1 in
@@ -46,14 +45,14 @@ report_of-requires-clause-firsts g c =
     let task : Assertion = c.args.task.now in
     let settled : IsSettled net = settled_by_order net c.args.net.now.settled c.args.net.now.in_order in
     let w = whole_exists net (g.N.Nodes.store c.args.nodes.now).vars task settled in
-    subst (λ v. AreFirsts v net task c.results.new.firsts) (sym (c.in-Ok.ensures.built w.0 w.1).spends.keeps.vars) c.in-Ok.ensures.firsts
+    subst (λ v. AreFirsts v net task c.results_from.new.firsts) (sym (c.in-Ok.ensures.built w.0 w.1).spends.keeps.vars) c.in-Ok.ensures.firsts
 
 pub returns-in-Ok-clause-keeps : goal.returns-in-Ok-clause-keeps
 returns-in-Ok-clause-keeps g c =
     let net : RawNet = c.args.net.now.raw in
     let task : Assertion = c.args.task.now in
     let s : Store = g.N.Nodes.store c.args.nodes.now in
-    let t : Store = g.N.Nodes.store c.results.new.nodes in
+    let t : Store = g.N.Nodes.store c.results_from.new.nodes in
     let settled : IsSettled net = settled_by_order net c.args.net.now.settled c.args.net.now.in_order in
     let w = whole_exists net s.vars task settled in
     let b = c.in-Ok.ensures.built w.0 w.1 in
@@ -66,7 +65,7 @@ returns-in-Ok-clause-limit g c =
     let net : RawNet = c.args.net.now.raw in
     let task : Assertion = c.args.task.now in
     let s : Store = g.N.Nodes.store c.args.nodes.now in
-    let t : Store = g.N.Nodes.store c.results.new.nodes in
+    let t : Store = g.N.Nodes.store c.results_from.new.nodes in
     let settled : IsSettled net = settled_by_order net c.args.net.now.settled c.args.net.now.in_order in
     let w = whole_exists net s.vars task settled in
     let b = c.in-Ok.ensures.built w.0 w.1 in
@@ -79,7 +78,7 @@ returns-in-Err-StepsOut-clause-keeps g c =
     let net : RawNet = c.args.net.now.raw in
     let task : Assertion = c.args.task.now in
     let s : Store = g.N.Nodes.store c.args.nodes.now in
-    let t : Store = g.N.Nodes.store c.results.new.nodes in
+    let t : Store = g.N.Nodes.store c.results_from.new.nodes in
     let settled : IsSettled net = settled_by_order net c.args.net.now.settled c.args.net.now.in_order in
     let w = whole_exists net s.vars task settled in
     (c.in-Err-StepsOut.ensures.built w.0 w.1).spends.keeps
@@ -89,27 +88,27 @@ returns-in-Err-StepsOut-clause-limit g c =
     let net : RawNet = c.args.net.now.raw in
     let task : Assertion = c.args.task.now in
     let s : Store = g.N.Nodes.store c.args.nodes.now in
-    let t : Store = g.N.Nodes.store c.results.new.nodes in
+    let t : Store = g.N.Nodes.store c.results_from.new.nodes in
     let settled : IsSettled net = settled_by_order net c.args.net.now.settled c.args.net.now.in_order in
     let w = whole_exists net s.vars task settled in
     (c.in-Err-StepsOut.ensures.built w.0 w.1).spends.limit
 
-pub returns-clause-keeps : goal.returns-clause-keeps
-returns-clause-keeps g c =
+pub returns-in-Err-OutOfMemory-clause-keeps : goal.returns-in-Err-OutOfMemory-clause-keeps
+returns-in-Err-OutOfMemory-clause-keeps g c =
     let net : RawNet = c.args.net.now.raw in
     let task : Assertion = c.args.task.now in
     let s : Store = g.N.Nodes.store c.args.nodes.now in
-    let t : Store = g.N.Nodes.store c.results.new.nodes in
+    let t : Store = g.N.Nodes.store c.results_from.new.nodes in
     let settled : IsSettled net = settled_by_order net c.args.net.now.settled c.args.net.now.in_order in
     let w = whole_exists net s.vars task settled in
     (c.in-Err-OutOfMemory.ensures.built w.0 w.1).spends.keeps
 
-pub returns-clause-limit : goal.returns-clause-limit
-returns-clause-limit g c =
+pub returns-in-Err-OutOfMemory-clause-limit : goal.returns-in-Err-OutOfMemory-clause-limit
+returns-in-Err-OutOfMemory-clause-limit g c =
     let net : RawNet = c.args.net.now.raw in
     let task : Assertion = c.args.task.now in
     let s : Store = g.N.Nodes.store c.args.nodes.now in
-    let t : Store = g.N.Nodes.store c.results.new.nodes in
+    let t : Store = g.N.Nodes.store c.results_from.new.nodes in
     let settled : IsSettled net = settled_by_order net c.args.net.now.settled c.args.net.now.in_order in
     let w = whole_exists net s.vars task settled in
     (c.in-Err-OutOfMemory.ensures.built w.0 w.1).spends.limit
@@ -119,7 +118,7 @@ returns-in-Ok-clause-report g c =
     let net : RawNet = c.args.net.now.raw in
     let task : Assertion = c.args.task.now in
     let s : Store = g.N.Nodes.store c.args.nodes.now in
-    let t : Store = g.N.Nodes.store c.results.new.nodes in
+    let t : Store = g.N.Nodes.store c.results_from.new.nodes in
     let settled : IsSettled net = settled_by_order net c.args.net.now.settled c.args.net.now.in_order in
     let w = whole_exists net s.vars task settled in
     let b = c.in-Ok.ensures.built w.0 w.1 in
@@ -133,23 +132,23 @@ returns-in-Ok-clause-builds g c =
     let net : RawNet = c.args.net.now.raw in
     let task : Assertion = c.args.task.now in
     let s : Store = g.N.Nodes.store c.args.nodes.now in
-    let t : Store = g.N.Nodes.store c.results.new.nodes in
+    let t : Store = g.N.Nodes.store c.results_from.new.nodes in
     let u : Store = g.N.Nodes.store c.report_of.new.nodes in
     let same = c.report_of.ensures.same in
-    λ table whole. (spends_same (task_work net task table) s t u _ (g.met.N.Nodes.diagram c.results.new.nodes) (g.met.N.Nodes.diagram c.report_of.new.nodes) (c.in-Ok.ensures.built table whole).spends same).builds
+    λ table whole. (spends_same (task_work net task table) s t u _ (g.met.N.Nodes.diagram c.results_from.new.nodes) (g.met.N.Nodes.diagram c.report_of.new.nodes) (c.in-Ok.ensures.built table whole).spends same).builds
 
 pub returns-in-Ok-clause-kept : goal.returns-in-Ok-clause-kept
 returns-in-Ok-clause-kept g c =
     let net : RawNet = c.args.net.now.raw in
     let task : Assertion = c.args.task.now in
     let s : Store = g.N.Nodes.store c.args.nodes.now in
-    let t : Store = g.N.Nodes.store c.results.new.nodes in
+    let t : Store = g.N.Nodes.store c.results_from.new.nodes in
     let settled : IsSettled net = settled_by_order net c.args.net.now.settled c.args.net.now.in_order in
     let w = whole_exists net s.vars task settled in
     let b = c.in-Ok.ensures.built w.0 w.1 in
     let u : Store = g.N.Nodes.store c.report_of.new.nodes in
     let same = c.report_of.ensures.same in
-    let gt = g.met.N.Nodes.diagram c.results.new.nodes in
+    let gt = g.met.N.Nodes.diagram c.results_from.new.nodes in
     let gu = g.met.N.Nodes.diagram c.report_of.new.nodes in
     let vars : u.vars ≡ s.vars = same.keeps.vars ∙ b.spends.keeps.vars in
     let kept : IsKept net task u = λ table whole f (k, has, cofactor).
@@ -162,7 +161,7 @@ returns-in-Err-StepsOut-clause-budget g c =
     let net : RawNet = c.args.net.now.raw in
     let task : Assertion = c.args.task.now in
     let s : Store = g.N.Nodes.store c.args.nodes.now in
-    let t : Store = g.N.Nodes.store c.results.new.nodes in
+    let t : Store = g.N.Nodes.store c.results_from.new.nodes in
     let settled : IsSettled net = settled_by_order net c.args.net.now.settled c.args.net.now.in_order in
     let w = whole_exists net s.vars task settled in
     let b = c.in-Err-StepsOut.ensures.built w.0 w.1 in
@@ -170,7 +169,7 @@ returns-in-Err-StepsOut-clause-budget g c =
     let is = ap Err c.in-Err-StepsOut.field-0-is in
     let spent : IsBudget net task s t = record {
       spent = (b.spends.spent is).full;
-      few = short net task s t (g.met.N.Nodes.diagram c.results.new.nodes) (g.met.N.Nodes.distinct c.results.new.nodes) (g.met.N.Nodes.made_held c.results.new.nodes)
+      few = short net task s t (g.met.N.Nodes.diagram c.results_from.new.nodes) (g.met.N.Nodes.distinct c.results_from.new.nodes) (g.met.N.Nodes.made_held c.results_from.new.nodes)
           (λ table whole. Spends-out (task_work net task table) s t _ (Unit {0}) (λ u. is) (h table whole).spends);
     } in
     IfOk-weaker c.budget_report.result (λ (report : Report). report ≡ budget_report task.name) (λ (report : Report). report.verdict ≡ Budget → (report ≡ budget_report task.name) × IsBudget net task s t) (λ report is out. (is, spent)) c.budget_report.ensures
@@ -178,6 +177,8 @@ returns-in-Err-StepsOut-clause-budget g c =
 pub returns-in-Ok-clause-last : goal.returns-in-Ok-clause-last
 returns-in-Ok-clause-last g c =
     let net = c.args.net.now in
-    let t : Store = g.N.Nodes.store c.results.new.nodes in
+    let t : Store = g.N.Nodes.store c.results_from.new.nodes in
     let u : Store = g.N.Nodes.store c.report_of.new.nodes in
-    frame_keeps t u net.raw c.results.new.frame net.in_range (g.met.N.Nodes.diagram c.results.new.nodes) (g.met.N.Nodes.diagram c.report_of.new.nodes) c.report_of.ensures.same.keeps c.in-Ok.ensures.frame
+    last_keeps (IsFrame t net.raw) (IsFrame u net.raw)
+    (λ frame. frame_keeps t u net.raw frame net.in_range (g.met.N.Nodes.diagram c.results_from.new.nodes) (g.met.N.Nodes.diagram c.report_of.new.nodes) c.report_of.ensures.same.keeps)
+    c.results_from.new.last c.in-Ok.ensures.last

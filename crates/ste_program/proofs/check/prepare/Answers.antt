@@ -11,5 +11,8 @@ returns-in_err-raw c =
     handed_on _ _ _ c.from_residual-in_err-raw.ensures.1
     (tasks_fail c.args.steps c.args.net_text.items c.args.task_text.items c.in_ok-models.models.models c.in_ok-models.ensures.0 c.in_err-raw.field-0.0 c.in_err-raw.ensures)
 
+pub prepared_of-requires-clause-read : goal.prepared_of-requires-clause-read
+prepared_of-requires-clause-read c = (c.args.net_text.items, c.args.task_text.items, (c.in_ok-models.ensures.0, c.in_ok-raw.ensures))
+
 pub returns : goal.returns
 returns c = c.prepared_of.ensures c.args.net_text.items c.args.task_text.items c.in_ok-models.ensures.0 c.in_ok-raw.ensures

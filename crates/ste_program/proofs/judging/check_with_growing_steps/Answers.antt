@@ -1,6 +1,7 @@
 use Rattle.std.proofs.Common.{◌≡◌, ◌∙◌, ◌≤◌, ℕ, true, false, List, length, ap, arith, subst, sym}
 use Rattle.std.specs.List.{AllZip}
 use Rattle.std.proofs.lemmas.Slice.Zip.{AllZip-long}
+use Rattle.work_pool.specs.declared.mode.Mode.TheVariants.{Sets}
 use Rattle.work_pool.specs.Told.{IsToldOf}
 use Rattle.ste_program.specs.private.Tries.{budget_numbers}
 use Rattle.ste_program.proofs.FewSteps.{all_told, shared_told, some_budget}
@@ -28,7 +29,7 @@ budget_numbers-requires g c =
     let tasks = c.args.checking.now.tasks.now.tasks in
     let reports = c.loop-tried.told.reports.items in
     let i = c.loop-tried.invariant in
-    let long = AllZip-long (IsToldOf c.args.checking.now.net.now.raw (length c.args.checking.now.tasks.now.vars) c.loop-tried.tried c.args.checking.now.cubes) tasks reports i.told in
+    let long = AllZip-long (IsToldOf Sets c.args.checking.now.net.now.raw (length c.args.checking.now.tasks.now.vars) c.loop-tried.tried c.args.checking.now.cubes) tasks reports i.told in
     let few = few_tasks (length tasks) c.args.steps c.requires.steps.0 c.requires.steps.1 in
     let same = ap length c.deref-in-loop-tried.ensures.value in omega (arith, same, long, few)
 
@@ -37,7 +38,7 @@ recheck-requires-clause-long g c κs within =
     let tasks = c.args.checking.now.tasks.now.tasks in
     let reports = c.loop-tried.told.reports.items in
     let i = c.loop-tried.invariant in
-    AllZip-long (IsToldOf c.args.checking.now.net.now.raw (length c.args.checking.now.tasks.now.vars) c.loop-tried.tried c.args.checking.now.cubes) tasks reports i.told
+    AllZip-long (IsToldOf Sets c.args.checking.now.net.now.raw (length c.args.checking.now.tasks.now.vars) c.loop-tried.tried c.args.checking.now.cubes) tasks reports i.told
 
 pub recheck-requires-clause-some : goal.recheck-requires-clause-some
 recheck-requires-clause-some g c κs within =
@@ -67,4 +68,4 @@ returns-clause-told g c =
     let most = i.most in
     let all = c.loop-tried-test.false in
     let same : c.loop-tried.tried ≡ c.args.steps = omega (arith, most, all) in
-    subst (λ (steps : ℕ). AllZip (IsToldOf c.args.checking.now.net.now.raw (length c.args.checking.now.tasks.now.vars) steps c.args.checking.now.cubes) tasks reports) same i.told
+    subst (λ (steps : ℕ). AllZip (IsToldOf Sets c.args.checking.now.net.now.raw (length c.args.checking.now.tasks.now.vars) steps c.args.checking.now.cubes) tasks reports) same i.told

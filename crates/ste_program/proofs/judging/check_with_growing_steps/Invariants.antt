@@ -1,6 +1,7 @@
 use Rattle.std.proofs.Common.{◌≡◌, ◌≤◌, ◌-◌, length}
 use Rattle.std.specs.Prelude.{IfSome, is_some}
 use Rattle.std.specs.List.{AllZip}
+use Rattle.work_pool.specs.declared.mode.Mode.TheVariants.{Sets}
 use Rattle.work_pool.specs.Told.{IsSharedCount, IsToldOf}
 use Rattle.ste_program.proofs.judging.check_with_growing_steps.Given as goal
 
@@ -9,9 +10,9 @@ abbrev pub invariant-loop-tried : goal.invariant-loop-tried
 invariant-loop-tried g l = record {
   some : 1 ≤ l.tried;
   most : l.tried ≤ l.steps;
-  told : AllZip (IsToldOf l.checking.net.now.raw (length l.checking.tasks.now.vars) l.tried l.checking.cubes) l.checking.tasks.now.tasks l.told.reports.items;
+  told : AllZip (IsToldOf Sets l.checking.net.now.raw (length l.checking.tasks.now.vars) l.tried l.checking.cubes) l.checking.tasks.now.tasks l.told.reports.items;
   shown : is_some l.told.shared ≡ l.checking.nodes;
-  counted : IfSome l.told.shared (IsSharedCount l.checking.net.now.raw (length l.checking.tasks.now.vars) l.tried l.checking.tasks.now.tasks l.told.reports.items);
+  counted : IfSome l.told.shared (IsSharedCount Sets l.checking.net.now.raw (length l.checking.tasks.now.vars) (length l.checking.tasks.now.vars) l.tried l.checking.tasks.now.tasks l.told.reports.items);
 }
 
 abbrev pub decreases-loop-tried : goal.decreases-loop-tried

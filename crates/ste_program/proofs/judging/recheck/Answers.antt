@@ -1,6 +1,7 @@
 use Rattle.std.proofs.Common.{◌∙◌, ◌<◌, ◌≤◌, ◌*◌, ℕ, List, All, length, ap, subst, sym}
 use Rattle.std.specs.List.{AllZip}
 use Rattle.std.proofs.lemmas.Slice.Zip.{AllZip-long}
+use Rattle.work_pool.specs.declared.mode.Mode.TheVariants.{Sets}
 use Rattle.work_pool.specs.Pool.{IsToldOfNumber}
 use Rattle.work_pool.specs.Told.{IsToldOf}
 use Rattle.ste_program.specs.private.Tries.{with_replaced}
@@ -25,7 +26,7 @@ run_some-requires-clause-over g c κs within = over_all c.args.checking.now.net.
 
 pub with_replaced-requires-clause-long : goal.with_replaced-requires-clause-long
 with_replaced-requires-clause-long g c =
-    AllZip-long (IsToldOfNumber c.args.checking.now.net.now.raw (length c.args.checking.now.tasks.now.vars) c.args.steps c.args.checking.now.cubes c.args.checking.now.tasks.now.tasks) c.args.numbers.now c.in_ok-again.again.reports.items c.in_ok-again.ensures.told
+    AllZip-long (IsToldOfNumber Sets c.args.checking.now.net.now.raw (length c.args.checking.now.tasks.now.vars) c.args.steps c.args.checking.now.cubes c.args.checking.now.tasks.now.tasks) c.args.numbers.now c.in_ok-again.again.reports.items c.in_ok-again.ensures.told
 
 pub with_replaced-requires-clause-inside : goal.with_replaced-requires-clause-inside
 with_replaced-requires-clause-inside g c =
@@ -38,6 +39,6 @@ returns-clause-told g c = λ few told.
     let tasks = c.args.checking.now.tasks.now.tasks in
     let reports = c.args.told.reports.items in
     let again = c.in_ok-again.again.reports.items in
-    subst (AllZip (IsToldOf net vars c.args.steps c.args.checking.now.cubes) tasks) (sym (c.with_replaced.ensures ∙ ap (λ (numbers : List ℕ). with_replaced reports numbers again) c.requires.numbers))
+    subst (AllZip (IsToldOf Sets net vars c.args.steps c.args.checking.now.cubes) tasks) (sym (c.with_replaced.ensures ∙ ap (λ (numbers : List ℕ). with_replaced reports numbers again) c.requires.numbers))
     (rechecked_reports net vars c.args.steps c.args.checking.now.cubes tasks few reports again told
-    (subst (λ (numbers : List ℕ). AllZip (IsToldOfNumber net vars c.args.steps c.args.checking.now.cubes tasks) numbers again) c.requires.numbers c.in_ok-again.ensures.told))
+    (subst (λ (numbers : List ℕ). AllZip (IsToldOfNumber Sets net vars c.args.steps c.args.checking.now.cubes tasks) numbers again) c.requires.numbers c.in_ok-again.ensures.told))

@@ -1,4 +1,5 @@
 use Rattle.ste_program.proofs.Broken.{passes_hold, runs_break}
+use Rattle.ste_program.proofs.Literal.{report_tells}
 use Rattle.ste_program.proofs.Ends.{bounded_of, decided_of, sinks_later, out_of_memory_written}
 use Rattle.ste_program.proofs.run.run.Goals as goal
 
@@ -10,6 +11,9 @@ returns-in-Ok-clause-pass_holds g c = passes_hold _ _
 
 pub returns-in-Ok-clause-runs_break : goal.returns-in-Ok-clause-runs_break
 returns-in-Ok-clause-runs_break g c = runs_break _ _
+
+pub returns-in-Ok-clause-literals : goal.returns-in-Ok-clause-literals
+returns-in-Ok-clause-literals g c = report_tells _ _
 
 pub returns-in-Ok-clause-later : goal.returns-in-Ok-clause-later
 returns-in-Ok-clause-later g c =
@@ -27,6 +31,9 @@ returns-in-Err-clause-pass_holds g c = passes_hold _ _
 
 pub returns-in-Err-clause-runs_break : goal.returns-in-Err-clause-runs_break
 returns-in-Err-clause-runs_break g c = runs_break _ _
+
+pub returns-in-Err-clause-literals : goal.returns-in-Err-clause-literals
+returns-in-Err-clause-literals g c = report_tells _ _
 
 pub returns-in-Err-clause-no_memory : goal.returns-in-Err-clause-no_memory
 returns-in-Err-clause-no_memory g c = λ e. out_of_memory_written _ _ _ c.write_message.result c.write_message.ensures e

@@ -16,7 +16,7 @@ check-report-requires-clause-last c =
     let t : Store = grown_store new.nodes.items new.base new.limit new.vars in
     let begun : Keeps s (gets c.args.steps s) = record { grows = λ r n held. held; vars = refl; table = refl } in
     let keeps : Keeps s t = subst (Keeps s) (sym c.begin.ensures) begun in
-    last_keeps s t c.args.net.now.raw c.args.last.now c.args.net.now.in_range
+    last_keeps s t c.args.batch.now.net.now.raw c.args.last.now c.args.batch.now.net.now.in_range
     (growing_diagram old.vars old.nodes.items old.slots.items old.ordered old.indexed) (growing_diagram new.vars new.nodes.items new.slots.items new.ordered new.indexed)
     keeps c.requires.last
 
@@ -24,7 +24,7 @@ pub returns-clause-last : goal.returns-clause-last
 returns-clause-last c =
     let new = c.check-report.new.nodes in
     let t : Store = grown_store new.nodes.items new.base new.limit new.vars in
-    let net = c.args.net.now.raw in
+    let net = c.args.batch.now.net.now.raw in
     c.frame_to_carry.ensures t net (growing_diagram new.vars new.nodes.items new.slots.items new.ordered new.indexed)
     (subst (λ (o : Option Frame). IfSome o (IsFrame t net)) (sym c.take.ensures.value) c.check-report.ensures.last)
 

@@ -14,7 +14,7 @@ loop-job-init g c =
       tables = subst (All (λ j. (g.N.Nodes.store j.nodes).table ≡ start.table)) (sym same) c.requires.table;
       vars = refl;
       table = refl;
-      gathering = λ net steps cubes tasks zip. begins (λ j. g.N.Nodes.store j.nodes) (λ j. j.outcome) net steps cubes start tasks c.args.jobs.items _ _ c.requires.made c.requires.limit c.new-reports.ensures.items same zip;
+      gathering = λ mode net vars steps cubes tasks zip. begins (λ j. g.N.Nodes.store j.nodes) (λ j. j.outcome) mode net vars steps cubes start tasks c.args.jobs.items _ _ c.requires.made c.requires.limit c.new-reports.ensures.items same zip;
     }
 
 pub merge-requires : goal.merge-requires
@@ -35,13 +35,13 @@ loop-job-preserved g c =
       tables = λ k d l. tables (suc k) d (omega (arith, l));
       vars = c.merge.ensures.vars ∙ i.vars;
       table = c.merge.ensures.table ∙ i.table;
-      gathering = λ net steps cubes tasks zip.
-          goes_on (λ j. g.N.Nodes.store j.nodes) (λ j. j.outcome) net steps cubes start (g.N.Nodes.store c.loop-job.nodes) (g.N.Nodes.store c.merge.new.self) tasks c.loop-job.reports.items c.push.new.self.items
+      gathering = λ mode net vars steps cubes tasks zip.
+          goes_on (λ j. g.N.Nodes.store j.nodes) (λ j. j.outcome) mode net vars steps cubes start (g.N.Nodes.store c.loop-job.nodes) (g.N.Nodes.store c.merge.new.self) tasks c.loop-job.reports.items c.push.new.self.items
           c.in-Some.job (into_iter_items c.next.new.self) _ c.in_ok-outcome.field-0
           (g.met.N.Nodes.diagram c.loop-job.nodes) (g.met.N.Nodes.diagram c.in-Some.job.nodes) (g.met.N.Nodes.diagram c.merge.new.self) c.in_ok-outcome.was c.merge.ensures c.in-Some.ensures.steps.0
-          c.in_ok-push.ensures.items (i.gathering net steps cubes tasks zip);
+          c.in_ok-push.ensures.items (i.gathering mode net vars steps cubes tasks zip);
     }
 
 pub returns-clause-pooled : goal.returns-clause-pooled
-returns-clause-pooled g c = λ net steps cubes tasks zip.
-    ends (λ j. g.N.Nodes.store j.nodes) (λ j. j.outcome) net steps cubes (g.N.Nodes.store c.args.nodes) (g.N.Nodes.store c.loop-job.nodes) tasks c.loop-job.reports.items _ (sym c.loop-job.invariant.long ∙ c.in-None.ensures.steps.0) (c.loop-job.invariant.gathering net steps cubes tasks zip)
+returns-clause-pooled g c = λ mode net vars steps cubes tasks zip.
+    ends (λ j. g.N.Nodes.store j.nodes) (λ j. j.outcome) mode net vars steps cubes (g.N.Nodes.store c.args.nodes) (g.N.Nodes.store c.loop-job.nodes) tasks c.loop-job.reports.items _ (sym c.loop-job.invariant.long ∙ c.in-None.ensures.steps.0) (c.loop-job.invariant.gathering mode net vars steps cubes tasks zip)

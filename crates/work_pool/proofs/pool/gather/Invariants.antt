@@ -3,6 +3,7 @@ use Rattle.std.specs.List.{AllZip}
 use Rattle.std.specs.Vec.Iter.{into_iter_items, into_iter_len}
 use Rattle.net_core.specs.declared.raw.RawNet.{RawNet}
 use Rattle.ste_model.specs.declared.task.Task.{Task}
+use Rattle.work_pool.specs.declared.mode.Mode.{Mode}
 use Rattle.work_pool.specs.private.Jobs.{IsDone, IsGathering}
 use Rattle.work_pool.proofs.pool.gather.Given as goal
 
@@ -14,7 +15,7 @@ invariant-loop-job g l = record {
   tables : All (λ j. (g.N.Nodes.store j.nodes).table ≡ (g.N.Nodes.store l.fn.nodes).table) (into_iter_items l.job-iterator);
   vars : (g.N.Nodes.store l.nodes).vars ≡ (g.N.Nodes.store l.fn.nodes).vars;
   table : (g.N.Nodes.store l.nodes).table ≡ (g.N.Nodes.store l.fn.nodes).table;
-  gathering : (net : RawNet) (steps cubes : ℕ) (tasks : List Task) →
-      AllZip (λ task job. IsDone net steps cubes task (g.N.Nodes.store l.fn.nodes) (g.N.Nodes.store job.nodes) job.outcome) tasks l.fn.jobs.items →
-      IsGathering _ (λ task job. IsDone net steps cubes task (g.N.Nodes.store l.fn.nodes) (g.N.Nodes.store job.nodes) job.outcome) net steps cubes (g.N.Nodes.store l.fn.nodes) (g.N.Nodes.store l.nodes) tasks l.reports.items (into_iter_items l.job-iterator);
+  gathering : (mode : Mode) (net : RawNet) (vars steps cubes : ℕ) (tasks : List Task) →
+      AllZip (λ task job. IsDone mode net vars steps cubes task (g.N.Nodes.store l.fn.nodes) (g.N.Nodes.store job.nodes) job.outcome) tasks l.fn.jobs.items →
+      IsGathering _ (λ task job. IsDone mode net vars steps cubes task (g.N.Nodes.store l.fn.nodes) (g.N.Nodes.store job.nodes) job.outcome) mode net vars steps cubes (g.N.Nodes.store l.fn.nodes) (g.N.Nodes.store l.nodes) tasks l.reports.items (into_iter_items l.job-iterator);
 }

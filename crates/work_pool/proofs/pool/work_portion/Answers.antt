@@ -18,15 +18,15 @@ loop-i-preserved g c =
     let lt = c.loop-i-test.true in
     let at = c.index-jobs-i.is in
     record {
-      long = long_next (λ j. g.N.Nodes.store j.nodes) (λ j. j.place) (λ j. j.outcome) c.args.net.now.raw c.args.cubes c.args.tasks.now c.args.numbers.now first jobs next i r new was.long lt at was.same was.done was.rest one.place one.done c.carry_to_next.ensures.hands;
-      same = same_next (λ j. g.N.Nodes.store j.nodes) (λ j. j.place) (λ j. j.outcome) c.args.net.now.raw c.args.cubes c.args.tasks.now c.args.numbers.now first jobs next i r new was.long lt at was.same was.done was.rest one.place one.done c.carry_to_next.ensures.hands;
-      done = done_next (λ j. g.N.Nodes.store j.nodes) (λ j. j.place) (λ j. j.outcome) c.args.net.now.raw c.args.cubes c.args.tasks.now c.args.numbers.now first jobs next i r new was.long lt at was.same was.done was.rest one.place one.done c.carry_to_next.ensures.hands;
+      long = long_next (λ j. g.N.Nodes.store j.nodes) (λ j. j.place) (λ j. j.outcome) c.args.batch.now.mode c.args.batch.now.net.now.raw c.args.batch.now.vars c.args.batch.now.cubes c.args.batch.now.tasks.now c.args.numbers.now first jobs next i r new was.long lt at was.same was.done was.rest one.place one.done c.carry_to_next.ensures.hands;
+      same = same_next (λ j. g.N.Nodes.store j.nodes) (λ j. j.place) (λ j. j.outcome) c.args.batch.now.mode c.args.batch.now.net.now.raw c.args.batch.now.vars c.args.batch.now.cubes c.args.batch.now.tasks.now c.args.numbers.now first jobs next i r new was.long lt at was.same was.done was.rest one.place one.done c.carry_to_next.ensures.hands;
+      done = done_next (λ j. g.N.Nodes.store j.nodes) (λ j. j.place) (λ j. j.outcome) c.args.batch.now.mode c.args.batch.now.net.now.raw c.args.batch.now.vars c.args.batch.now.cubes c.args.batch.now.tasks.now c.args.numbers.now first jobs next i r new was.long lt at was.same was.done was.rest one.place one.done c.carry_to_next.ensures.hands;
       frame = λ j more.
           let long = was.long in
           let e = length-set jobs i new in
-          c.carry_to_next.ensures.last c.args.net.now.raw j c.args.net.now.in_range (omega (arith, more, long, e))
-          (subst (λ (job : _). IfSome c.work_at.new.last (IsFrame (g.N.Nodes.store job.nodes) c.args.net.now.raw)) (sym (get_or-set_same jobs i new j (omega (arith, lt, long)))) one.last);
-      rest = rest_next (λ j. g.N.Nodes.store j.nodes) (λ j. j.place) (λ j. j.outcome) c.args.net.now.raw c.args.cubes c.args.tasks.now c.args.numbers.now first jobs next i r new was.long lt at was.same was.done was.rest one.place one.done c.carry_to_next.ensures.hands;
+          c.carry_to_next.ensures.last c.args.batch.now.net.now.raw j c.args.batch.now.net.now.in_range (omega (arith, more, long, e))
+          (subst (λ (job : _). IfSome c.work_at.new.last (IsFrame (g.N.Nodes.store job.nodes) c.args.batch.now.net.now.raw)) (sym (get_or-set_same jobs i new j (omega (arith, lt, long)))) one.last);
+      rest = rest_next (λ j. g.N.Nodes.store j.nodes) (λ j. j.place) (λ j. j.outcome) c.args.batch.now.mode c.args.batch.now.net.now.raw c.args.batch.now.vars c.args.batch.now.cubes c.args.batch.now.tasks.now c.args.numbers.now first jobs next i r new was.long lt at was.same was.done was.rest one.place one.done c.carry_to_next.ensures.hands;
     }
 
 pub carry_to_next-requires-clause-table : goal.carry_to_next-requires-clause-table

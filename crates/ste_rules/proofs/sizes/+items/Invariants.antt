@@ -1,0 +1,9 @@
+use Rattle.std.proofs.Common.{◌≡◌, ◌-◌, drop, map}
+use Rattle.bool_expr.specs.Tree.{tree_of, all_of}
+use Rattle.ste_rules.specs.Sizes.{list_items, signed_items}
+use Rattle.ste_rules.proofs.sizes.+items.Given as goal
+
+-- the parts that are left decide
+abbrev pub invariant-parts_left-loop-part : goal.invariant-parts_left-loop-part
+invariant-parts_left-loop-part l =
+    l.left - signed_items (all_of (map tree_of (drop l.part-index l.rest))) ≡ l.fn.left - list_items (all_of (map tree_of l.fn.parts))

@@ -1,0 +1,3 @@
+-- Definitions that serve private functions.
+pub mod Held
+pub mod Turns
